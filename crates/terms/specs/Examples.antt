@@ -1,0 +1,215 @@
+-- The examples of document 01, *Twelve examples for the proofs*, that the rules alone settle: 1 to 10, and 11 up to the 257th component.
+-- Each is settled by computation. Some others follow that show a trap.
+use Prim.Native.Nat.{ℕ, zero, suc}
+use mathlib.Core.List.{List, [], _∷_}
+use mathlib.Core.Bool.{Bool, true, false}
+use mathlib.Core.Path.{_≡_, refl}
+use lib.ListN.{length, replicate}
+use Rattle.terms.specs.Names.{Name, bytes}
+use Rattle.terms.specs.Terms.{Timer, Value, Part, Process, Mark, Component, Def, Label, Network}
+use Rattle.terms.specs.Terms.Timer.{ticks, inf}
+use Rattle.terms.specs.Terms.Value.{loc, var}
+use Rattle.terms.specs.Terms.Part.{stop, go, out, inp, call}
+use Rattle.terms.specs.Terms.Process.{one, _∥_}
+use Rattle.terms.specs.Terms.Mark.{none, by}
+use Rattle.terms.specs.Terms.Component.{comp}
+use Rattle.terms.specs.Terms.Def.{define}
+use Rattle.terms.specs.Terms.Label.{called, moved, sent}
+use Rattle.terms.specs.Rules.{Answer, Kind, Action, act, tick, ok, _>>=_}
+use Rattle.terms.specs.Rules.Answer.{refused, accepted}
+use Rattle.terms.specs.Rules.Kind.{calls, moves}
+use Rattle.terms.specs.Rules.Action.{single, pair}
+use Rattle.terms.specs.Step.{step}
+use Rattle.terms.specs.Same.{same}
+use Rattle.terms.specs.Runs.{Call, Fed, groupedRun, straightRun, rules}
+use Rattle.terms.specs.Runs.Call.{acting, ticking}
+use Rattle.terms.specs.Runs.Fed.{fed}
+
+-- ── names and short forms ──
+abbrev A : Name
+A = bytes "A"
+
+abbrev B : Name
+B = bytes "B"
+
+abbrev c : Name
+c = bytes "c"
+
+abbrev x : Name
+x = bytes "x"
+
+abbrev halt : Process
+halt = one stop
+
+-- the unmarked component `l[a]`
+infix 10 _$_
+abbrev _$_ : Name → Part → Component
+l $ a = comp l none (one a)
+
+-- an accepted action, an accepted tick
+abbrev acts : Action → Fed
+acts a = fed (acting a) true
+
+abbrev ticked : Name → Fed
+ticked l = fed (ticking l) true
+
+-- ── 1 and 2: a pair at timer 0 stops the tick, and can meet ──
+abbrev net1 : List Component
+net1 = (A $ out c (ticks 0) (loc B) halt halt) ∷ (A $ inp c (ticks 0) x (one (go (ticks 3) (var x) halt)) halt) ∷ []
+
+example1 : tick [] A net1 ≡ refused 12
+unfolding rules
+example1 = refl
+
+example2 : straightRun [] (acts (pair 0 1) ∷ ticked A ∷ []) net1 ≡ accepted ((A $ stop) ∷ (A $ go (ticks 3) (loc B) halt) ∷ [])
+unfolding rules
+example2 = refl
+
+-- ── 3 to 6: timers ──
+example3 : tick [] A ((A $ out c (ticks 0) (loc B) halt (one (go (ticks 1) (loc B) halt))) ∷ []) ≡ accepted ((A $ go (ticks 1) (loc B) halt) ∷ [])
+unfolding rules
+example3 = refl
+
+example4 : tick [] A ((A $ out c (ticks 1) (loc B) halt halt) ∷ []) ≡ accepted ((A $ out c (ticks 0) (loc B) halt halt) ∷ [])
+unfolding rules
+example4 = refl
+
+example5 : tick [] A ((A $ go (ticks 1) (loc B) halt) ∷ []) ≡ accepted ((A $ go (ticks 0) (loc B) halt) ∷ [])
+unfolding rules
+example5 = refl
+
+example5-again : straightRun [] (ticked A ∷ ticked A ∷ []) ((A $ go (ticks 1) (loc B) halt) ∷ []) ≡ refused 12
+unfolding rules
+example5-again = refl
+
+example6 : tick [] A ((A $ go inf (loc B) halt) ∷ []) ≡ accepted ((A $ go inf (loc B) halt) ∷ [])
+unfolding rules
+example6 = refl
+
+-- ── 7 and 8: a mark across two clocks ──
+abbrev sender : Part
+sender = out c (ticks 1) (loc B) halt halt
+
+abbrev net7 : List Component
+net7 = (A $ go (ticks 0) (loc B) (one sender)) ∷ (B $ inp c (ticks 1) x halt halt) ∷ []
+
+abbrev moved7 : List Component
+moved7 = comp B (by A) (one sender) ∷ (B $ inp c (ticks 0) x halt halt) ∷ []
+
+example7 : straightRun [] (acts (single moves 0) ∷ ticked B ∷ []) net7 ≡ accepted moved7
+unfolding rules
+example7 = refl
+
+abbrev M : List Component
+M = (B $ sender) ∷ (B $ inp c (ticks 0) x halt halt) ∷ []
+
+example8-marked : act [] (pair 0 1) moved7 ≡ refused 9
+unfolding rules
+example8-marked = refl
+
+example8-tick : tick [] A moved7 ≡ accepted M
+unfolding rules
+example8-tick = refl
+
+example8-meets : ok (act [] (pair 0 1) M) ≡ true
+unfolding rules
+example8-meets = refl
+
+abbrev twoSteps : Name → Name → List Component → Answer (List Component)
+twoSteps k l net = step [] k net >>= λ r. step [] l (r .comps) >>= λ s. accepted (s .comps)
+
+example8-B-A : twoSteps B A net7 ≡ accepted M
+unfolding rules
+example8-B-A = refl
+
+-- the step at A first: the output arrives in time and is handed over
+example8-A-B : twoSteps A B net7 ≡ accepted ((B $ stop) ∷ (B $ stop) ∷ [])
+unfolding rules
+example8-A-B = refl
+
+-- ── 9: a value goes into the inner Q and not into the inner P ──
+abbrev inner : Value → Part
+inner v = inp c (ticks 0) x (one (go (ticks 0) (var x) halt)) (one (go (ticks 0) v halt))
+
+example9 : act [] (pair 0 1) ((A $ out c (ticks 0) (loc B) halt halt) ∷ (A $ inp c (ticks 0) x (one (inner (var x))) halt) ∷ [])
+    ≡ accepted (record { label = sent c B A; comps = comp A (by A) halt ∷ comp A (by A) (one (inner (loc B))) ∷ [] })
+unfolding rules
+example9 = refl
+
+-- ── 10: the step takes the lowest output ──
+example10 : step [] A ((A $ out c (ticks 1) (loc B) halt halt) ∷ (A $ out c (ticks 1) (loc A) halt halt) ∷ (A $ inp c (ticks 1) x (one (go (ticks 0) (var x) halt)) halt) ∷ [])
+    ≡ accepted (record { actions = pair 0 2 ∷ []; labels = sent c B A ∷ []; comps = (A $ stop) ∷ (A $ out c (ticks 0) (loc A) halt halt) ∷ (A $ go (ticks 0) (loc B) halt) ∷ [] })
+unfolding rules
+example10 = refl
+
+-- ── 11: by the rules the tick gives 257 components; question 13 is the table's ──
+example11 : (tick [] A (comp A (by A) (stop ∥ halt) ∷ replicate 255 (A $ stop)) >>= λ n. accepted (length n)) ≡ accepted 257
+unfolding rules
+example11 = refl
+
+-- ── others ──
+-- the grouped run of example 7, closed by the tick at A: two whole steps, at B with no action and at A with the move
+example7-grouped : groupedRun [] (acts (single moves 0) ∷ ticked B ∷ ticked A ∷ []) net7 ≡ accepted (record { straight = M; grouped = M })
+unfolding rules
+example7-grouped = refl
+
+-- a Q of two parts is split in the tick that gives it, with its timers as written
+splitQ : tick [] A ((A $ out c (ticks 0) (loc B) halt (go (ticks 0) (loc B) halt ∥ halt)) ∷ []) ≡ accepted ((A $ go (ticks 0) (loc B) halt) ∷ (A $ stop) ∷ [])
+unfolding rules
+splitQ = refl
+
+-- what another location has marked is not ticked, split or unmarked, even where it stands
+others-mark : tick [] A (comp A (by B) (sender ∥ halt) ∷ []) ≡ accepted (comp A (by B) (sender ∥ halt) ∷ [])
+unfolding rules
+others-mark = refl
+
+-- arguments are put in all at once: D(y,x) within D(x,y) exchanges
+abbrev y : Name
+y = bytes "y"
+
+abbrev D : Name
+D = bytes "D"
+
+exchange : act (define D (x ∷ y ∷ []) (one (call D (var y ∷ var x ∷ []))) ∷ []) (single calls 0) ((A $ call D (loc A ∷ loc B ∷ [])) ∷ [])
+    ≡ accepted (record { label = called D A; comps = comp A (by A) (one (call D (loc B ∷ loc A ∷ []))) ∷ [] })
+unfolding rules
+exchange = refl
+
+-- ── the printout of document 01's program, as four rounds of steps ──
+abbrev Page : Name
+Page = bytes "Page"
+
+abbrev defs : List Def
+defs = define Page (x ∷ []) (one (go (ticks 0) (var x) (one (out c (ticks 1) (var x) halt halt)))) ∷ []
+
+abbrev net0 : List Component
+net0 = (A $ call Page (loc B ∷ [])) ∷ (B $ inp c (ticks 2) y (one (go (ticks 0) (var y) halt)) halt) ∷ []
+
+-- the labels of each step, and the last components
+pub record Printout : Type 0 where
+  pub lines : List (List Label)
+  pub last : List Component
+
+abbrev also : List Label → Answer Printout → Answer Printout
+also ls r = r >>= λ p. accepted (record { lines = ls ∷ p .lines; last = p .last })
+
+unfoldable rounds : ℕ → List Component → Answer Printout
+rounds zero net = accepted (record { lines = []; last = net })
+rounds (suc n) net = step defs A net >>= λ a. step defs B (a .comps) >>= λ b. also (a .labels) (also (b .labels) (rounds n (b .comps)))
+
+printout : rounds 4 net0
+    ≡ accepted (record {
+      lines = (called Page A ∷ []) ∷ [] ∷ (moved B A ∷ []) ∷ (sent c B B ∷ []) ∷ [] ∷ (moved B B ∷ []) ∷ [] ∷ [] ∷ [];
+      last = (B $ stop) ∷ (B $ stop) ∷ [];
+    })
+unfolding rules rounds
+printout = refl
+
+-- order aside, and definitions as a set
+same-order : same (record { defs = []; comps = (A $ stop) ∷ (B $ stop) ∷ [] }) (record { defs = []; comps = (B $ stop) ∷ (A $ stop) ∷ [] }) ≡ true
+unfolding rules
+same-order = refl
+
+same-often : same (record { defs = []; comps = (A $ stop) ∷ (B $ stop) ∷ [] }) (record { defs = []; comps = (A $ stop) ∷ (A $ stop) ∷ (B $ stop) ∷ [] }) ≡ false
+unfolding rules
+same-often = refl

@@ -1,0 +1,9 @@
+pub mod Names
+pub mod Terms
+pub mod Substitution
+pub mod Rules
+pub mod Step
+pub mod Runs
+pub mod Same
+pub mod Clock
+pub mod Examples

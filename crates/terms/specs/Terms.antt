@@ -1,0 +1,83 @@
+-- Terms and networks: document 01, *The term and the network*. Names are letters.
+use Prim.Native.Nat.{ℕ, _-_}
+use mathlib.Core.List.{List}
+use mathlib.Core.Bool.{Bool, true, false}
+use lib.Dec.{eqb}
+use Rattle.terms.specs.Names.{Name}
+
+-- A timer is a number of ticks or inf. Nothing looks into a timer but the three functions below.
+pub data Timer : Type 0 where
+  ticks : ℕ → Timer
+  inf : Timer
+  deriving Discrete as Timer-discrete
+
+-- the timer after a tick: inf less one is inf
+unfoldable pub less : Timer → Timer
+less (ticks n) = ticks (n - 1)
+less inf = inf
+
+-- a ready `in` or `out` with this timer takes its Q at a tick
+unfoldable pub expired : Timer → Bool
+expired (ticks n) = eqb n 0
+expired inf = false
+
+-- a ready `go` with this timer must move before a tick
+unfoldable pub due : Timer → Bool
+due (ticks n) = eqb n 0
+due inf = false
+
+-- what stands in a value's place: a location or a variable
+pub data Value : Type 0 where
+  loc : Name → Value
+  var : Name → Value
+  deriving Discrete as Value-discrete
+
+-- A process is one or more parts. `inp` binds its name in its first process and not in its second.
+infixr 5 _∥_
+mutual
+  pub data Part : Type 0 where
+    stop : Part
+    go : Timer → Value → Process → Part
+    out : Name → Timer → Value → Process → Process → Part
+    inp : Name → Timer → Name → Process → Process → Part
+    call : Name → List Value → Part
+    deriving Discrete as Part-discrete
+
+  pub data Process : Type 0 where
+    one : Part → Process
+    _∥_ : Part → Process → Process
+    deriving Discrete as Process-discrete
+
+-- a mark is absent or names its owner
+pub data Mark : Type 0 where
+  none : Mark
+  by : Name → Mark
+  deriving Discrete as Mark-discrete
+
+-- a location, a mark, and parts: one, or several while marked
+pub data Component : Type 0 where
+  comp : Name → Mark → Process → Component
+  deriving Discrete as Component-discrete
+
+-- a definition: its identifier, its parameters, its body
+pub data Def : Type 0 where
+  define : Name → List Name → Process → Def
+  deriving Discrete as Def-discrete
+
+-- a list of components with the definitions; positions count from 0
+pub record Network : Type 0 where
+  pub defs : List Def
+  pub comps : List Component
+
+-- `id@l`, `v@l`, `c<v>@l`
+pub data Label : Type 0 where
+  called : Name → Name → Label
+  moved : Name → Name → Label
+  sent : Name → Name → Name → Label
+  deriving Discrete as Label-discrete
+
+-- where an action with this label fires
+unfoldable pub firesAt : Label → Name
+firesAt (called i l) = l
+firesAt (moved v l) = l
+firesAt (sent c v l) = l
