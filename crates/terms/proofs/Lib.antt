@@ -6,3 +6,4 @@ pub mod Forced
 pub mod Steps
 pub mod Same
 pub mod Clock
+pub mod Substitution

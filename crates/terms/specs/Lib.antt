@@ -5,5 +5,6 @@ pub mod Rules
 pub mod Step
 pub mod Runs
 pub mod Same
+pub mod Letters
 pub mod Clock
 pub mod Examples

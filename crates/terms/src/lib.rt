@@ -8,6 +8,7 @@
 //   specs/Same          equal components, same networks
 //   specs/Runs          the straight run, the notes, the grouped run
 //   specs/Examples      the examples of document 01 that the rules settle
+//   specs/Letters       the form of a name of each sort
 //   specs/Clock         what the code's timer stands for
 ghost use mathlib.Core.Path.{_≡_};
 ghost use Rattle.terms.specs.Terms.{less, expired, due};

@@ -1,0 +1,203 @@
+-- When a tick is allowed on the table, and what it leaves, stand for what the rules say of what the components stand for.
+-- Idea: the forced test looks at each component where it stands (Forced of the crate below), and a head that presses is a part that presses.
+use Prim.Native.Nat.{ℕ, zero, suc, _-_, _<_}
+use native.Mathlib.Omega.{arith}
+use mathlib.Core.List.{List, [], _∷_, _++_, map, flatMap}
+use mathlib.Core.Bool.{Bool, true, false, cond, _&&_, _||_, not, false≢true}
+use mathlib.Core.Path.{_≡_, refl, ap, sym, _∙_}
+use lib.Dec.{eqb, leb, ltb}
+use lib.ListN.{length, set, length-map}
+use borrow.Author.Tests.{ltb-true, eqb-true, eq-eqb}
+use Rattle.terms.specs.Names.{Name, sameName}
+use Rattle.terms.specs.Terms.{Timer, Value, Part, Process, Mark, Component, Def, due}
+use Rattle.terms.specs.Terms.Part.{stop, go, out, inp, call}
+use Rattle.terms.specs.Terms.Process.{one, _∥_}
+use Rattle.terms.specs.Terms.Mark.{none, by}
+use Rattle.terms.specs.Terms.Component.{comp}
+use Rattle.terms.specs.Same.{every}
+use Rattle.terms.specs.Substitution.{Env, sub}
+use Rattle.terms.specs.Rules.{Answer, Kind, Firing, Fired, _>>=_, ok, some, fire, ready, dueGo, urgent, forced, pass, tickWith, tick}
+use Rattle.terms.specs.Rules.Answer.{refused, accepted}
+use Rattle.terms.specs.Rules.Kind.{calls, moves}
+use Rattle.terms.specs.Rules.Firing.{alone, together}
+use Rattle.terms.specs.Clock.{ticksOf}
+use Rattle.terms.proofs.Names.{and-inv}
+use Rattle.terms.proofs.Clock.{due-is}
+use Rattle.terms.proofs.Forced.{presses, forced-is}
+use Rattle.table.specs.declared.Head.{Head}
+use Rattle.table.specs.declared.Head.the-variants.{Stop, Go, Out, In, Call}
+use Rattle.table.specs.declared.Comp.{Comp}
+use Rattle.table.specs.Words.{locsIn, locName, headAt, boundAt, namesAt}
+use Rattle.table.specs.Meaning.{partOf, processAt, partAt, defsOf, withTimer, envAt, means}
+use Rattle.table.specs.Valid.{scriptOk, compOk}
+use Rattle.table.specs.Split.{passed}
+use Rattle.table.specs.Fire.{Left, becomesAt, handed, meetAt, aloneAt, togetherAt, readyAt, hears, pressesAt, forcedAt, passedAll, valueIn}
+use Rattle.table.proofs.Tests.{CompFine, comp-fine}
+use Rattle.table.proofs.Splits.{unmarked-is, marked-is, loc-eqb, passed-means}
+use Rattle.table.proofs.Fires.{mapA, firedOf, alone-means, together-means, map-append}
+
+-- ── lists ──
+map-flatMap : {A B : Type 0} (f : A → B) (g : A → List A) (h : B → List B) (ok : A → Bool) (xs : List A) → every ok xs ≡ true → ((x : A) → ok x ≡ true → map f (g x) ≡ h (f x)) → map f (flatMap g xs) ≡ flatMap h (map f xs)
+unfolding flatMap every
+map-flatMap f g h ok [] e k = refl
+map-flatMap f g h ok (x ∷ xs) e k =
+    let a = and-inv (ok x) (every ok xs) e in
+    rw (map-append f (g x) (flatMap g xs), k x (a .0), map-flatMap f g h ok xs (a .1) k)
+
+some-map : {A B : Type 0} (f : B → Bool) (g : A → B) (xs : List A) → some f (map g xs) ≡ some (λ x. f (g x)) xs
+unfolding some
+some-map f g [] = refl
+some-map f g (x ∷ xs) = rw (some-map f g xs)
+
+some-same : {A : Type 0} (f g ok : A → Bool) (xs : List A) → every ok xs ≡ true → ((x : A) → ok x ≡ true → f x ≡ g x) → some f xs ≡ some g xs
+unfolding some every
+some-same f g ok [] e k = refl
+some-same f g ok (x ∷ xs) e k = let a = and-inv (ok x) (every ok xs) e in rw (k x (a .0), some-same f g ok xs (a .1) k)
+
+some-none : {A : Type 0} (f : A → Bool) (xs : List A) → some (λ x. f x && false) xs ≡ false
+unfolding some
+some-none f [] = refl
+some-none f (x ∷ xs) = go (f x) (some-none f xs)
+  where
+    go : (b : Bool) → some (λ x. f x && false) xs ≡ false → ((b && false) || some (λ x. f x && false) xs) ≡ false
+    go true h = h
+    go false h = h
+
+ok-mapA : {A B : Type 0} (f : A → B) (x : Answer A) → ok (mapA f x) ≡ ok x
+ok-mapA f (refused n) = refl
+ok-mapA f (accepted a) = refl
+
+-- ── heads that press ──
+-- an output and an input on its channel
+meets : Head → Head → Bool
+meets Stop h = false
+meets (Go t v p) h = false
+meets (Out d t v p q) h = hears d h
+meets (In d t k p q) h = false
+meets (Call d n a₀ a₁ a₂ a₃) h = false
+
+meets-if : (c e : Comp) (g h : Head) → eqb (c .loc) (e .loc) ≡ true → ok (meetAt c e g h) ≡ meets g h
+unfolding meets hears meetAt
+meets-if c e Stop h q = refl
+meets-if c e (Go t v p) h q = refl
+meets-if c e (In d t k p r) h q = refl
+meets-if c e (Call d n a₀ a₁ a₂ a₃) h q = refl
+meets-if c e (Out d t v p r) Stop q = refl
+meets-if c e (Out d t v p r) (Go t₂ v₂ p₂) q = refl
+meets-if c e (Out d t v p r) (Out d₂ t₂ v₂ p₂ q₂) q = refl
+meets-if c e (Out d t v p r) (Call d₂ n a₀ a₁ a₂ a₃) q = refl
+meets-if c e (Out d t v p r) (In d₂ t₂ k p₂ q₂) q = rw q (go (eqb d d₂))
+  where
+    go : (b : Bool) → ok {A = Left} (cond (b && true) (accepted (handed c e d (valueIn (c .vals) v) p k p₂)) (refused 11)) ≡ b
+    go true = refl
+    go false = refl
+
+isDue : ℕ → Head → Bool
+isDue t Stop = false
+isDue t (Go u v p) = eqb t 0
+isDue t (Out d u v p q) = false
+isDue t (In d u k p q) = false
+isDue t (Call d n a₀ a₁ a₂ a₃) = false
+
+due-means : (w : List ℕ) (l : Name) (m : Mark) (t : ℕ) (f : ℕ → Process) (ys : List Name) (y : Name) (h : Head) (e : Env) → dueGo (comp l m (one (withTimer (ticksOf t) (sub (partOf w f ys y h) e)))) ≡ isDue t h
+unfolding dueGo isDue withTimer sub partOf
+due-means w l m t f ys y Stop e = refl
+due-means w l m t f ys y (Go u v p) e = due-is t
+due-means w l m t f ys y (Out d u v p q) e = refl
+due-means w l m t f ys y (In d u k p q) e = refl
+due-means w l m t f ys y (Call d n a₀ a₁ a₂ a₃) e = refl
+
+presses-by : (w : List ℕ) (l : ℕ) (cs : List Comp) (c : Comp) (h : Head)
+    → ((ok (becomesAt w calls c h) || (isDue (c .timer) h && ok (becomesAt w moves c h))) || some (λ e. readyAt l e && meets h (headAt w (e .place))) cs) ≡ pressesAt w l cs (c .timer) h
+unfolding isDue meets becomesAt pressesAt
+presses-by w l cs c Stop = some-none (readyAt l) cs
+presses-by w l cs c (Go u v p) = rw (some-none (readyAt l) cs) (go (eqb (c .timer) 0))
+  where
+    go : (b : Bool) → ((b && true) || false) ≡ b
+    go true = refl
+    go false = refl
+presses-by w l cs c (Out d u v p q) = refl
+presses-by w l cs c (In d u k p q) = some-none (readyAt l) cs
+presses-by w l cs c (Call d n a₀ a₁ a₂ a₃) = refl
+
+module _ (w : List ℕ) (good : scriptOk w ≡ true) where
+  pub ready-means : (l : ℕ) (c : Comp) → l < locsIn w → CompFine w c → ready (locName w l) (means w c) ≡ readyAt l c
+  unfolding readyAt
+  ready-means l c h f = go (ltb (c .mark) 64) refl
+    where
+      go : (b : Bool) → ltb (c .mark) 64 ≡ b → ready (locName w l) (means w c) ≡ (not b && eqb (c .loc) l)
+      go true e = unfold ready in rw (marked-is w c e)
+      go false e = unfold ready in rw (unmarked-is w c e) (loc-eqb w good (c .loc) l (f .loc) h)
+
+  alone-ok : (k : Kind) (c : Comp) → CompFine w c → ok (fire (defsOf w) (alone k (means w c))) ≡ ok (aloneAt w k c)
+  alone-ok k c f = sym (ap ok (alone-means w good k c f)) ∙ ok-mapA (firedOf w) (aloneAt w k c)
+
+  pub together-ok : (c e : Comp) → CompFine w c → CompFine w e → ok (fire (defsOf w) (together (means w c) (means w e))) ≡ ok (togetherAt w c e)
+  together-ok c e f g = sym (ap ok (together-means w good c e f g)) ∙ ok-mapA (firedOf w) (togetherAt w c e)
+
+  -- a component ready at l: its mark and its location
+  record Ready (l : ℕ) (c : Comp) : Type 0 where
+    free : ltb (c .mark) 64 ≡ false
+    here : c .loc ≡ l
+
+  is-ready : (l : ℕ) (c : Comp) → readyAt l c ≡ true → Ready l c
+  unfolding readyAt
+  is-ready l c e = go (ltb (c .mark) 64) refl e
+    where
+      go : (b : Bool) → ltb (c .mark) 64 ≡ b → (not b && eqb (c .loc) l) ≡ true → Ready l c
+      go true q e = absurd (false≢true e)
+      go false q e = record { free = q; here = eqb-true (c .loc) l e }
+
+  -- the partner e of a component c that is ready at l
+  partner-means : (l : ℕ) (c e : Comp) → l < locsIn w → CompFine w c → CompFine w e → Ready l c
+      → (ready (locName w l) (means w e) && ok (fire (defsOf w) (together (means w c) (means w e)))) ≡ (readyAt l e && meets (headAt w (c .place)) (headAt w (e .place)))
+  partner-means l c e h f g r = rw (ready-means l e h g, together-ok c e f g) (go (readyAt l e) refl)
+    where
+      go : (b : Bool) → readyAt l e ≡ b → (b && ok (togetherAt w c e)) ≡ (b && meets (headAt w (c .place)) (headAt w (e .place)))
+      go false q = refl
+      go true q =
+          let s = is-ready l e q in
+          unfold togetherAt in rw (r .free, s .free) (meets-if c e (headAt w (c .place)) (headAt w (e .place)) (eq-eqb (c .loc) (e .loc) (r .here ∙ sym (s .here))))
+
+  due-here : (c : Comp) → ltb (c .mark) 64 ≡ false → dueGo (means w c) ≡ isDue (c .timer) (headAt w (c .place))
+  unfolding partAt
+  due-here c e =
+      ap dueGo (unmarked-is w c e)
+      ∙ due-means w (locName w (c .loc)) none (c .timer) (processAt w) (namesAt w (c .place)) (boundAt w (c .place)) (headAt w (c .place)) (envAt w (c .place) (c .vals))
+
+  urgent-here : (c : Comp) → CompFine w c → ltb (c .mark) 64 ≡ false
+      → urgent (defsOf w) (means w c) ≡ (ok (becomesAt w calls c (headAt w (c .place))) || (isDue (c .timer) (headAt w (c .place)) && ok (becomesAt w moves c (headAt w (c .place)))))
+  unfolding urgent aloneAt
+  urgent-here c f e = rw (alone-ok calls c f, alone-ok moves c f, e, due-here c e)
+
+  module _ (l : ℕ) (h : l < locsIn w) (cs : List Comp) (fine : every (compOk w) cs ≡ true) where
+    press-means : (c : Comp) → CompFine w c → presses (defsOf w) (locName w l) (map (means w) cs) (means w c) ≡ (readyAt l c && pressesAt w l cs (c .timer) (headAt w (c .place)))
+    unfolding presses
+    press-means c f = rw (ready-means l c h f) (go (readyAt l c) refl)
+      where
+        partners : Ready l c → some (λ e. ready (locName w l) e && ok (fire (defsOf w) (together (means w c) e))) (map (means w) cs) ≡ some (λ e. readyAt l e && meets (headAt w (c .place)) (headAt w (e .place))) cs
+        partners r =
+            some-map (λ e. ready (locName w l) e && ok (fire (defsOf w) (together (means w c) e))) (means w) cs
+            ∙ some-same _ _ (compOk w) cs fine (λ e g. partner-means l c e h f (comp-fine w e g) r)
+
+        go : (b : Bool) → readyAt l c ≡ b
+            → (b && (urgent (defsOf w) (means w c) || some (λ e. ready (locName w l) e && ok (fire (defsOf w) (together (means w c) e))) (map (means w) cs)))
+            ≡ (b && pressesAt w l cs (c .timer) (headAt w (c .place)))
+        go false q = refl
+        go true q = let r = is-ready l c q in rw (urgent-here c f (r .free), partners r) (presses-by w l cs c (headAt w (c .place)))
+
+    pub forced-means : forced (defsOf w) (locName w l) (map (means w) cs) ≡ forcedAt w l cs
+    unfolding forcedAt
+    forced-means =
+        forced-is (defsOf w) (locName w l) (map (means w) cs)
+        ∙ some-map (presses (defsOf w) (locName w l) (map (means w) cs)) (means w) cs
+        ∙ some-same _ _ (compOk w) cs fine (λ c f. press-means c (comp-fine w c f))
+
+    pub passed-all : map (means w) (passedAll w l cs) ≡ flatMap (pass (λ m. sameName m (locName w l)) (locName w l)) (map (means w) cs)
+    unfolding passedAll
+    passed-all = map-flatMap (means w) (passed w l) (pass (λ m. sameName m (locName w l)) (locName w l)) (compOk w) cs fine (λ c f. passed-means w good l c h (comp-fine w c f))
+
+    -- the tick at l on what the components stand for
+    pub tick-means : tick (defsOf w) (locName w l) (map (means w) cs) ≡ cond (forcedAt w l cs) (refused 12) (accepted (map (means w) (passedAll w l cs)))
+    unfolding tick tickWith
+    tick-means = rw (forced-means, passed-all)

@@ -1,0 +1,98 @@
+-- Small tables, computed: what they stand for, and what question 17 says of them.
+use Prim.Native.Nat.{ℕ, zero, suc, _-_}
+use mathlib.Core.List.{List, [], _∷_, _++_}
+use mathlib.Core.Bool.{Bool, true, false, cond, decide}
+use mathlib.Core.Path.{_≡_, refl}
+use lib.ListN.{replicate, length}
+use Rattle.terms.specs.Names.{Name, bytes}
+use Rattle.terms.specs.Terms.{Timer, Value, Part, Process, Mark, Component, Def, Network}
+use Rattle.terms.specs.Terms.Timer.{ticks, inf}
+use Rattle.terms.specs.Terms.Value.{loc, var}
+use Rattle.terms.specs.Terms.Part.{stop, go, out, inp, call}
+use Rattle.terms.specs.Terms.Process.{one, _∥_}
+use Rattle.terms.specs.Terms.Mark.{none, by}
+use Rattle.terms.specs.Terms.Component.{comp}
+use Rattle.terms.specs.Terms.Def.{define}
+use Rattle.terms.specs.Letters.{classOf, member, isName, isLocation, isSmall, isIdentifier}
+use Rattle.terms.specs.Clock.{ticksOf}
+use Rattle.terms.specs.Runs.{rules}
+use Rattle.table.specs.declared.Comp.{Comp}
+use Rattle.table.specs.declared.State.{State}
+use Rattle.table.specs.Words.{strip, letters, nameAt, locName, chanName, arityOf, bodyOf, defName, paramsAt, paramsOf, headAt, nextAt, lowAt, ownAt, boundAt, scopeAt, namesAt}
+use Rattle.table.specs.Meaning.{valueOf, valuesOf, partOf, joined, deep, processAt, partAt, listFrom, defOf, defsOf, withTimer, envAt, markOf, processOf, means, compsOf, netOf, networkOf}
+use Rattle.table.specs.Valid.{below, alike, distinct, index, timerOk, slotOk, refOk, innerOk, entered, headOk, nextOk, scopeOk, stacked, floor, lowOk, treeOk, partOk, defOk, sortOk, scriptOk, markOk, compOk, stateOk, valid}
+
+unfoldable pub tables : Unit {0}
+unfolding rules classOf member isName isLocation isSmall isIdentifier ticksOf strip letters nameAt locName chanName arityOf bodyOf defName paramsAt paramsOf headAt nextAt lowAt ownAt boundAt scopeAt namesAt valueOf valuesOf partOf joined deep processAt partAt listFrom defOf defsOf withTimer envAt markOf processOf means compsOf netOf networkOf below alike distinct index timerOk slotOk refOk innerOk entered headOk nextOk scopeOk stacked floor lowOk treeOk partOk defOk sortOk scriptOk markOk compOk stateOk valid
+tables = tt
+
+abbrev zeros : ℕ → List ℕ
+zeros n = replicate n 0
+
+-- a one-letter name in four words
+abbrev letter : ℕ → List ℕ
+letter b = b ∷ 0 ∷ 0 ∷ 0 ∷ []
+
+-- a part: kind, name, timer, value, P, Q, next, low; the scope's names; arguments or a bound name
+abbrev row : List ℕ → List ℕ → List ℕ → List ℕ
+row h sc last4 = h ++ (length sc ∷ (sc ++ (zeros (8 - length sc) ++ (last4 ++ zeros 3))))
+
+abbrev four : ℕ → ℕ → ℕ → ℕ → List ℕ
+four a b c d = a ∷ b ∷ c ∷ d ∷ []
+
+-- Page(x) = go(0,x,stop) . with A and B, one channel c; its components stand at the parts 2 and 0:
+--   3  go(0,x,stop)   2  stop      the body
+--   1  Page(B)        0  stop      a located process, Page(B) | stop
+abbrev script : List ℕ
+script =
+    (4 ∷ 2 ∷ 1 ∷ 1 ∷ zeros 4)
+    ++ (((1 ∷ 3 ∷ []) ++ (four 1_701_273_936 0 0 0 ++ (letter 120 ++ zeros 14))) ++ (zeros 744
+    ++ (letter 65 ++ (letter 66 ++ (zeros 248
+    ++ (letter 99 ++ (zeros 252
+    ++ (row (0 ∷ 0 ∷ 0 ∷ 0 ∷ 0 ∷ 0 ∷ 0 ∷ 0 ∷ []) [] (zeros 4)
+    ++ (row (4 ∷ 0 ∷ 0 ∷ 1 ∷ 0 ∷ 0 ∷ 1 ∷ 0 ∷ []) [] (four 1 0 0 0)
+    ++ (row (0 ∷ 0 ∷ 0 ∷ 0 ∷ 0 ∷ 0 ∷ 0 ∷ 2 ∷ []) (14 ∷ []) (zeros 4)
+    ++ row (1 ∷ 0 ∷ 0 ∷ 64 ∷ 2 ∷ 0 ∷ 0 ∷ 2 ∷ []) (14 ∷ []) (zeros 4)))))))))))
+
+abbrev at : ℕ → ℕ → ℕ → ℕ → Comp
+at l m i t = record { loc = l; mark = m; place = i; timer = t; vals = zeros 8 }
+
+abbrev state : List Comp → State
+state cs = record { c = cs; n = length cs }
+
+stands-for : networkOf script (state (at 0 64 1 0 ∷ at 1 0 1 0 ∷ at 0 64 3 7 ∷ []))
+    ≡ record {
+      defs = define (bytes "Page") (bytes "x" ∷ []) (one (go (ticks 0) (var (bytes "x")) (one stop))) ∷ [];
+      comps =
+          comp (bytes "A") none (one (call (bytes "Page") (loc (bytes "B") ∷ [])))
+          ∷ comp (bytes "B") (by (bytes "A")) (call (bytes "Page") (loc (bytes "B") ∷ []) ∥ one stop)
+          ∷ comp (bytes "A") none (one (go (ticks 7) (loc (bytes "A")) (one stop)))
+          ∷ [];
+    }
+unfolding tables
+stands-for = refl
+
+good : valid script (state (at 0 64 1 0 ∷ at 1 0 1 0 ∷ at 0 64 3 7 ∷ [])) ≡ true
+unfolding tables
+good = refl
+
+-- a location, a mark, a place and a timer out of range, and no component
+location-out : valid script (state (at 2 64 1 0 ∷ [])) ≡ false
+unfolding tables
+location-out = refl
+
+mark-out : valid script (state (at 0 2 1 0 ∷ [])) ≡ false
+unfolding tables
+mark-out = refl
+
+place-out : valid script (state (at 0 64 4 0 ∷ [])) ≡ false
+unfolding tables
+place-out = refl
+
+timer-out : valid script (state (at 0 64 1 1_000_002 ∷ [])) ≡ false
+unfolding tables
+timer-out = refl
+
+no-component : valid script (state []) ≡ false
+unfolding tables
+no-component = refl

@@ -1,0 +1,125 @@
+-- What an action makes of its components, and when a tick is allowed, on the table: numbers for names. The laws (proofs/Fires, proofs/Ticks) say that this
+-- is what the rules make of what the components stand for.
+use Prim.Native.Nat.{ℕ, zero, suc, _-_}
+use mathlib.Core.List.{List, [], _∷_, map, flatMap}
+use mathlib.Core.Bool.{Bool, true, false, cond, _&&_, _||_, not}
+use lib.Dec.{eqb, leb, ltb}
+use lib.ListN.{length, getD}
+use lib.ListN as L
+use Rattle.terms.specs.Terms.{Label}
+use Rattle.terms.specs.Terms.Label.{called, moved, sent}
+use Rattle.terms.specs.Rules.{Answer, Kind, Action, _>>=_, at, setAll, positions, some}
+use Rattle.terms.specs.Rules.Answer.{refused, accepted}
+use Rattle.terms.specs.Rules.Kind.{calls, moves}
+use Rattle.terms.specs.Rules.Action.{single, pair}
+use Rattle.table.specs.declared.Head.{Head}
+use Rattle.table.specs.declared.Head.the-variants.{Stop, Go, Out, In, Call}
+use Rattle.table.specs.declared.Comp.{Comp}
+use Rattle.table.specs.Words.{locName, chanName, defName, bodyOf, headAt}
+use Rattle.table.specs.Split.{passed}
+
+-- a label in numbers
+pub data Tag : Type 0 where
+  callTag moveTag : ℕ → ℕ → Tag
+  sendTag : ℕ → ℕ → ℕ → Tag
+
+unfoldable pub labelOf : List ℕ → Tag → Label
+labelOf w (callTag d l) = called (defName w d) (locName w l)
+labelOf w (moveTag v l) = moved (locName w v) (locName w l)
+labelOf w (sendTag c v l) = sent (chanName w c) (locName w v) (locName w l)
+
+-- what a value's word stands for, with the slots' values
+unfoldable pub valueIn : List ℕ → ℕ → ℕ
+valueIn vs v = cond (ltb v 64) v (getD vs (v - 64) 0)
+
+-- a component that an action at l leaves at k
+unfoldable pub leftAt : ℕ → ℕ → ℕ → List ℕ → Comp
+leftAt l k i vs = record { loc = k; mark = l; place = i; timer = 0; vals = vs }
+
+-- the arguments in the first slots
+unfoldable pub argIn : List ℕ → ℕ → ℕ → ℕ → ℕ
+argIn vs n k v = cond (ltb k n) (valueIn vs v) 0
+
+unfoldable pub loaded : List ℕ → ℕ → ℕ → ℕ → ℕ → ℕ → List ℕ
+loaded vs n a₀ a₁ a₂ a₃ = argIn vs n 0 a₀ ∷ argIn vs n 1 a₁ ∷ argIn vs n 2 a₂ ∷ argIn vs n 3 a₃ ∷ 0 ∷ 0 ∷ 0 ∷ 0 ∷ []
+
+pub record Left : Type 0 where
+  pub tag : Tag
+  pub after : List Comp
+
+unfoldable pub becomesAt : List ℕ → Kind → Comp → Head → Answer Left
+becomesAt w calls c Stop = refused 10
+becomesAt w calls c (Go t v p) = refused 10
+becomesAt w calls c (Out h t v p q) = refused 10
+becomesAt w calls c (In h t k p q) = refused 10
+becomesAt w calls c (Call d n a₀ a₁ a₂ a₃) =
+    accepted (record { tag = callTag d (c .loc); after = leftAt (c .loc) (c .loc) (bodyOf w d) (loaded (c .vals) n a₀ a₁ a₂ a₃) ∷ [] })
+becomesAt w moves c Stop = refused 10
+becomesAt w moves c (Go t v p) =
+    accepted (record { tag = moveTag (valueIn (c .vals) v) (c .loc); after = leftAt (c .loc) (valueIn (c .vals) v) p (c .vals) ∷ [] })
+becomesAt w moves c (Out h t v p q) = refused 10
+becomesAt w moves c (In h t k p q) = refused 10
+becomesAt w moves c (Call d n a₀ a₁ a₂ a₃) = refused 10
+
+-- an output and an input that meet
+unfoldable pub handed : Comp → Comp → ℕ → ℕ → ℕ → ℕ → ℕ → Left
+handed c e h v p k p′ =
+    record { tag = sendTag h v (c .loc); after = leftAt (c .loc) (c .loc) p (c .vals) ∷ leftAt (c .loc) (c .loc) p′ (L.set (e .vals) k v) ∷ [] }
+
+unfoldable pub meetAt : Comp → Comp → Head → Head → Answer Left
+meetAt c e Stop g = refused 10
+meetAt c e (Go t v p) g = refused 10
+meetAt c e (In h t k p q) g = refused 10
+meetAt c e (Call d n a₀ a₁ a₂ a₃) g = refused 10
+meetAt c e (Out h t v p q) Stop = refused 10
+meetAt c e (Out h t v p q) (Go t′ v′ p′) = refused 10
+meetAt c e (Out h t v p q) (Out h′ t′ v′ p′ q′) = refused 10
+meetAt c e (Out h t v p q) (Call d n a₀ a₁ a₂ a₃) = refused 10
+meetAt c e (Out h t v p q) (In h′ t′ k p′ q′) =
+    cond (eqb h h′ && eqb (c .loc) (e .loc)) (accepted (handed c e h (valueIn (c .vals) v) p k p′)) (refused 11)
+
+-- questions 9 to 11
+unfoldable pub aloneAt : List ℕ → Kind → Comp → Answer Left
+aloneAt w k c = cond (ltb (c .mark) 64) (refused 9) (becomesAt w k c (headAt w (c .place)))
+
+unfoldable pub togetherAt : List ℕ → Comp → Comp → Answer Left
+togetherAt w c e = cond (ltb (c .mark) 64 || ltb (e .mark) 64) (refused 9) (meetAt c e (headAt w (c .place)) (headAt w (e .place)))
+
+-- ── an action at positions ──
+unfoldable pub leftBy : List ℕ → Action → List Comp → Answer Left
+leftBy w (single k p) cs = at cs p >>= λ c. aloneAt w k c
+leftBy w (pair p q) cs = at cs p >>= λ c. at cs q >>= λ e. togetherAt w c e
+
+pub record ActedAt : Type 0 where
+  pub tag : Tag
+  pub comps : List Comp
+
+unfoldable pub actOn : List ℕ → Action → List Comp → Answer ActedAt
+actOn w a cs = leftBy w a cs >>= λ f. accepted (record { tag = f .tag; comps = setAll (positions a) (f .after) cs })
+
+-- ── when the tick at l is allowed ──
+unfoldable pub readyAt : ℕ → Comp → Bool
+readyAt l c = not (ltb (c .mark) 64) && eqb (c .loc) l
+
+-- an input on the channel h
+unfoldable pub hears : ℕ → Head → Bool
+hears h Stop = false
+hears h (Go t v p) = false
+hears h (Out h′ t v p q) = false
+hears h (In h′ t k p q) = eqb h h′
+hears h (Call d n a₀ a₁ a₂ a₃) = false
+
+-- of a component ready at l with this timer and head: a call, a `go` at 0, or an output that some component ready at l hears
+unfoldable pub pressesAt : List ℕ → ℕ → List Comp → ℕ → Head → Bool
+pressesAt w l cs t Stop = false
+pressesAt w l cs t (Go u v p) = eqb t 0
+pressesAt w l cs t (Out h u v p q) = some (λ e. readyAt l e && hears h (headAt w (e .place))) cs
+pressesAt w l cs t (In h u k p q) = false
+pressesAt w l cs t (Call d n a₀ a₁ a₂ a₃) = true
+
+unfoldable pub forcedAt : List ℕ → ℕ → List Comp → Bool
+forcedAt w l cs = some (λ c. readyAt l c && pressesAt w l cs (c .timer) (headAt w (c .place))) cs
+
+-- what the tick at l leaves, where it is allowed
+unfoldable pub passedAll : List ℕ → ℕ → List Comp → List Comp
+passedAll w l cs = flatMap (passed w l) cs

@@ -1,0 +1,103 @@
+-- What a table stands for: a network in letters, values put in. Document 01, *The term and the network*.
+use Prim.Native.Nat.{ℕ, zero, suc, _+_, _-_}
+use mathlib.Core.List.{List, [], _∷_, map}
+use mathlib.Core.Bool.{Bool, true, false, cond}
+use lib.Dec.{ltb}
+use lib.ListN.{getD, take}
+use Rattle.terms.specs.Names.{Name}
+use Rattle.terms.specs.Terms.{Timer, Value, Part, Process, Mark, Component, Def, Network}
+use Rattle.terms.specs.Terms.Value.{loc, var}
+use Rattle.terms.specs.Terms.Part.{stop, go, out, inp, call}
+use Rattle.terms.specs.Terms.Process.{one, _∥_}
+use Rattle.terms.specs.Terms.Mark.{none, by}
+use Rattle.terms.specs.Terms.Component.{comp}
+use Rattle.terms.specs.Terms.Def.{define}
+use Rattle.terms.specs.Substitution.{Env, env, sub, subP}
+use Rattle.terms.specs.Clock.{ticksOf}
+use Rattle.table.specs.declared.Head.{Head}
+use Rattle.table.specs.declared.Head.the-variants.{Stop, Go, Out, In, Call}
+use Rattle.table.specs.declared.Comp.{Comp}
+use Rattle.table.specs.declared.State.{State}
+use Rattle.table.specs.Words.{defsIn, locName, chanName, defName, bodyOf, paramsOf, headAt, nextAt, boundAt, namesAt}
+
+-- ── terms ──
+-- what a value's word stands for where the names ys are in scope
+unfoldable pub valueOf : List ℕ → List Name → ℕ → Value
+valueOf w ys v = cond (ltb v 64) (loc (locName w v)) (var (getD ys (v - 64) []))
+
+unfoldable pub valuesOf : List ℕ → List Name → List ℕ → List Value
+valuesOf w ys vs = map (valueOf w ys) vs
+
+-- the part of a head in scope ys that binds y, where f gives the process at a place
+unfoldable pub partOf : List ℕ → (ℕ → Process) → List Name → Name → Head → Part
+partOf w f ys y Stop = stop
+partOf w f ys y (Go t v p) = go (ticksOf t) (valueOf w ys v) (f p)
+partOf w f ys y (Out c t v p q) = out (chanName w c) (ticksOf t) (valueOf w ys v) (f p) (f q)
+partOf w f ys y (In c t k p q) = inp (chanName w c) (ticksOf t) y (f p) (f q)
+partOf w f ys y (Call d n a₀ a₁ a₂ a₃) = call (defName w d) (valuesOf w ys (take n (a₀ ∷ a₁ ∷ a₂ ∷ a₃ ∷ [])))
+
+unfoldable pub joined : (ℕ → Process) → Part → ℕ → Process
+joined f a zero = one a
+joined f a (suc j) = a ∥ f j
+
+-- at most n links deep
+unfoldable pub deep : List ℕ → ℕ → ℕ → Process
+deep w zero i = one stop
+deep w (suc n) i = joined (deep w n) (partOf w (deep w n) (namesAt w i) (boundAt w i) (headAt w i)) (nextAt w i)
+
+-- the process at a place: every link goes to a lesser place, so no more than its number are followed
+unfoldable pub processAt : List ℕ → ℕ → Process
+processAt w i = deep w (suc i) i
+
+-- the one part at a place
+unfoldable pub partAt : List ℕ → ℕ → Part
+partAt w i = partOf w (processAt w) (namesAt w i) (boundAt w i) (headAt w i)
+
+-- ── definitions, in table order ──
+-- f of k, of k and one, ..., n of them
+unfoldable pub listFrom : {A : Type 0} → ℕ → ℕ → (ℕ → A) → List A
+listFrom k zero f = []
+listFrom k (suc n) f = f k ∷ listFrom (suc k) n f
+
+unfoldable pub defOf : List ℕ → ℕ → Def
+defOf w d = define (defName w d) (paramsOf w d) (processAt w (bodyOf w d))
+
+unfoldable pub defsOf : List ℕ → List Def
+defsOf w = listFrom 0 (defsIn w) (defOf w)
+
+-- ── components ──
+-- A component has a location, a mark (64 for none), a place, its own timer, and a location for each slot.
+-- Unmarked it is the one part at its place with its own timer, marked the process from its place on.
+unfoldable pub withTimer : Timer → Part → Part
+withTimer u stop = stop
+withTimer u (go t v p) = go u v p
+withTimer u (out c t v p q) = out c u v p q
+withTimer u (inp c t y p q) = inp c u y p q
+withTimer u (call i vs) = call i vs
+
+-- the values of the slots for the names in scope at a place
+unfoldable pub envAt : List ℕ → ℕ → List ℕ → Env
+envAt w i vs = env (namesAt w i) (map (locName w) vs)
+
+unfoldable pub markOf : List ℕ → ℕ → Mark
+markOf w m = cond (ltb m 64) (by (locName w m)) none
+
+unfoldable pub processOf : List ℕ → Comp → Process
+processOf w c =
+    cond (ltb (c .mark) 64)
+    (subP (processAt w (c .place)) (envAt w (c .place) (c .vals)))
+    (one (withTimer (ticksOf (c .timer)) (sub (partAt w (c .place)) (envAt w (c .place) (c .vals)))))
+
+unfoldable pub means : List ℕ → Comp → Component
+means w c = comp (locName w (c .loc)) (markOf w (c .mark)) (processOf w c)
+
+-- the components in use
+unfoldable pub compsOf : State → List Comp
+compsOf st = take (st .n) (st .c)
+
+unfoldable pub netOf : List ℕ → State → List Component
+netOf w st = map (means w) (compsOf st)
+
+-- the network that a script and a state stand for
+unfoldable pub networkOf : List ℕ → State → Network
+networkOf w st = record { defs = defsOf w; comps = netOf w st }

@@ -1,0 +1,59 @@
+-- What a tick makes of the components that it splits, ticks or lets pass, on the table. Document 01, *The tick at l*; Meaning says what these stand for.
+use Prim.Native.Nat.{ℕ, zero, suc, _-_}
+use mathlib.Core.List.{List, [], _∷_}
+use mathlib.Core.Bool.{Bool, true, false, cond}
+use lib.Dec.{eqb, leb, ltb}
+use Rattle.table.specs.declared.Head.{Head}
+use Rattle.table.specs.declared.Head.the-variants.{Stop, Go, Out, In, Call}
+use Rattle.table.specs.declared.Comp.{Comp}
+use Rattle.table.specs.Words.{headAt, nextAt}
+
+-- one less; every number above a million is inf, and stays
+unfoldable pub lessRaw : ℕ → ℕ
+lessRaw t = cond (leb t 1_000_000) (t - 1) t
+
+-- a part's own timer; 0 where it has none
+unfoldable pub timerIn : Head → ℕ
+timerIn Stop = 0
+timerIn (Go t v p) = t
+timerIn (Out c t v p q) = t
+timerIn (In c t k p q) = t
+timerIn (Call d n a₀ a₁ a₂ a₃) = 0
+
+-- the part at a place as a component of its own, unmarked, with the timer that it is written with
+unfoldable pub fresh : List ℕ → ℕ → List ℕ → ℕ → Comp
+fresh w l vs i = record { loc = l; mark = 64; place = i; timer = timerIn (headAt w i); vals = vs }
+
+unfoldable pub andThen : (ℕ → List Comp) → ℕ → List Comp
+andThen f zero = []
+andThen f (suc j) = f j
+
+-- the parts of the process at a place, from left to right; at most n
+unfoldable pub partsFrom : List ℕ → ℕ → List ℕ → ℕ → ℕ → List Comp
+partsFrom w l vs zero i = []
+partsFrom w l vs (suc n) i = fresh w l vs i ∷ andThen (partsFrom w l vs n) (nextAt w i)
+
+unfoldable pub splitAt : List ℕ → ℕ → List ℕ → ℕ → List Comp
+splitAt w l vs i = partsFrom w l vs (suc i) i
+
+unfoldable pub timed : Comp → ℕ → Comp
+timed c t = record { loc = c .loc; mark = c .mark; place = c .place; timer = t; vals = c .vals }
+
+-- an `in` or `out` with its Q at q
+unfoldable pub orElse : List ℕ → Comp → ℕ → List Comp
+orElse w c q = cond (eqb (c .timer) 0) (splitAt w (c .loc) (c .vals) q) (timed c (lessRaw (c .timer)) ∷ [])
+
+-- a component that is ready where the tick is
+unfoldable pub waited : List ℕ → Comp → Head → List Comp
+waited w c Stop = c ∷ []
+waited w c (Go t v p) = timed c (lessRaw (c .timer)) ∷ []
+waited w c (Out d t v p q) = orElse w c q
+waited w c (In d t k p q) = orElse w c q
+waited w c (Call d n a₀ a₁ a₂ a₃) = c ∷ []
+
+-- a component in the tick at l
+unfoldable pub passed : List ℕ → ℕ → Comp → List Comp
+passed w l c =
+    cond (ltb (c .mark) 64)
+    (cond (eqb (c .mark) l) (splitAt w (c .loc) (c .vals) (c .place)) (c ∷ []))
+    (cond (eqb (c .loc) l) (waited w c (headAt w (c .place))) (c ∷ []))

@@ -1,0 +1,118 @@
+-- The words of a script. A script has 99,592 words, written once by reading and then only lent; no content is without a meaning.
+--
+--   0 .. 7         how many parts, locations, channels and definitions it holds; four words not used
+--   8 .. 775       32 definitions of 24 words: number of parameters, place of the body, identifier (4), four parameters (4 each), two not used
+--   776 .. 1031    64 locations' names of 4 words
+--   1032 .. 1287   64 channels' names of 4 words
+--   1288 .. 99591  4,096 parts of 24 words
+--
+-- A part: 0 kind; 1 channel or definition; 2 timer; 3 value, an input's slot, or a call's number of arguments; 4 place of P; 5 place of Q;
+-- 6 place of the next part of its process and one, or 0; 7 the least place of the process from here on; 8 how many variables are in scope;
+-- 9 .. 16 where their names stand; 17 .. 20 a call's arguments, or the name that an input binds; three words not used.
+-- A value below 64 is a location; 64 and more is a variable, by its slot: its index in the scope.
+use Prim.Native.Nat.{ℕ, zero, suc, _+_, _*_, _/_, _%_}
+use mathlib.Core.List.{List, [], _∷_, map}
+use mathlib.Core.Bool.{Bool, true, false, cond, _&&_}
+use lib.Dec.{eqb, leb}
+use lib.ListN.{getD, take}
+use Rattle.terms.specs.Names.{Name}
+use Rattle.table.specs.declared.Head.{Head}
+use Rattle.table.specs.declared.Head.the-variants.{Stop, Go, Out, In, Call}
+
+abbrev pub word : List ℕ → ℕ → ℕ
+word w i = getD w i 0
+
+-- ── how many of each ──
+abbrev pub partsIn : List ℕ → ℕ
+partsIn w = word w 0
+
+abbrev pub locsIn : List ℕ → ℕ
+locsIn w = word w 1
+
+abbrev pub chansIn : List ℕ → ℕ
+chansIn w = word w 2
+
+abbrev pub defsIn : List ℕ → ℕ
+defsIn w = word w 3
+
+-- ── names: four words of four bytes, the first letter lowest; zeros after the last letter are no letters ──
+abbrev pub fourBytes : ℕ → List ℕ → List ℕ
+fourBytes a l = (a % 256) ∷ (a / 256 % 256) ∷ (a / 65_536 % 256) ∷ (a / 16_777_216 % 256) ∷ l
+
+abbrev pub isZero : List ℕ → ℕ → Bool
+isZero [] b = eqb b 0
+isZero (c ∷ l) b = false
+
+unfoldable pub strip : List ℕ → Name
+strip [] = []
+strip (b ∷ l) = cond (isZero (strip l) b) [] (b ∷ strip l)
+
+unfoldable pub letters : ℕ → ℕ → ℕ → ℕ → Name
+letters a b c d = strip (fourBytes a (fourBytes b (fourBytes c (fourBytes d []))))
+
+-- the name that stands at the word o
+unfoldable pub nameAt : List ℕ → ℕ → Name
+nameAt w o = letters (word w o) (word w (o + 1)) (word w (o + 2)) (word w (o + 3))
+
+unfoldable pub locName : List ℕ → ℕ → Name
+locName w l = nameAt w (776 + l * 4)
+
+unfoldable pub chanName : List ℕ → ℕ → Name
+chanName w c = nameAt w (1_032 + c * 4)
+
+-- ── definitions ──
+unfoldable pub arityOf : List ℕ → ℕ → ℕ
+arityOf w d = word w (8 + d * 24)
+
+unfoldable pub bodyOf : List ℕ → ℕ → ℕ
+bodyOf w d = word w (9 + d * 24)
+
+unfoldable pub defName : List ℕ → ℕ → Name
+defName w d = nameAt w (10 + d * 24)
+
+-- where the parameters' names stand
+unfoldable pub paramsAt : List ℕ → ℕ → List ℕ
+paramsAt w d = take (arityOf w d) ((14 + d * 24) ∷ (18 + d * 24) ∷ (22 + d * 24) ∷ (26 + d * 24) ∷ [])
+
+unfoldable pub paramsOf : List ℕ → ℕ → List Name
+paramsOf w d = map (nameAt w) (paramsAt w d)
+
+-- ── parts ──
+abbrev pub field : List ℕ → ℕ → ℕ → ℕ
+field w i k = word w (1_288 + i * 24 + k)
+
+-- a part without its inner processes: these are places
+unfoldable pub headAt : List ℕ → ℕ → Head
+headAt w i =
+    cond (eqb (field w i 0) 1) (Go (field w i 2) (field w i 3) (field w i 4))
+    (cond (eqb (field w i 0) 2) (Out (field w i 1) (field w i 2) (field w i 3) (field w i 4) (field w i 5))
+    (cond (eqb (field w i 0) 3) (In (field w i 1) (field w i 2) (field w i 3) (field w i 4) (field w i 5))
+    (cond (eqb (field w i 0) 4) (Call (field w i 1) (field w i 3) (field w i 17) (field w i 18) (field w i 19) (field w i 20))
+    Stop)))
+
+-- the next part of the process: 0, or its place and one
+unfoldable pub nextAt : List ℕ → ℕ → ℕ
+nextAt w i = field w i 6
+
+unfoldable pub lowAt : List ℕ → ℕ → ℕ
+lowAt w i = field w i 7
+
+-- where the name that an input binds stands
+unfoldable pub ownAt : ℕ → ℕ
+ownAt i = 1_305 + i * 24
+
+unfoldable pub boundAt : List ℕ → ℕ → Name
+boundAt w i = nameAt w (ownAt i)
+
+-- at most 8
+abbrev pub atMost8 : ℕ → ℕ
+atMost8 n = cond (leb n 8) n 8
+
+-- where the names in scope stand, in order, and the names
+unfoldable pub scopeAt : List ℕ → ℕ → List ℕ
+scopeAt w i =
+    take (atMost8 (field w i 8))
+    (field w i 9 ∷ field w i 10 ∷ field w i 11 ∷ field w i 12 ∷ field w i 13 ∷ field w i 14 ∷ field w i 15 ∷ field w i 16 ∷ [])
+
+unfoldable pub namesAt : List ℕ → ℕ → List Name
+namesAt w i = map (nameAt w) (scopeAt w i)

@@ -1,0 +1,32 @@
+// Layer 1, the table: what a network is in memory, what it stands for, and question 17.
+ghost use mathlib.Core.Path.{_≡_};
+
+// A part without its inner processes: these are places.
+pub enum Head {
+    Stop,
+    // timer, value, P
+    Go(u32, u32, u32),
+    // channel, timer, value, P, Q
+    Out(u32, u32, u32, u32, u32),
+    // channel, timer, slot, P, Q
+    In(u32, u32, u32, u32, u32),
+    // definition, number of arguments, arguments
+    Call(u32, u32, u32, u32, u32, u32),
+}
+
+// A component: location, mark (64 for none), place, timer, and a location for each slot.
+#[repr(C)]
+pub struct Comp {
+    pub loc: u32,
+    pub mark: u32,
+    pub place: u32,
+    pub timer: u32,
+    pub vals: [u32; 8],
+}
+
+// The components; the first n are in use.
+#[repr(C)]
+pub struct State {
+    pub c: [Comp; 256],
+    pub n: usize,
+}
