@@ -6,3 +6,5 @@ pub mod Splits
 pub mod Fires
 pub mod Ticks
 pub mod Kept
+pub mod Names
+pub mod WordsHead

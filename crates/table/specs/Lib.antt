@@ -1,6 +1,7 @@
 pub mod Words
 pub mod Meaning
 pub mod Valid
+pub mod Tests
 pub mod Split
 pub mod Fire
 pub mod Examples

@@ -1,4 +1,6 @@
 // Layer 1, the table: what a network is in memory, what it stands for, and question 17.
+pub mod words;
+
 ghost use mathlib.Core.Path.{_≡_};
 
 // A part without its inner processes: these are places.
@@ -29,4 +31,19 @@ pub struct Comp {
 pub struct State {
     pub c: [Comp; 256],
     pub n: usize,
+}
+
+// A name: four words of four bytes, the first letter lowest, zeros after the last.
+pub struct Key {
+    pub a: u32,
+    pub b: u32,
+    pub c: u32,
+    pub d: u32,
+}
+
+// The sorts of names, by the form of their first letter; a variable's is that of a channel.
+pub enum Sort {
+    Location,
+    Small,
+    Identifier,
 }

@@ -1,0 +1,16 @@
+-- The field that the definition names.
+-- By its definition.
+use Rattle.table.specs.Words.{nextAt}
+use borrow.Author.Needs.{needs}
+use Rattle.table.proofs.words.next_at.Statement.{statement}
+use Rattle.table.proofs.words.next_at.Tie as tie
+
+field-requires : tie.Need-field-requires
+field-requires c κs = search needs
+
+returns : tie.Need-returns
+unfolding nextAt
+returns c = c .field .ensures
+
+pub next-at-spec : {M : Type 1} → statement M
+next-at-spec = tie.close (tie.spec field-requires returns)

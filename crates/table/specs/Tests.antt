@@ -1,0 +1,58 @@
+-- What the contracts of internal functions cite: a name by its four words, names at equal distances, and the parts of a part's test.
+use Prim.Native.Nat.{ℕ, suc, _+_, _*_, _≤_, _<_}
+use mathlib.Core.List.{List, [], _∷_}
+use mathlib.Core.Bool.{Bool, true, false, _&&_, _||_}
+use mathlib.Core.Path.{_≡_}
+use lib.Dec.{eqb, ltb}
+use Rattle.terms.specs.Names.{Name}
+use Rattle.terms.specs.Letters.{Class, isCapital, isLittle}
+use Rattle.table.specs.declared.Head.{Head}
+use Rattle.table.specs.declared.Key.{Key}
+use Rattle.table.specs.declared.Sort.{Sort}
+use Rattle.table.specs.declared.Sort.the-variants.{Location, Small, Identifier}
+use Rattle.table.specs.Words.{chansIn, letters, nameAt, field, nextAt, lowAt, scopeAt}
+use Rattle.table.specs.Valid.{timerOk, innerOk, headOk, nextOk, stacked, floor, lowOk}
+
+-- ── names ──
+-- the name of four words
+abbrev pub keyName : Key → Name
+keyName k = letters (k .a) (k .b) (k .c) (k .d)
+
+-- what a sort wants of a name's first letter
+abbrev pub firstOf : Sort → Class → Bool
+firstOf Location c = isCapital c
+firstOf Small c = isLittle c
+firstOf Identifier c = isCapital c || isLittle c
+
+-- name j of those that stand s words apart from o on
+unfoldable pub rowName : List ℕ → ℕ → ℕ → ℕ → Name
+rowName w o s j = nameAt w (o + j * s)
+
+-- ── parts ──
+-- what is known of a part whose scope is read: its place is one, and n is how many variables it has, which is at most 8
+pub record Scoped (w : List ℕ) (i n : ℕ) : Type 0 where
+  pub place : i < 4_096
+  pub count : n ≡ field w i 8
+  pub small : n ≤ 8
+
+-- the eight words that may name what is in scope
+unfoldable pub slots : List ℕ → ℕ → List ℕ
+slots w i =
+    field w i 9 ∷ field w i 10 ∷ field w i 11 ∷ field w i 12 ∷ field w i 13 ∷ field w i 14 ∷ field w i 15 ∷ field w i 16 ∷ []
+
+-- the tests of a part of head h, but for its kind and scope
+unfoldable pub restOk : List ℕ → ℕ → Head → Bool
+restOk w i h =
+    headOk w i h && (nextOk w i (nextAt w i) && (stacked w i h && lowOk w (lowAt w i) (floor w i h) (nextAt w i)))
+
+-- the tests of a part whose least place is f that look at what comes after it
+unfoldable pub endOk : List ℕ → ℕ → ℕ → Bool
+endOk w i f = nextOk w i (nextAt w i) && lowOk w (lowAt w i) f (nextAt w i)
+
+-- the tests that an output and an input share
+unfoldable pub sendOk : List ℕ → ℕ → Bool
+sendOk w i =
+    (ltb (field w i 1) (chansIn w) && (timerOk (field w i 2) && innerOk w i (field w i 5) (scopeAt w i)))
+    && (nextOk w i (nextAt w i)
+    && ((eqb (suc (field w i 4)) i && eqb (suc (field w i 5)) (lowAt w (field w i 4)))
+    && lowOk w (lowAt w i) (lowAt w (field w i 5)) (nextAt w i)))

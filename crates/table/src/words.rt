@@ -1,0 +1,166 @@
+// Reading a script: words, a part's fields, heads, definitions, names.
+ghost use mathlib.Core.Path.{_≡_};
+ghost use Prim.Native.Nat.{_+_, _*_, _<_};
+ghost use lib.ListN.{getD};
+ghost use Rattle.terms.specs.Names.{sameName};
+ghost use Rattle.table.specs.Words.{headAt, nextAt, lowAt, arityOf, bodyOf, nameAt};
+ghost use Rattle.table.specs.Tests.{keyName};
+
+use super::Head;
+use super::Key;
+
+// A word as an index.
+pub fn wide(x: u32) -> usize
+    ensures { λ r. ⌜ r ≡ x ⌝ }
+{
+    x as usize
+}
+
+// The word at i; 0 past the end.
+pub fn word(w: &[u32; 99592], i: usize) -> u32
+    ensures { λ r. ⌜ r ≡ getD (now (w .entry)) i 0 ⌝ }
+{
+    word_in(w, i)
+}
+
+// The same of any words: of a slice the length is known where the code asks for it.
+fn word_in(s: &[u32], i: usize) -> u32
+    ensures { λ r. ⌜ r ≡ getD (now (s .entry)) i 0 ⌝ }
+{
+    if i < s.len() {
+        return s[i];
+    }
+    0
+}
+
+// Field k of the part at i.
+pub fn field(w: &[u32; 99592], i: usize, k: usize) -> u32
+    requires { ⌜ (i < 4096) × (k < 24) ⌝ }
+    ensures { λ r. ⌜ r ≡ getD (now (w .entry)) (1288 + i * 24 + k) 0 ⌝ }
+{
+    w[1288 + i * 24 + k]
+}
+
+pub fn head_at(w: &[u32; 99592], i: usize) -> Head
+    requires { ⌜ i < 4096 ⌝ }
+    ensures { λ r. ⌜ r ≡ headAt (now (w .entry)) i ⌝ }
+{
+    let k = field(w, i, 0);
+    match k {
+        1 => Head::Go(field(w, i, 2), field(w, i, 3), field(w, i, 4)),
+        2 => Head::Out(
+            field(w, i, 1),
+            field(w, i, 2),
+            field(w, i, 3),
+            field(w, i, 4),
+            field(w, i, 5),
+        ),
+        3 => Head::In(
+            field(w, i, 1),
+            field(w, i, 2),
+            field(w, i, 3),
+            field(w, i, 4),
+            field(w, i, 5),
+        ),
+        4 => Head::Call(
+            field(w, i, 1),
+            field(w, i, 3),
+            field(w, i, 17),
+            field(w, i, 18),
+            field(w, i, 19),
+            field(w, i, 20),
+        ),
+        _ => Head::Stop,
+    }
+}
+
+pub fn next_at(w: &[u32; 99592], i: usize) -> u32
+    requires { ⌜ i < 4096 ⌝ }
+    ensures { λ r. ⌜ r ≡ nextAt (now (w .entry)) i ⌝ }
+{
+    field(w, i, 6)
+}
+
+pub fn low_at(w: &[u32; 99592], i: usize) -> u32
+    requires { ⌜ i < 4096 ⌝ }
+    ensures { λ r. ⌜ r ≡ lowAt (now (w .entry)) i ⌝ }
+{
+    field(w, i, 7)
+}
+
+pub fn arity_of(w: &[u32; 99592], d: usize) -> u32
+    requires { ⌜ d < 32 ⌝ }
+    ensures { λ r. ⌜ r ≡ arityOf (now (w .entry)) d ⌝ }
+{
+    w[8 + d * 24]
+}
+
+pub fn body_of(w: &[u32; 99592], d: usize) -> u32
+    requires { ⌜ d < 32 ⌝ }
+    ensures { λ r. ⌜ r ≡ bodyOf (now (w .entry)) d ⌝ }
+{
+    w[9 + d * 24]
+}
+
+// The words of the name that stands at o.
+pub fn key_at(w: &[u32; 99592], o: usize) -> Key
+    ensures { λ r. ⌜ keyName r ≡ nameAt (now (w .entry)) o ⌝ }
+{
+    if o < 99589 {
+        return Key {
+            a: w[o],
+            b: w[o + 1],
+            c: w[o + 2],
+            d: w[o + 3],
+        };
+    }
+    key_end(w, o)
+}
+
+// The same where the name runs past the end, which is read as zeros.
+fn key_end(s: &[u32], o: usize) -> Key
+    ensures { λ r. ⌜ keyName r ≡ nameAt (now (s .entry)) o ⌝ }
+{
+    if s.len() <= o {
+        return Key {
+            a: 0,
+            b: 0,
+            c: 0,
+            d: 0,
+        };
+    }
+    Key {
+        a: word_in(s, o),
+        b: word_in(s, o + 1),
+        c: word_in(s, o + 2),
+        d: word_in(s, o + 3),
+    }
+}
+
+// Are two names the same?
+pub fn same_key(x: Key, y: Key) -> bool
+    ensures { λ r. ⌜ r ≡ sameName (keyName x) (keyName y) ⌝ }
+{
+    if x.a != y.a {
+        return false;
+    }
+    if x.b != y.b {
+        return false;
+    }
+    if x.c != y.c {
+        return false;
+    }
+    if x.d != y.d {
+        return false;
+    }
+    true
+}
+
+// Do o1 and o2 have the same name?
+pub fn same_name(w: &[u32; 99592], o1: usize, o2: usize) -> bool
+    ensures { λ r. ⌜ r ≡ sameName (nameAt (now (w .entry)) o1) (nameAt (now (w .entry)) o2) ⌝ }
+{
+    let x = key_at(w, o1);
+    let y = key_at(w, o2);
+    same_key(x, y)
+}
