@@ -10,6 +10,7 @@ use lib.ListN.{length, getD, set, take, length-append, length-set}
 use borrow.Author.Tests.{ltb-true, leb-true, leb-false, lt-ltb, le-leb, eqb-true}
 use Rattle.terms.specs.Names.{Name}
 use Rattle.terms.specs.Same.{every}
+use Rattle.terms.specs.Clock.{lessRaw}
 use Rattle.terms.specs.Rules.{Answer, Kind, Action, _>>=_, at, setAll, positions}
 use Rattle.terms.specs.Rules as R
 use Rattle.terms.specs.Rules.Answer.{refused, accepted}
@@ -21,7 +22,7 @@ use Rattle.table.specs.declared.Head.the-variants.{Stop, Go, Out, In, Ca
 use Rattle.table.specs.declared.Comp.{Comp}
 use Rattle.table.specs.Words.{partsIn, locsIn, defsIn, arityOf, bodyOf, headAt, nextAt, scopeAt, namesAt}
 use Rattle.table.specs.Valid.{index, slotOk, refOk, headOk, nextOk, scriptOk, markOk, compOk, timerOk}
-use Rattle.table.specs.Split.{lessRaw, timerIn, fresh, andThen, partsFrom, splitAt, timed, orElse, waited, passed}
+use Rattle.table.specs.Split.{timerIn, fresh, andThen, partsFrom, splitAt, timed, orElse, waited, passed}
 use Rattle.table.specs.Fire.{Tag, Left, ActedAt, valueIn, leftAt, argIn, loaded, becomesAt, handed, meetAt, aloneAt, togetherAt, leftBy, actOn, passedAll}
 use Rattle.table.proofs.Tests.{every-getD, every-append, Inner, inner, part-fine, script-fine, def-fine, CompFine, comp-fine, comp-ok}
 use Rattle.table.proofs.Places.{go-fine, out-fine, in-fine}

@@ -24,6 +24,7 @@ strip-first b l = go (strip l)
     zero-first : (t : Bool) → eqb b 0 ≡ t → getD (cut t b []) 0 0 ≡ b
     zero-first true e = sym (eqb-eq b 0 e)
     zero-first false e = refl
+
     go : (r : List ℕ) → getD (cut (isZero r b) b r) 0 0 ≡ b
     go [] = zero-first (eqb b 0) refl
     go (c ∷ r) = refl
@@ -35,6 +36,7 @@ strip-rest b l = go (strip l)
     none : (t : Bool) → drop 1 (cut t b []) ≡ []
     none true = refl
     none false = refl
+
     go : (r : List ℕ) → drop 1 (cut (isZero r b) b r) ≡ r
     go [] = none (eqb b 0)
     go (c ∷ r) = refl
@@ -70,7 +72,6 @@ four-bytes a b h k p q r s =
     let third = last-byte (a / 65_536) (b / 65_536) r (shift-3 a ∙ sym (top-byte a h) ∙ s ∙ top-byte b k ∙ sym (shift-3 b)) in
     let second = last-byte (a / 256) (b / 256) q (shift-2 a ∙ third ∙ sym (shift-2 b)) in
     last-byte a b p second
-
 
 four-bytes-injective : (a b : ℕ) (l m : List ℕ) → a < 4_294_967_296 → b < 4_294_967_296 → fourBytes a l ≡ fourBytes b m → (a ≡ b) × (l ≡ m)
 four-bytes-injective a b l m h k e =

@@ -17,28 +17,20 @@ use Rattle.terms.specs.Terms.Component.{comp}
 use Rattle.terms.specs.Substitution.{Env, env, sub, subP}
 use Rattle.terms.specs.Letters.{isLocation}
 use Rattle.terms.specs.Rules.{wait, split, pass}
-use Rattle.terms.specs.Clock.{ticksOf}
+use Rattle.terms.specs.Clock.{ticksOf, lessRaw}
 use Rattle.terms.proofs.Names.{and-inv}
-use Rattle.terms.proofs.Clock.{ticks-of, inf-of, expired-is, less-some, less-inf}
+use Rattle.terms.proofs.Clock.{expired-is, less-raw}
 use Rattle.table.specs.declared.Head.{Head}
 use Rattle.table.specs.declared.Head.the-variants.{Stop, Go, Out, In, Call}
 use Rattle.table.specs.declared.Comp.{Comp}
 use Rattle.table.specs.Words.{partsIn, locsIn, locName, headAt, nextAt, boundAt, scopeAt, namesAt}
 use Rattle.table.specs.Meaning.{partOf, joined, processAt, partAt, withTimer, envAt, markOf, processOf, means}
 use Rattle.table.specs.Valid.{headOk, nextOk, scriptOk, markOk}
-use Rattle.table.specs.Split.{lessRaw, timerIn, fresh, andThen, partsFrom, splitAt, timed, orElse, waited, passed}
+use Rattle.table.specs.Split.{timerIn, fresh, andThen, partsFrom, splitAt, timed, orElse, waited, passed}
 use Rattle.table.proofs.Tests.{Inner, inner, PartFine, part-fine, ScriptFine, script-fine, CompFine, held-once}
 use Rattle.table.proofs.Places.{out-fine, in-fine, process-is}
 
 -- ── timers ──
-pub less-raw : (t : ℕ) → ticksOf (lessRaw t) ≡ less (ticksOf t)
-unfolding lessRaw
-less-raw t = go (leb t 1_000_000) refl
-  where
-    go : (b : Bool) → leb t 1_000_000 ≡ b → ticksOf (cond b (t - 1) t) ≡ less (ticksOf t)
-    go true e = less-some t (leb-true t 1_000_000 e)
-    go false e = less-inf t t (leb-false t 1_000_000 e) (leb-false t 1_000_000 e)
-
 -- a part's own timer put for its timer changes nothing
 own-timer : (w : List ℕ) (f : ℕ → Process) (ys : List Name) (y : Name) (h : Head) (e : Env) → withTimer (ticksOf (timerIn h)) (sub (partOf w f ys y h) e) ≡ sub (partOf w f ys y h) e
 unfolding withTimer timerIn sub partOf

@@ -3,14 +3,11 @@ use Prim.Native.Nat.{ℕ, zero, suc, _-_}
 use mathlib.Core.List.{List, [], _∷_}
 use mathlib.Core.Bool.{Bool, true, false, cond}
 use lib.Dec.{eqb, leb, ltb}
+use Rattle.terms.specs.Clock.{lessRaw}
 use Rattle.table.specs.declared.Head.{Head}
 use Rattle.table.specs.declared.Head.the-variants.{Stop, Go, Out, In, Call}
 use Rattle.table.specs.declared.Comp.{Comp}
 use Rattle.table.specs.Words.{headAt, nextAt}
-
--- one less; every number above a million is inf, and stays
-unfoldable pub lessRaw : ℕ → ℕ
-lessRaw t = cond (leb t 1_000_000) (t - 1) t
 
 -- a part's own timer; 0 where it has none
 unfoldable pub timerIn : Head → ℕ

@@ -5,7 +5,6 @@ ghost use lib.ListN.{getD};
 ghost use Rattle.terms.specs.Names.{sameName};
 ghost use Rattle.table.specs.Words.{headAt, nextAt, lowAt, arityOf, bodyOf, nameAt};
 ghost use Rattle.table.specs.Tests.{keyName};
-
 use super::Head;
 use super::Key;
 

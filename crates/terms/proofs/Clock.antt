@@ -7,7 +7,7 @@ use lib.Dec.{eqb, leb}
 use borrow.Author.Tests.{leb-true, leb-false, le-leb, lt-leb, eq-eqb, ne-eqb}
 use Rattle.terms.specs.Terms.{Timer, less, expired, due}
 use Rattle.terms.specs.Terms.Timer.{ticks, inf}
-use Rattle.terms.specs.Clock.{ticksOf}
+use Rattle.terms.specs.Clock.{ticksOf, lessRaw}
 
 pub ticks-of : (n : ℕ) → n ≤ 1_000_000 → ticksOf n ≡ ticks n
 unfolding ticksOf
@@ -37,3 +37,12 @@ less-some n h = rw (ticks-of n h) (ticks-of (n - 1) (omega arith))
 pub less-inf : (m n : ℕ) → 1_000_000 < m → 1_000_000 < n → ticksOf m ≡ less (ticksOf n)
 unfolding less
 less-inf m n h k = rw (inf-of m h, inf-of n k)
+
+-- less-one on the numbers is less-one on the timers
+pub less-raw : (t : ℕ) → ticksOf (lessRaw t) ≡ less (ticksOf t)
+unfolding lessRaw
+less-raw t = go (leb t 1_000_000) refl
+  where
+    go : (b : Bool) → leb t 1_000_000 ≡ b → ticksOf (cond b (t - 1) t) ≡ less (ticksOf t)
+    go true e = less-some t (leb-true t 1_000_000 e)
+    go false e = less-inf t t (leb-false t 1_000_000 e) (leb-false t 1_000_000 e)

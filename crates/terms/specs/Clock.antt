@@ -1,5 +1,5 @@
 -- What the contracts of the timer type cite: the term's timer that the code's number stands for.
-use Prim.Native.Nat.{ℕ}
+use Prim.Native.Nat.{ℕ, _-_}
 use mathlib.Core.Bool.{Bool, true, false, cond}
 use lib.Dec.{leb}
 use Rattle.terms.specs.declared.Timer.{Timer}
@@ -14,6 +14,10 @@ ticksOf n = cond (leb n 1_000_000) (ticks n) inf
 
 abbrev pub timerOf : Timer → T.Timer
 timerOf t = ticksOf (t .raw)
+
+-- the number after a tick: inf stays as it is
+unfoldable pub lessRaw : ℕ → ℕ
+lessRaw n = cond (leb n 1_000_000) (n - 1) n
 
 -- what the constructor answers: a timer of n ticks, or that n is out of range
 unfoldable pub madeOf : ℕ → Made

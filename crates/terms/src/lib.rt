@@ -13,7 +13,7 @@
 ghost use mathlib.Core.Path.{_≡_};
 ghost use Rattle.terms.specs.Terms.{less, expired, due};
 ghost use Rattle.terms.specs.Terms.Timer.{inf};
-ghost use Rattle.terms.specs.Clock.{timerOf, madeOf};
+ghost use Rattle.terms.specs.Clock.{timerOf, madeOf, lessRaw};
 
 // A timer: 0 to 1,000,000 ticks, or inf. Every greater number stands for inf, so that no content is without a meaning.
 pub struct Timer {
@@ -48,11 +48,11 @@ impl Timer {
 
     // The timer after a tick; inf stays inf.
     pub fn less_one(self) -> Timer
-        ensures { λ r. ⌜ timerOf r ≡ less (timerOf self) ⌝ }
+        ensures { λ r. ⌜ (timerOf r ≡ less (timerOf self)) × (r .raw ≡ lessRaw (self .raw)) ⌝ }
     {
         let n = self.raw;
         if 1_000_000 < n {
-            return Timer::INF;
+            return Timer { raw: n };
         }
         if n == 0 {
             return self;

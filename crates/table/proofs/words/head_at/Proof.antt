@@ -67,31 +67,31 @@ field-requires-20 : tie.Need-field-requires-20
 field-requires-20 c κs = search needs
 
 returns : tie.Need-returns
-returns c = 
+returns c =
     let k = c .before .before .before .before .before .args in
     rw (c .before .before .field2 .ensures, c .before .field3 .ensures, c .field4 .ensures)
     (sym (head-go (k .w .now) (k .i) (sym (c .before .before .before .before .field .ensures) ∙ c .before .before .before .match .keys1)))
 
 returns-2 : tie.Need-returns-2
-returns-2 c = 
+returns-2 c =
     let k = c .before .before .before .before .before .before .before .args in
     rw (c .before .before .before .before .field5 .ensures, c .before .before .before .field6 .ensures, c .before .before .field7 .ensures, c .before .field8 .ensures, c .field9 .ensures)
     (sym (head-out (k .w .now) (k .i) (sym (c .before .before .before .before .before .before .field .ensures) ∙ c .before .before .before .before .before .match .keys2)))
 
 returns-3 : tie.Need-returns-3
-returns-3 c = 
+returns-3 c =
     let k = c .before .before .before .before .before .before .before .args in
     rw (c .before .before .before .before .field10 .ensures, c .before .before .before .field11 .ensures, c .before .before .field12 .ensures, c .before .field13 .ensures, c .field14 .ensures)
     (sym (head-in (k .w .now) (k .i) (sym (c .before .before .before .before .before .before .field .ensures) ∙ c .before .before .before .before .before .match .keys3)))
 
 returns-4 : tie.Need-returns-4
-returns-4 c = 
+returns-4 c =
     let k = c .before .before .before .before .before .before .before .before .args in
     rw (c .before .before .before .before .before .field15 .ensures, c .before .before .before .before .field16 .ensures, c .before .before .before .field17 .ensures, c .before .before .field18 .ensures, c .before .field19 .ensures, c .field20 .ensures)
     (sym (head-call (k .w .now) (k .i) (sym (c .before .before .before .before .before .before .before .field .ensures) ∙ c .before .before .before .before .before .before .match .keys4)))
 
 returns-5 : tie.Need-returns-5
-returns-5 c = 
+returns-5 c =
     let k = c .before .before .args in
     let e = c .before .field .ensures in
     let n = c .match .rest in

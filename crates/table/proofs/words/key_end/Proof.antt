@@ -11,7 +11,7 @@ use Rattle.table.proofs.words.key_end.Tie as tie
 
 returns : tie.Need-returns
 unfolding nameAt
-returns c = 
+returns c =
     let k = c .before .before .args in
     let past : (i : ℕ) → length (k .s .now) ≤ i → getD (k .s .now) i 0 ≡ 0 = λ i h. List·getD-eq-default (k .s .now) 0 h in
     rw (past (k .o) (omega arith), past (k .o + 1) (omega arith), past (k .o + 2) (omega arith), past (k .o + 3) (omega arith))
