@@ -1,0 +1,49 @@
+-- What the answer of a tick stands for: document 01, *The tick at l* and *Questions, asked downward*.
+use Prim.Native.Nat.{ℕ, _<_}
+use mathlib.Core.List.{List, [], _∷_}
+use mathlib.Core.Bool.{Bool, true, false, cond}
+use mathlib.Core.Path.{_≡_}
+use lib.Dec.{leb, ltb}
+use lib.ListN.{length}
+use Rattle.terms.specs.Terms.{Component}
+use Rattle.terms.specs.Rules.{Answer, _>>=_, tick}
+use Rattle.terms.specs.Rules.Answer.{refused, accepted}
+use Rattle.table.specs.declared.Comp.{Comp}
+use Rattle.table.specs.declared.State.{State}
+use Rattle.table.specs.Words.{locsIn, locName}
+use Rattle.table.specs.Meaning.{defsOf, compsOf, netOf}
+use Rattle.table.specs.Valid.{valid}
+use Rattle.table.specs.Fire.{passedAll}
+use Rattle.calls_act.specs.Acted.{asked}
+use Rattle.calls_tick.specs.declared.Ticked.{Ticked}
+use Rattle.calls_tick.specs.declared.Passed.{Passed}
+
+-- question 13: at most 256 components
+unfoldable pub room : List Component → Answer (List Component)
+room cs = asked 13 (leb (length cs) 256) (accepted cs)
+
+-- the tick at the location numbered l: questions 8, 12 and 13
+unfoldable pub tickRule : List ℕ → State → ℕ → Answer (List Component)
+tickRule w st l = asked 8 (ltb l (locsIn w)) (tick (defsOf w) (locName w l) (netOf w st) >>= room)
+
+-- question 17 first
+unfoldable pub tickAnswer : List ℕ → State → ℕ → Answer (List Component)
+tickAnswer w st l = asked 17 (valid w st) (tickRule w st l)
+
+abbrev pub refusal : ℕ → State → Ticked
+refusal n st = record { code = n; state = st }
+
+-- an accepted tick: the code 0, the next components, and question 17 still answered by yes
+pub record Took (w : List ℕ) (cs : List Component) (r : Ticked) : Type 0 where
+  pub code : r .code ≡ 0
+  pub comps : netOf w (r .state) ≡ cs
+  pub good : valid w (r .state) ≡ true
+
+-- the code's answer r stands for the answer of the rules
+abbrev pub ticksAs : List ℕ → State → Answer (List Component) → Ticked → Type 0
+ticksAs w st (refused n) r = r ≡ refusal n st
+ticksAs w st (accepted cs) r = Took w cs r
+
+-- what the tick's pass over all components gives: it is full if there is no room, else the components are these
+abbrev pub passes : List Comp → Passed → Type 0
+passes cs r = (r .full ≡ true → 256 < length cs) × (r .full ≡ false → (compsOf (r .state) ≡ cs) × (r .state .n ≡ length cs) × (length cs < 257))

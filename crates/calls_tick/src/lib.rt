@@ -1,0 +1,38 @@
+// Layer 3, calls: when a tick is allowed, and the tick.
+//
+//   specs/Heard   channels heard at a location, and what presses there
+//   specs/Turn    the tick, one component written at a time
+//   specs/Ticked  what the answer of a tick stands for
+//   forced        is the tick at a location not allowed?
+//   pass          every component in the tick at a location
+//   tick          the tick at a location of a valid table
+pub mod forced;
+pub mod pass;
+
+use table::Comp;
+use table::State;
+
+// The channels that are heard: a 1 for each.
+pub struct Ears {
+    pub y: [u32; 64],
+}
+
+// One turn of a component in a tick: the component written, the place and one of the part that comes next or 0, and 1 once it is done with.
+pub struct Turn {
+    pub comp: Comp,
+    pub next: u32,
+    pub step: usize,
+}
+
+// Every component in a tick; full where they are more than 256.
+pub struct Passed {
+    pub full: bool,
+    pub state: State,
+}
+
+// The answer of a tick: code 0 with the next state, or the number of the question answered by no with the state as it was.
+#[repr(C)]
+pub struct Ticked {
+    pub code: u32,
+    pub state: State,
+}

@@ -1,0 +1,176 @@
+// Every component in the tick at l, one written at a time. A component that splits has a turn for each of its parts.
+ghost use mathlib.Core.Path.{_≡_};
+ghost use mathlib.Core.Bool.{true};
+ghost use Prim.Native.Nat.{_<_, _≤_};
+ghost use Rattle.table.specs.Words.{partsIn, headAt};
+ghost use Rattle.table.specs.Meaning.{compsOf};
+ghost use Rattle.table.specs.Valid.{scriptOk, compOk, valid, headOk};
+ghost use Rattle.table.specs.Split.{timerIn, fresh, timed};
+ghost use Rattle.table.specs.Fire.{passedAll};
+ghost use Rattle.terms.specs.Clock.{lessRaw};
+ghost use Rattle.calls_tick.specs.Turn.{whole, partOf, elseTurn, waitTurn, firstTurn, turnOf};
+ghost use Rattle.calls_tick.specs.Ticked.{passes};
+use super::Passed;
+use super::Turn;
+use table::Comp;
+use table::Head;
+use table::State;
+use table::words;
+use terms::Timer;
+
+fn timer_in(h: Head) -> u32
+    ensures { λ r. ⌜ r ≡ timerIn h ⌝ }
+{
+    match h {
+        Head::Stop => 0,
+        Head::Go(t, _, _) => t,
+        Head::Out(_, t, _, _, _) => t,
+        Head::In(_, t, _, _, _) => t,
+        Head::Call(_, _, _, _, _, _) => 0,
+    }
+}
+
+// The part at a place as a component of its own.
+pub fn fresh_at(w: &[u32; 99592], l: u32, vals: [u32; 8], place: u32) -> Comp
+    requires { ⌜ place < 4096 ⌝ }
+    ensures { λ r. ⌜ r ≡ fresh (now (w .entry)) l vals place ⌝ }
+{
+    let h = words::head_at(w, words::wide(place));
+    Comp {
+        loc: l,
+        mark: 64,
+        place: place,
+        timer: timer_in(h),
+        vals: vals,
+    }
+}
+
+fn whole_turn(c: Comp) -> Turn
+    ensures { λ r. ⌜ r ≡ whole c ⌝ }
+{
+    Turn {
+        comp: c,
+        next: 0,
+        step: 1,
+    }
+}
+
+// c, with its timer less one.
+fn timed_turn(c: Comp) -> Turn
+    ensures { λ r. ⌜ r ≡ whole (timed c (lessRaw (c .timer))) ⌝ }
+{
+    let t = Timer { raw: c.timer };
+    let u = t.less_one();
+    let vals = c.vals;
+    whole_turn(Comp {
+        loc: c.loc,
+        mark: c.mark,
+        place: c.place,
+        timer: u.raw,
+        vals: vals,
+    })
+}
+
+fn part_turn(w: &[u32; 99592], c: Comp, place: u32) -> Turn
+    requires { ⌜ place < 4096 ⌝ }
+    ensures { λ r. ⌜ r ≡ partOf (now (w .entry)) c place ⌝ }
+{
+    let vals = c.vals;
+    let d = fresh_at(w, c.loc, vals, place);
+    let next = words::next_at(w, words::wide(place));
+    if next == 0 {
+        return Turn {
+            comp: d,
+            next: next,
+            step: 1,
+        };
+    }
+    Turn {
+        comp: d,
+        next: next,
+        step: 0,
+    }
+}
+
+fn else_turn(w: &[u32; 99592], c: Comp, q: u32) -> Turn
+    requires { ⌜ q < 4096 ⌝ }
+    ensures { λ r. ⌜ r ≡ elseTurn (now (w .entry)) c q ⌝ }
+{
+    let t = Timer { raw: c.timer };
+    if t.is_expired() {
+        return part_turn(w, c, q);
+    }
+    timed_turn(c)
+}
+
+fn wait_turn(w: &[u32; 99592], c: Comp, h: Head) -> Turn
+    requires { ⌜ (headOk (now w) (c .place) h ≡ true) × (c .place < 4096) ⌝ }
+    ensures { λ r. ⌜ r ≡ waitTurn (now (w .entry)) c h ⌝ }
+{
+    match h {
+        Head::Stop => whole_turn(c),
+        Head::Go(_, _, _) => timed_turn(c),
+        Head::Out(_, _, _, _, q) => else_turn(w, c, q),
+        Head::In(_, _, _, _, q) => else_turn(w, c, q),
+        Head::Call(_, _, _, _, _, _) => whole_turn(c),
+    }
+}
+
+fn first_turn(w: &[u32; 99592], l: u32, c: Comp) -> Turn
+    requires { ⌜ (scriptOk (now w) ≡ true) × (compOk (now w) c ≡ true) ⌝ }
+    ensures { λ r. ⌜ r ≡ firstTurn (now (w .entry)) l c ⌝ }
+{
+    if c.mark < 64 {
+        if c.mark == l {
+            return part_turn(w, c, c.place);
+        }
+        return whole_turn(c);
+    }
+    if c.loc == l {
+        let h = words::head_at(w, words::wide(c.place));
+        return wait_turn(w, c, h);
+    }
+    whole_turn(c)
+}
+
+fn turn(w: &[u32; 99592], l: u32, c: Comp, next: u32) -> Turn
+    requires { ⌜ (scriptOk (now w) ≡ true) × (compOk (now w) c ≡ true) × (next ≤ partsIn (now w)) ⌝ }
+    ensures { λ r. ⌜ r ≡ turnOf (now (w .entry)) l c next ⌝ }
+{
+    if next == 0 {
+        return first_turn(w, l, c);
+    }
+    part_turn(w, c, next - 1)
+}
+
+// Every component in the tick at l.
+pub fn pass_all(w: &[u32; 99592], st: State, l: u32) -> Passed
+    requires { ⌜ valid (now w) st ≡ true ⌝ }
+    ensures { λ r. ⌜ passes (passedAll (now (w .entry)) l (compsOf st)) r ⌝ }
+{
+    let n = st.n;
+    let mut out = st;
+    let mut k: usize = 0;
+    let mut i: usize = 0;
+    let mut next: u32 = 0;
+    while i < n {
+        if 256 <= k {
+            return Passed {
+                full: true,
+                state: st,
+            };
+        }
+        let c = st.c[i];
+        let t = turn(w, l, c, next);
+        let d = t.comp;
+        out.c[k] = d;
+        k += 1;
+        next = t.next;
+        i += t.step;
+    }
+    out.n = k;
+    Passed {
+        full: false,
+        state: out,
+    }
+}
