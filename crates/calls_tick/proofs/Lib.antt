@@ -1,3 +1,4 @@
 pub mod Hearing
 pub mod Turns
 pub mod Passing
+pub mod Ticking

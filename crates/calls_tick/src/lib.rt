@@ -8,6 +8,7 @@
 //   tick          the tick at a location of a valid table
 pub mod forced;
 pub mod pass;
+pub mod tick;
 
 use table::Comp;
 use table::State;

@@ -1,0 +1,64 @@
+-- The tick on a valid table stands for the tick of the rules, with question 13 after it.
+-- By the laws of the forced test and of the pass on the table; what is left still passes question 17, since nothing is ever removed.
+use Prim.Native.Nat.{ℕ, _<_, _≤_}
+use native.Mathlib.Omega.{arith}
+use mathlib.Core.List.{List, [], _∷_, map}
+use mathlib.Core.Bool.{Bool, true, false, cond, _&&_}
+use mathlib.Core.Path.{_≡_, refl, sym, ap, subst, _∙_}
+use lib.Dec.{leb, ltb}
+use lib.ListN.{length, length-map}
+use borrow.Author.Tests.{lt-ltb, le-ltb, le-leb, lt-leb}
+use Rattle.terms.specs.Terms.{Component}
+use Rattle.terms.specs.Rules.{Answer, _>>=_, tick}
+use Rattle.terms.specs.Rules.Answer.{refused, accepted}
+use Rattle.terms.proofs.Names.{and-in}
+use Rattle.table.specs.declared.Comp.{Comp}
+use Rattle.table.specs.declared.State.{State}
+use Rattle.table.specs.Words.{locsIn, locName}
+use Rattle.table.specs.Meaning.{defsOf, means, compsOf, netOf}
+use Rattle.table.specs.Valid.{scriptOk, compOk, stateOk, valid}
+use Rattle.table.specs.Fire.{forcedAt, passedAll}
+use Rattle.table.proofs.Ticks.{tick-means}
+use Rattle.table.proofs.Kept.{tick-kept, tick-grows}
+use Rattle.calls_act.specs.Acted.{asked}
+use Rattle.calls_act.proofs.Positions.{valid-parts, length-comps}
+use Rattle.calls_tick.specs.declared.Ticked.{Ticked}
+use Rattle.calls_tick.specs.Ticked.{room, tickRule, refusal, Took, ticksAs}
+
+-- question 8
+pub tick-out : (w : List ℕ) (st : State) (l : ℕ) → locsIn w ≤ l → tickRule w st l ≡ refused 8
+unfolding tickRule
+tick-out w st l h = rw (le-ltb l (locsIn w) h)
+
+-- the tick at a location in range, on the table
+in-range : (w : List ℕ) (st : State) (l : ℕ) → valid w st ≡ true → l < locsIn w → tickRule w st l ≡ (cond (forcedAt w l (compsOf st)) (refused 12) (accepted (map (means w) (passedAll w l (compsOf st)))) >>= room)
+unfolding tickRule netOf
+in-range w st l v h =
+    let p = valid-parts w st v in
+    rw (lt-ltb l (locsIn w) h, tick-means w (p .0) l h (compsOf st) (p .1 .each))
+
+-- question 12
+pub tick-forced : (w : List ℕ) (st : State) (l : ℕ) → valid w st ≡ true → l < locsIn w → forcedAt w l (compsOf st) ≡ true → tickRule w st l ≡ refused 12
+tick-forced w st l v h e = in-range w st l v h ∙ rw e
+
+-- question 13
+pub tick-full : (w : List ℕ) (st : State) (l : ℕ) → valid w st ≡ true → l < locsIn w → forcedAt w l (compsOf st) ≡ false → 256 < length (passedAll w l (compsOf st)) → tickRule w st l ≡ refused 13
+unfolding room
+tick-full w st l v h e n = in-range w st l v h ∙ rw (e, length-map (passedAll w l (compsOf st)) (means w), lt-leb (length (passedAll w l (compsOf st))) 256 n)
+
+pub tick-done : (w : List ℕ) (st : State) (l : ℕ) → valid w st ≡ true → l < locsIn w → forcedAt w l (compsOf st) ≡ false → length (passedAll w l (compsOf st)) < 257
+    → tickRule w st l ≡ accepted (map (means w) (passedAll w l (compsOf st)))
+unfolding room
+tick-done w st l v h e n = in-range w st l v h ∙ rw (e, length-map (passedAll w l (compsOf st)) (means w), le-leb (length (passedAll w l (compsOf st))) 256 (omega arith))
+
+-- a state whose components are what the tick leaves
+pub tick-took : (w : List ℕ) (st next : State) (l : ℕ) → valid w st ≡ true → length (st .c) ≡ 256 → compsOf next ≡ passedAll w l (compsOf st) → next .n ≡ length (passedAll w l (compsOf st)) → length (passedAll w l (compsOf st)) < 257
+    → Took w (map (means w) (passedAll w l (compsOf st))) (record { code = 0; state = next })
+unfolding netOf valid stateOk
+tick-took w st next l v len e n b =
+    let p = valid-parts w st v in
+    record {
+      code = refl;
+      comps = ap (map (means w)) e;
+      good = and-in _ _ (p .0) (and-in _ _ (lt-ltb 0 (next .n) (omega (arith, n, tick-grows w l (compsOf st), length-comps st len (p .1 .few), p .1 .some))) (and-in _ _ (le-leb (next .n) 256 (omega (arith, n))) (rw e (tick-kept w (p .0) l (compsOf st) (p .1 .each)))));
+    }
