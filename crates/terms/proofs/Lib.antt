@@ -6,4 +6,5 @@ pub mod Forced
 pub mod Steps
 pub mod Same
 pub mod Clock
+pub mod Numbered
 pub mod Substitution
