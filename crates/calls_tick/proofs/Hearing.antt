@@ -51,7 +51,7 @@ some-more f xs j d h = ap (some f) (take-more xs j d h) ∙ some-append f (take 
 
 -- ── what is heard ──
 -- the channel of a head in range
-abbrev inEar : ℕ → Head → Type 0
+abbrev pub inEar : ℕ → Head → Type 0
 inEar n Stop = Unit {0}
 inEar n (Go t v p) = Unit {0}
 inEar n (Out h t v p q) = h < n

@@ -8,3 +8,12 @@ pub mod Ticks
 pub mod Kept
 pub mod Names
 pub mod WordsHead
+pub mod NamesClass
+pub mod NamesForm
+pub mod ValidBool
+pub mod ValidLists
+pub mod ValidScopes
+pub mod ValidParts
+pub mod NamesRows
+pub mod ValidDefs
+pub mod ValidWhole

@@ -1,14 +1,15 @@
 -- A name's letters determine the words that hold it: words below 2^32 with the same letters are the same.
 -- By induction on the bytes: the first byte and the stripped rest can be read off a stripped list, since what is cut off is zeros.
-use Prim.Native.Nat.{ℕ, zero, suc, _/_, _%_, _<_}
+use Prim.Native.Nat.{ℕ, _/_, _%_, _<_}
 use native.Mathlib.Omega.{arith}
 use mathlib.Core.List.{List, [], _∷_}
-use mathlib.Core.Bool.{Bool, true, false, cond, false≢true}
+use mathlib.Core.Bool.{Bool, true, false, cond}
 use mathlib.Core.Path.{_≡_, refl, ap, sym, _∙_}
 use lib.Dec.{eqb}
 use lib.ListN.{length, getD, drop}
+use borrow.Author.Tests.{eq-eqb, ne-eqb, eqb-true, eqb-false}
 use Rattle.terms.specs.Names.{Name, sameName}
-use Rattle.terms.proofs.Names.{eqb-eq, name-eq, name-refl}
+use Rattle.terms.proofs.Names.{eqb-eq, name-eq}
 use Rattle.table.specs.declared.Key.{Key}
 use Rattle.table.specs.Words.{fourBytes, isZero, strip, letters}
 use Rattle.table.specs.Tests.{keyName}
@@ -73,7 +74,7 @@ four-bytes a b h k p q r s =
     let second = last-byte (a / 256) (b / 256) q (shift-2 a ∙ third ∙ sym (shift-2 b)) in
     last-byte a b p second
 
-four-bytes-injective : (a b : ℕ) (l m : List ℕ) → a < 4_294_967_296 → b < 4_294_967_296 → fourBytes a l ≡ fourBytes b m → (a ≡ b) × (l ≡ m)
+pub four-bytes-injective : (a b : ℕ) (l m : List ℕ) → a < 4_294_967_296 → b < 4_294_967_296 → fourBytes a l ≡ fourBytes b m → (a ≡ b) × (l ≡ m)
 four-bytes-injective a b l m h k e =
     (four-bytes a b h k (ap (λ t. getD t 0 0) e) (ap (λ t. getD t 1 0) e) (ap (λ t. getD t 2 0) e) (ap (λ t. getD t 3 0) e), ap (drop 4) e)
 
@@ -102,3 +103,30 @@ keys-differ x y h k n = go (sameName (keyName x) (keyName y)) refl
     go : (t : Bool) → sameName (keyName x) (keyName y) ≡ t → t ≡ false
     go true e = absurd (n (key-injective x y h k (name-eq (keyName x) (keyName y) e)))
     go false e = refl
+
+-- the first words alone tell two names apart
+letters-first : (a b c d a₁ b₁ c₁ d₁ : ℕ) → a < 4_294_967_296 → a₁ < 4_294_967_296 → letters a b c d ≡ letters a₁ b₁ c₁ d₁ → a ≡ a₁
+unfolding letters
+letters-first a b c d a₁ b₁ c₁ d₁ h k e = four-bytes-injective a a₁ _ _ h k (strip-injective _ _ refl e) .0
+
+pub first-differs : (a b c d a₁ b₁ c₁ d₁ : ℕ) → a < 4_294_967_296 → a₁ < 4_294_967_296 → (a ≡ a₁ → ⊥)
+    → sameName (letters a b c d) (letters a₁ b₁ c₁ d₁) ≡ false
+first-differs a b c d a₁ b₁ c₁ d₁ h k n = go (sameName (letters a b c d) (letters a₁ b₁ c₁ d₁)) refl
+  where
+    go : (t : Bool) → sameName (letters a b c d) (letters a₁ b₁ c₁ d₁) ≡ t → t ≡ false
+    go true e = absurd (n (letters-first a b c d a₁ b₁ c₁ d₁ h k (name-eq (letters a b c d) (letters a₁ b₁ c₁ d₁) e)))
+    go false e = refl
+
+eqb-sym : (a b : ℕ) → eqb a b ≡ eqb b a
+eqb-sym a b = go (eqb a b) refl
+  where
+    go : (t : Bool) → eqb a b ≡ t → t ≡ eqb b a
+    go true e = sym (eq-eqb b a (sym (eqb-true a b e)))
+    go false e = sym (ne-eqb b a (λ z. eqb-false a b e (sym z)))
+
+pub name-sym : (u v : Name) → sameName u v ≡ sameName v u
+unfolding sameName
+name-sym [] [] = refl
+name-sym [] (b ∷ v) = refl
+name-sym (a ∷ u) [] = refl
+name-sym (a ∷ u) (b ∷ v) = rw (eqb-sym a b, name-sym u v)

@@ -69,7 +69,7 @@ ok-mapA f (accepted a) = refl
 
 -- ── heads that press ──
 -- an output and an input on its channel
-meets : Head → Head → Bool
+unfoldable pub meets : Head → Head → Bool
 meets Stop h = false
 meets (Go t v p) h = false
 meets (Out d t v p q) h = hears d h
@@ -92,7 +92,7 @@ meets-if c e (Out d t v p r) (In d₂ t₂ k p₂ q₂) q = rw q (go (eqb d d₂
     go true = refl
     go false = refl
 
-isDue : ℕ → Head → Bool
+unfoldable pub isDue : ℕ → Head → Bool
 isDue t Stop = false
 isDue t (Go u v p) = eqb t 0
 isDue t (Out d u v p q) = false
@@ -129,18 +129,18 @@ module _ (w : List ℕ) (good : scriptOk w ≡ true) where
       go true e = unfold ready in rw (marked-is w c e)
       go false e = unfold ready in rw (unmarked-is w c e) (loc-eqb w good (c .loc) l (f .loc) h)
 
-  alone-ok : (k : Kind) (c : Comp) → CompFine w c → ok (fire (defsOf w) (alone k (means w c))) ≡ ok (aloneAt w k c)
+  pub alone-ok : (k : Kind) (c : Comp) → CompFine w c → ok (fire (defsOf w) (alone k (means w c))) ≡ ok (aloneAt w k c)
   alone-ok k c f = sym (ap ok (alone-means w good k c f)) ∙ ok-mapA (firedOf w) (aloneAt w k c)
 
   pub together-ok : (c e : Comp) → CompFine w c → CompFine w e → ok (fire (defsOf w) (together (means w c) (means w e))) ≡ ok (togetherAt w c e)
   together-ok c e f g = sym (ap ok (together-means w good c e f g)) ∙ ok-mapA (firedOf w) (togetherAt w c e)
 
   -- a component ready at l: its mark and its location
-  record Ready (l : ℕ) (c : Comp) : Type 0 where
-    free : ltb (c .mark) 64 ≡ false
-    here : c .loc ≡ l
+  pub record Ready (l : ℕ) (c : Comp) : Type 0 where
+    pub free : ltb (c .mark) 64 ≡ false
+    pub here : c .loc ≡ l
 
-  is-ready : (l : ℕ) (c : Comp) → readyAt l c ≡ true → Ready l c
+  pub is-ready : (l : ℕ) (c : Comp) → readyAt l c ≡ true → Ready l c
   unfolding readyAt
   is-ready l c e = go (ltb (c .mark) 64) refl e
     where
@@ -149,7 +149,7 @@ module _ (w : List ℕ) (good : scriptOk w ≡ true) where
       go false q e = record { free = q; here = eqb-true (c .loc) l e }
 
   -- the partner e of a component c that is ready at l
-  partner-means : (l : ℕ) (c e : Comp) → l < locsIn w → CompFine w c → CompFine w e → Ready l c
+  pub partner-means : (l : ℕ) (c e : Comp) → l < locsIn w → CompFine w c → CompFine w e → Ready l c
       → (ready (locName w l) (means w e) && ok (fire (defsOf w) (together (means w c) (means w e)))) ≡ (readyAt l e && meets (headAt w (c .place)) (headAt w (e .place)))
   partner-means l c e h f g r = rw (ready-means l e h g, together-ok c e f g) (go (readyAt l e) refl)
     where
@@ -159,7 +159,7 @@ module _ (w : List ℕ) (good : scriptOk w ≡ true) where
           let s = is-ready l e q in
           unfold togetherAt in rw (r .free, s .free) (meets-if c e (headAt w (c .place)) (headAt w (e .place)) (eq-eqb (c .loc) (e .loc) (r .here ∙ sym (s .here))))
 
-  due-here : (c : Comp) → ltb (c .mark) 64 ≡ false → dueGo (means w c) ≡ isDue (c .timer) (headAt w (c .place))
+  pub due-here : (c : Comp) → ltb (c .mark) 64 ≡ false → dueGo (means w c) ≡ isDue (c .timer) (headAt w (c .place))
   unfolding partAt
   due-here c e =
       ap dueGo (unmarked-is w c e)

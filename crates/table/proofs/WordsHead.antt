@@ -1,8 +1,9 @@
--- The head of a part by its kind. Each kind's test decides, in their order.
+-- The head of a part by its kind.
+-- Each kind's test decides, in their order.
 use Prim.Native.Nat.{ℕ}
 use mathlib.Core.List.{List}
-use mathlib.Core.Path.{_≡_, refl}
-use borrow.Author.Tests.{eq-eqb, ne-eqb}
+use mathlib.Core.Path.{_≡_}
+use borrow.Author.Tests.{ne-eqb}
 use Rattle.table.specs.declared.Head.the-variants.{Stop, Go, Out, In, Call}
 use Rattle.table.specs.Words.{field, headAt}
 

@@ -1,16 +1,16 @@
 -- What the contracts of internal functions cite: a name by its four words, names at equal distances, and the parts of a part's test.
 use Prim.Native.Nat.{ℕ, suc, _+_, _*_, _≤_, _<_}
 use mathlib.Core.List.{List, [], _∷_}
-use mathlib.Core.Bool.{Bool, true, false, _&&_, _||_}
+use mathlib.Core.Bool.{Bool, _&&_, _||_}
 use mathlib.Core.Path.{_≡_}
-use lib.Dec.{eqb, ltb}
+use lib.Dec.{eqb, leb, ltb}
 use Rattle.terms.specs.Names.{Name}
 use Rattle.terms.specs.Letters.{Class, isCapital, isLittle}
 use Rattle.table.specs.declared.Head.{Head}
 use Rattle.table.specs.declared.Key.{Key}
 use Rattle.table.specs.declared.Sort.{Sort}
 use Rattle.table.specs.declared.Sort.the-variants.{Location, Small, Identifier}
-use Rattle.table.specs.Words.{chansIn, letters, nameAt, field, nextAt, lowAt, scopeAt}
+use Rattle.table.specs.Words.{partsIn, locsIn, chansIn, defsIn, letters, nameAt, field, nextAt, lowAt, scopeAt}
 use Rattle.table.specs.Valid.{timerOk, innerOk, headOk, nextOk, stacked, floor, lowOk}
 
 -- ── names ──
@@ -27,6 +27,10 @@ firstOf Identifier c = isCapital c || isLittle c
 -- name j of those that stand s words apart from o on
 unfoldable pub rowName : List ℕ → ℕ → ℕ → ℕ → Name
 rowName w o s j = nameAt w (o + j * s)
+
+-- ── counts ──
+unfoldable pub countsOk : List ℕ → Bool
+countsOk w = leb (partsIn w) 4_096 && (leb (locsIn w) 64 && (leb (chansIn w) 64 && leb (defsIn w) 32))
 
 -- ── parts ──
 -- what is known of a part whose scope is read: its place is one, and n is how many variables it has, which is at most 8

@@ -1,7 +1,18 @@
 // Layer 1, the table: what a network is in memory, what it stands for, and question 17.
+//
+//   specs/Words     the words of a script
+//   specs/Meaning   the network that a script and a state stand for
+//   specs/Valid     question 17
+//   specs/Tests     what the contracts of internal functions cite
+//   specs/Split     what a tick makes of a component
+//   specs/Fire      what an action makes of its components, and when a tick is allowed
+//   specs/Examples  small tables, computed
+//   words           reading a script's words, names, heads
+//   forms           the form of a name of each sort
+//   valid           question 17, answered
+mod forms;
+pub mod valid;
 pub mod words;
-
-ghost use mathlib.Core.Path.{_≡_};
 
 // A part without its inner processes: these are places.
 pub enum Head {

@@ -155,6 +155,18 @@ pub fn same_key(x: Key, y: Key) -> bool
     true
 }
 
+// Is x the name at o? Most names differ in their first word.
+pub fn is_named(w: &[u32; 99592], o: usize, x: Key) -> bool
+    ensures { λ r. ⌜ r ≡ sameName (nameAt (now (w .entry)) o) (keyName x) ⌝ }
+{
+    let a = word(w, o);
+    if a != x.a {
+        return false;
+    }
+    let y = key_at(w, o);
+    same_key(y, x)
+}
+
 // Do o1 and o2 have the same name?
 pub fn same_name(w: &[u32; 99592], o1: usize, o2: usize) -> bool
     ensures { λ r. ⌜ r ≡ sameName (nameAt (now (w .entry)) o1) (nameAt (now (w .entry)) o2) ⌝ }

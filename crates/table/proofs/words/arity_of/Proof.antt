@@ -1,8 +1,8 @@
 -- The word that the definition names.
 -- By its definition.
 use mathlib.Core.Path.{refl}
-use Rattle.table.specs.Words.{arityOf}
 use borrow.Author.Needs.{needs}
+use Rattle.table.specs.Words.{arityOf}
 use Rattle.table.proofs.words.arity_of.Statement.{statement}
 use Rattle.table.proofs.words.arity_of.Tie as tie
 

@@ -1,8 +1,8 @@
 -- The head's constructor is that of the kind that the match found.
 -- By the law of that kind, with each field read.
-use mathlib.Core.Path.{_≡_, refl, sym, ap, _∙_}
-use Rattle.table.proofs.WordsHead.{head-go, head-out, head-in, head-call, head-stop}
+use mathlib.Core.Path.{sym, _∙_}
 use borrow.Author.Needs.{needs}
+use Rattle.table.proofs.WordsHead.{head-go, head-out, head-in, head-call, head-stop}
 use Rattle.table.proofs.words.head_at.Statement.{statement}
 use Rattle.table.proofs.words.head_at.Tie as tie
 

@@ -1,11 +1,11 @@
 -- The words of a name that may run past the script's end.
 -- By the definition of a name and of a word past the end.
-use native.Mathlib.Omega.{arith}
-use mathlib.Core.Path.{_≡_, refl, sym, ap, _∙_}
-use lib.ListN.{length, getD, List·getD-eq-default}
-use Rattle.table.specs.Words.{nameAt}
 use Prim.Native.Nat.{ℕ, _+_, _≤_}
+use native.Mathlib.Omega.{arith}
+use mathlib.Core.Path.{_≡_}
+use lib.ListN.{length, getD, List·getD-eq-default}
 use borrow.Author.Needs.{needs}
+use Rattle.table.specs.Words.{nameAt}
 use Rattle.table.proofs.words.key_end.Statement.{statement}
 use Rattle.table.proofs.words.key_end.Tie as tie
 

@@ -1,7 +1,7 @@
 -- The field that the definition names.
 -- By its definition.
-use Rattle.table.specs.Words.{lowAt}
 use borrow.Author.Needs.{needs}
+use Rattle.table.specs.Words.{lowAt}
 use Rattle.table.proofs.words.low_at.Statement.{statement}
 use Rattle.table.proofs.words.low_at.Tie as tie
 

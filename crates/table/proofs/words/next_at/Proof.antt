@@ -1,7 +1,7 @@
 -- The field that the definition names.
 -- By its definition.
-use Rattle.table.specs.Words.{nextAt}
 use borrow.Author.Needs.{needs}
+use Rattle.table.specs.Words.{nextAt}
 use Rattle.table.proofs.words.next_at.Statement.{statement}
 use Rattle.table.proofs.words.next_at.Tie as tie
 

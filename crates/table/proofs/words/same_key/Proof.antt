@@ -1,12 +1,12 @@
 -- Two names are the same where their four words are: equal words by reflexivity, and a word that differs tells the names apart,
 -- since the letters determine the words.
+use native.Mathlib.Omega.{arith}
 use mathlib.Core.Path.{_≡_, sym, ap}
 use mathlib.Core.Bool.{false}
-use native.Mathlib.Omega.{arith}
 use Rattle.terms.specs.Names.{sameName}
 use Rattle.terms.proofs.Names.{name-refl}
 use Rattle.table.specs.Tests.{keyName}
-use Rattle.table.proofs.Names.{Words, keys-differ}
+use Rattle.table.proofs.Names.{keys-differ}
 use Rattle.table.proofs.words.same_key.Statement.{statement}
 use Rattle.table.proofs.words.same_key.Tie as tie
 

@@ -1,27 +1,21 @@
 -- Within the words the word itself, past their end 0.
 -- By the test of the length.
 use native.Mathlib.Omega.{arith}
-use mathlib.Core.Path.{_≡_, sym}
+use mathlib.Core.Path.{sym}
 use lib.ListN.{List·getD-eq-default}
 use borrow.Author.Needs.{needs}
 use Rattle.table.proofs.words.word_in.Statement.{statement}
 use Rattle.table.proofs.words.word_in.Tie as tie
-use Rattle.table.proofs.words.word_in.Reads as reads
-use Rattle.table.proofs.words.word_in.Lts as lts
 
--- src/words.rt:31:16
 mul-result : tie.Need-mul-result
 mul-result c = search needs
 
--- src/words.rt:31:16
 shared-slice-read-result : tie.Need-shared-slice-read-result
 shared-slice-read-result c = search needs
 
--- src/words.rt:31:9
 returns : tie.Need-returns
 returns c = search needs
 
--- src/words.rt:27:1
 returns-2 : tie.Need-returns-2
 returns-2 c = sym (List·getD-eq-default (c .before .args .s .now) 0 (omega arith))
 

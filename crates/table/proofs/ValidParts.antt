@@ -1,0 +1,96 @@
+-- The tests of a part, by its kind and by what comes after it.
+-- By the definitions, at what the code has read.
+use Prim.Native.Nat.{ℕ, zero, suc, _+_, _≤_, _<_}
+use native.Mathlib.Omega.{arith}
+use mathlib.Core.List.{List, [], _∷_}
+use mathlib.Core.Bool.{Bool, true, false, _&&_}
+use mathlib.Core.Path.{_≡_, refl, ap, _∙_}
+use lib.Dec.{eqb, leb, ltb}
+use lib.ListN.{length, getD, take}
+use lib.Seq.{getD-take}
+use borrow.Author.Tests.{ltb-true, le-leb, lt-leb}
+use Rattle.terms.specs.Same.{every}
+use Rattle.terms.proofs.Names.{and-inv}
+use Rattle.table.specs.declared.Head.the-variants.{Stop}
+use Rattle.table.specs.Words.{field, headAt, nextAt, lowAt, scopeAt}
+use Rattle.table.specs.Valid.{alike, innerOk, nextOk, lowOk, scopeOk, treeOk, partOk, stacked, floor, headOk}
+use Rattle.table.specs.Tests.{restOk, endOk}
+use Rattle.table.proofs.ValidBool.{and-false}
+use Rattle.table.proofs.ValidLists.{every-all, every-miss}
+
+-- ── what comes after a part ──
+module _ (w : List ℕ) (i f : ℕ) where
+  pub end-last : nextAt w i ≡ 0 → endOk w i f ≡ eqb (lowAt w i) f
+  unfolding endOk nextOk lowOk
+  end-last e = rw e
+
+  pub end-next : (j : ℕ) → nextAt w i ≡ suc j → endOk w i f ≡ (innerOk w i j (scopeAt w i) && (eqb (suc j) f && eqb (lowAt w i) (lowAt w j)))
+  unfolding endOk nextOk lowOk
+  end-next j e = rw e
+
+pub inner-below : (w : List ℕ) (i p : ℕ) (os : List ℕ) → innerOk w i p os ≡ true → p < i
+unfolding innerOk
+inner-below w i p os e = ltb-true p i (and-inv (ltb p i) (alike (scopeAt w p) os) e .0)
+
+-- ── a call's arguments ──
+abbrev pub args : List ℕ → ℕ → List ℕ
+args w i = field w i 17 ∷ field w i 18 ∷ field w i 19 ∷ field w i 20 ∷ []
+
+args-at : (w : List ℕ) (i k : ℕ) → k < 4 → getD (args w i) k 0 ≡ field w i (17 + k)
+args-at w i zero h = refl
+args-at w i (suc zero) h = refl
+args-at w i (suc (suc zero)) h = refl
+args-at w i (suc (suc (suc zero))) h = refl
+args-at w i (suc (suc (suc (suc k)))) h = absurd (omega arith)
+
+in-front : (n : ℕ) (xs : List ℕ) (k : ℕ) → k < length (take n xs) → (k < n) × (k < length xs)
+in-front zero [] k h = absurd (omega arith)
+in-front zero (x ∷ xs) k h = absurd (omega arith)
+in-front (suc n) [] k h = absurd (omega arith)
+in-front (suc n) (x ∷ xs) zero h = (omega arith, omega arith)
+in-front (suc n) (x ∷ xs) (suc k) h = let r = in-front n xs k (omega arith) in (omega arith, omega arith)
+
+front-in : (n : ℕ) (xs : List ℕ) (k : ℕ) → k < n → k < length xs → k < length (take n xs)
+front-in zero xs k h b = absurd (omega arith)
+front-in (suc n) [] k h b = absurd (omega arith)
+front-in (suc n) (x ∷ xs) zero h b = omega arith
+front-in (suc n) (x ∷ xs) (suc k) h b = let r = front-in n xs k (omega arith) (omega arith) in omega arith
+
+module _ (w : List ℕ) (i : ℕ) (f : ℕ → Bool) (m : ℕ) where
+  pub args-all : ((k : ℕ) → k < m → k < 4 → f (field w i (17 + k)) ≡ true) → every f (take m (args w i)) ≡ true
+  args-all h =
+      every-all f 0 (take m (args w i))
+      (λ k b. let r = in-front m (args w i) k b in ap f (getD-take m (args w i) k 0 (r .0) ∙ args-at w i k (r .1)) ∙ h k (r .0) (r .1))
+
+  pub args-miss : (k : ℕ) → k < m → k < 4 → f (field w i (17 + k)) ≡ false → every f (take m (args w i)) ≡ false
+  args-miss k b c e = every-miss f 0 (take m (args w i)) k (front-in m (args w i) k b c) (ap f (getD-take m (args w i) k 0 b ∙ args-at w i k c) ∙ e)
+
+-- ── the whole part ──
+module _ (w : List ℕ) (i : ℕ) where
+  pub part-is : leb (field w i 0) 4 ≡ true → scopeOk w i ≡ true → partOk w i ≡ restOk w i (headAt w i)
+  unfolding partOk treeOk restOk
+  part-is p q = rw (p, q)
+
+  pub part-scope : scopeOk w i ≡ false → partOk w i ≡ false
+  unfolding partOk
+  part-scope e = simp (e, and-false)
+
+  pub part-kind : leb (field w i 0) 4 ≡ false → partOk w i ≡ false
+  unfolding partOk
+  part-kind e = rw e
+
+  pub rest-stop : restOk w i Stop ≡ endOk w i i
+  unfolding restOk headOk stacked floor endOk
+  rest-stop = refl
+
+  pub scope-passes : field w i 8 ≤ 8 → every (λ o. ltb o 99_589) (scopeAt w i) ≡ true → scopeOk w i ≡ true
+  unfolding scopeOk
+  scope-passes h e = rw (le-leb (field w i 8) 8 h, e)
+
+  pub scope-large : 8 < field w i 8 → scopeOk w i ≡ false
+  unfolding scopeOk
+  scope-large h = rw (lt-leb (field w i 8) 8 h)
+
+  pub scope-outside : every (λ o. ltb o 99_589) (scopeAt w i) ≡ false → scopeOk w i ≡ false
+  unfolding scopeOk
+  scope-outside e = simp (e, and-false)

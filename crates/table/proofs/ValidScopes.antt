@@ -1,0 +1,186 @@
+-- Scopes as the words of a part have them: how long, what stands at a slot, and when an inner process has the scope that it needs.
+-- By the eight words that hold a scope, of which the first n are in use.
+use Prim.Native.Nat.{ℕ, zero, suc, _+_, _-_, _≤_, _<_}
+use native.Mathlib.Omega.{arith}
+use native.Mathlib.Numerals.{add-one}
+use mathlib.Core.List.{List, [], _∷_, _++_, map}
+use mathlib.Core.Bool.{Bool, true, false, cond, _&&_}
+use mathlib.Core.Path.{_≡_, refl, ap, sym, _∙_}
+use lib.Dec.{eqb, leb, ltb}
+use lib.ListN.{length, getD, take, length-append, length-map}
+use lib.Seq.{length-take-le, getD-take, take-suc}
+use borrow.Author.Tests.{le-leb, lt-ltb, le-ltb, leb-true}
+use Rattle.terms.specs.Names.{Name, sameName}
+use Rattle.terms.specs.Same.{every}
+use Rattle.table.specs.Words.{locsIn, nameAt, field, atMost8, ownAt, scopeAt, namesAt}
+use Rattle.table.specs.Valid.{alike, index, slotOk, refOk, innerOk, entered}
+use Rattle.table.specs.Tests.{Scoped, slots}
+use Rattle.table.proofs.ValidBool.{and-false, and-true}
+use Rattle.table.proofs.ValidLists.{every-all, every-miss, alike-all, alike-miss, alike-uneven, index-hit, index-none}
+
+-- ── the eight words ──
+pub slots-at : (w : List ℕ) (i k : ℕ) → k < 8 → getD (slots w i) k 0 ≡ field w i (9 + k)
+unfolding slots
+slots-at w i zero h = refl
+slots-at w i (suc zero) h = refl
+slots-at w i (suc (suc zero)) h = refl
+slots-at w i (suc (suc (suc zero))) h = refl
+slots-at w i (suc (suc (suc (suc zero)))) h = refl
+slots-at w i (suc (suc (suc (suc (suc zero))))) h = refl
+slots-at w i (suc (suc (suc (suc (suc (suc zero)))))) h = refl
+slots-at w i (suc (suc (suc (suc (suc (suc (suc zero))))))) h = refl
+slots-at w i (suc (suc (suc (suc (suc (suc (suc (suc k)))))))) h = absurd (omega arith)
+
+slots-length : (w : List ℕ) (i : ℕ) → length (slots w i) ≡ 8
+unfolding slots
+slots-length w i = refl
+
+pub front-length : (w : List ℕ) (i n : ℕ) → n ≤ 8 → length (take n (slots w i)) ≡ n
+front-length w i n h = length-take-le n (slots w i) (omega (arith, slots-length w i))
+
+pub front-at : (w : List ℕ) (i n k : ℕ) → n ≤ 8 → k < n → getD (take n (slots w i)) k 0 ≡ field w i (9 + k)
+front-at w i n k h b = getD-take n (slots w i) k 0 b ∙ slots-at w i k (omega arith)
+
+pub slots-alike : (w : List ℕ) (p i n : ℕ) → n ≤ 8 → ((k : ℕ) → k < n → field w p (9 + k) ≡ field w i (9 + k))
+    → alike (take n (slots w p)) (take n (slots w i)) ≡ true
+slots-alike w p i n h e =
+    alike-all (take n (slots w p)) (take n (slots w i)) (front-length w p n h ∙ sym (front-length w i n h))
+    (λ k b. let c : k < n = omega (arith, front-length w p n h) in front-at w p n k h c ∙ e k c ∙ sym (front-at w i n k h c))
+
+pub slots-differ : (w : List ℕ) (p i n k : ℕ) → n ≤ 8 → k < n → (field w p (9 + k) ≡ field w i (9 + k) → ⊥)
+    → alike (take n (slots w p)) (take n (slots w i)) ≡ false
+slots-differ w p i n k h b z =
+    alike-miss (take n (slots w p)) (take n (slots w i)) k (omega (arith, front-length w p n h)) (omega (arith, front-length w i n h))
+    (λ e. z (sym (front-at w p n k h b) ∙ e ∙ front-at w i n k h b))
+
+-- ── a scope ──
+pub at-most : (n : ℕ) → atMost8 n ≤ 8
+at-most n = go (leb n 8) refl
+  where
+    go : (b : Bool) → leb n 8 ≡ b → cond b n 8 ≤ 8
+    go true e = leb-true n 8 e
+    go false e = omega arith
+
+pub any-scope : (w : List ℕ) (p : ℕ) → scopeAt w p ≡ take (atMost8 (field w p 8)) (slots w p)
+unfolding scopeAt slots
+any-scope w p = refl
+
+pub any-length : (w : List ℕ) (p : ℕ) → length (scopeAt w p) ≡ atMost8 (field w p 8)
+any-length w p = ap length (any-scope w p) ∙ front-length w p (atMost8 (field w p 8)) (at-most (field w p 8))
+
+pub map-at : (f : ℕ → Name) (xs : List ℕ) (k : ℕ) → k < length xs → getD (map f xs) k [] ≡ f (getD xs k 0)
+map-at f [] k b = absurd (omega arith)
+map-at f (x ∷ xs) zero b = refl
+map-at f (x ∷ xs) (suc k) b = map-at f xs k (omega arith)
+
+module _ (w : List ℕ) (i n : ℕ) (s : Scoped w i n) where
+  pub count-is : atMost8 (field w i 8) ≡ n
+  count-is = rw (sym (s .count), le-leb n 8 (s .small))
+
+  pub scope-is : scopeAt w i ≡ take n (slots w i)
+  scope-is = any-scope w i ∙ ap (λ m. take m (slots w i)) count-is
+
+  pub scope-length : length (scopeAt w i) ≡ n
+  scope-length = any-length w i ∙ count-is
+
+  pub scope-at : (k : ℕ) → k < n → getD (scopeAt w i) k 0 ≡ field w i (9 + k)
+  scope-at k b = ap (λ t. getD t k 0) scope-is ∙ front-at w i n k (s .small) b
+
+  pub scope-every : (f : ℕ → Bool) → ((k : ℕ) → k < n → f (field w i (9 + k)) ≡ true) → every f (scopeAt w i) ≡ true
+  scope-every f h = every-all f 0 (scopeAt w i) (λ k b. let c : k < n = omega (arith, scope-length) in ap f (scope-at k c) ∙ h k c)
+
+  pub scope-miss : (f : ℕ → Bool) (k : ℕ) → k < n → f (field w i (9 + k)) ≡ false → every f (scopeAt w i) ≡ false
+  scope-miss f k b e = every-miss f 0 (scopeAt w i) k (omega (arith, scope-length)) (ap f (scope-at k b) ∙ e)
+
+  pub names-length : length (namesAt w i) ≡ n
+  unfolding namesAt
+  names-length = length-map (scopeAt w i) (nameAt w) ∙ scope-length
+
+  pub names-at : (k : ℕ) → k < n → getD (namesAt w i) k [] ≡ nameAt w (field w i (9 + k))
+  unfolding namesAt
+  names-at k b = map-at (nameAt w) (scopeAt w i) k (omega (arith, scope-length)) ∙ ap (nameAt w) (scope-at k b)
+
+  -- ── the first slot of a name ──
+  pub slot-hit : (x : Name) (k : ℕ) → k < n → ((j : ℕ) → j < k → sameName (nameAt w (field w i (9 + j))) x ≡ false)
+      → sameName (nameAt w (field w i (9 + k))) x ≡ true
+      → index (namesAt w i) x ≡ k
+  slot-hit x k b h e =
+      index-hit (namesAt w i) x k (omega (arith, names-length)) (λ j c. ap (λ y. sameName y x) (names-at j (omega arith)) ∙ h j c)
+      (ap (λ y. sameName y x) (names-at k b) ∙ e)
+
+  pub slot-none : (x : Name) → ((j : ℕ) → j < n → sameName (nameAt w (field w i (9 + j))) x ≡ false) → index (namesAt w i) x ≡ n
+  slot-none x h =
+      index-none (namesAt w i) x (λ j c. let b : j < n = omega (arith, names-length) in ap (λ y. sameName y x) (names-at j b) ∙ h j b)
+      ∙ names-length
+
+  pub slot-out : (k : ℕ) → n ≤ k → slotOk (namesAt w i) k ≡ false
+  unfolding slotOk
+  slot-out k h = rw (le-ltb k (length (namesAt w i)) (omega (arith, names-length)))
+
+  pub slot-in : (k : ℕ) → k < n → slotOk (namesAt w i) k ≡ eqb (index (namesAt w i) (nameAt w (field w i (9 + k)))) k
+  unfolding slotOk
+  slot-in k h = rw (lt-ltb k (length (namesAt w i)) (omega (arith, names-length)), names-at k h)
+
+  -- ── inner processes ──
+  pub inner-is : (p : ℕ) → p < i → atMost8 (field w p 8) ≡ n → innerOk w i p (scopeAt w i) ≡ alike (take n (slots w p)) (take n (slots w i))
+  unfolding innerOk
+  inner-is p b e = rw (lt-ltb p i b, any-scope w p, e, scope-is)
+
+  pub inner-uneven : (p : ℕ) → (atMost8 (field w p 8) ≡ n → ⊥) → innerOk w i p (scopeAt w i) ≡ false
+  unfolding innerOk
+  inner-uneven p z = rw (alike-uneven (scopeAt w p) (scopeAt w i) (λ e. z (sym (any-length w p) ∙ e ∙ scope-length))) (and-false (ltb p i))
+
+  -- ── the scope of an input's P ──
+  pub entered-found : (k : ℕ) → k < n → entered w i k ≡ scopeAt w i
+  unfolding entered
+  entered-found k h = rw (lt-ltb k (length (scopeAt w i)) (omega (arith, scope-length)))
+
+  entered-new : (k : ℕ) → n ≤ k → entered w i k ≡ take n (slots w i) ++ (ownAt i ∷ [])
+  unfolding entered
+  entered-new k h = rw (le-ltb k (length (scopeAt w i)) (omega (arith, scope-length))) (ap (λ t. t ++ (ownAt i ∷ [])) scope-is)
+
+  pub bound-uneven : (p k : ℕ) → n ≤ k → (atMost8 (field w p 8) ≡ n + 1 → ⊥) → innerOk w i p (entered w i k) ≡ false
+  unfolding innerOk
+  bound-uneven p k h z =
+      rw (alike-uneven (scopeAt w p) (entered w i k) (λ e. z (sym (any-length w p) ∙ e ∙ ap length (entered-new k h) ∙ length-append (take n (slots w i)) (ownAt i ∷ []) ∙ ap (λ m. m + 1) (front-length w i n (s .small)))))
+      (and-false (ltb p i))
+
+  alike-last : (xs ys : List ℕ) (a b : ℕ) → length xs ≡ length ys → alike (xs ++ (a ∷ [])) (ys ++ (b ∷ [])) ≡ (alike xs ys && eqb a b)
+  unfolding alike
+  alike-last [] [] a b e = and-true (eqb a b)
+  alike-last [] (y ∷ ys) a b e = absurd (omega arith)
+  alike-last (x ∷ xs) [] a b e = absurd (omega arith)
+  alike-last (x ∷ xs) (y ∷ ys) a b e = rw (alike-last xs ys a b (omega arith)) (go (eqb x y))
+    where
+      go : (t : Bool) → (t && (alike xs ys && eqb a b)) ≡ ((t && alike xs ys) && eqb a b)
+      go true = refl
+      go false = refl
+
+  pub bound-is : (p k : ℕ) → n ≤ k → p < i → atMost8 (field w p 8) ≡ n + 1
+      → innerOk w i p (entered w i k) ≡ (alike (take n (slots w p)) (take n (slots w i)) && eqb (field w p (9 + n)) (ownAt i))
+  unfolding innerOk
+  bound-is p k h b e =
+      rw (lt-ltb p i b)
+      (ap (λ t. alike t (entered w i k)) (any-scope w p ∙ ap (λ m. take m (slots w p)) (e ∙ add-one n) ∙ longer)
+      ∙ ap (alike (take n (slots w p) ++ (field w p (9 + n) ∷ []))) (entered-new k h)
+      ∙ alike-last (take n (slots w p)) (take n (slots w i)) (field w p (9 + n)) (ownAt i) (front-length w p n (s .small) ∙ sym (front-length w i n (s .small))))
+    where
+      room : n < 8
+      room = omega (arith, at-most (field w p 8))
+
+      longer : take (suc n) (slots w p) ≡ take n (slots w p) ++ (field w p (9 + n) ∷ [])
+      longer =
+          take-suc (slots w p) n 0 (omega (arith, slots-length w p, room)) ∙ ap (λ t. take n (slots w p) ++ (t ∷ [])) (slots-at w p n room)
+
+pub inner-high : (w : List ℕ) (i p : ℕ) (os : List ℕ) → i ≤ p → innerOk w i p os ≡ false
+unfolding innerOk
+inner-high w i p os h = rw (le-ltb p i h)
+
+-- ── a value's word ──
+pub ref-location : (w : List ℕ) (ys : List Name) (v : ℕ) → v < 64 → refOk w ys v ≡ ltb v (locsIn w)
+unfolding refOk
+ref-location w ys v h = rw (lt-ltb v 64 h)
+
+pub ref-variable : (w : List ℕ) (ys : List Name) (v : ℕ) → 64 ≤ v → refOk w ys v ≡ slotOk ys (v - 64)
+unfolding refOk
+ref-variable w ys v h = rw (le-ltb v 64 h)

@@ -1,0 +1,91 @@
+-- The tests of a script and of a state, from those of their parts.
+-- By the definitions; the names of a sort stand at equal distances.
+use Prim.Native.Nat.{ℕ, _≤_, _<_}
+use native.Mathlib.Omega.{arith}
+use mathlib.Core.List.{List, [], map}
+use mathlib.Core.Bool.{Bool, true, false, _&&_, _||_}
+use mathlib.Core.Path.{_≡_, refl, ap, sym, _∙_}
+use lib.Dec.{eqb, leb, ltb}
+use lib.ListN.{length, getD, length-map}
+use lib.Seq.{length-take-le, getD-take}
+use borrow.Author.Tests.{leb-true, eq-eqb}
+use Rattle.terms.specs.Letters.{isName, isLocation, isSmall, isIdentifier}
+use Rattle.terms.specs.Same.{every}
+use Rattle.terms.proofs.Names.{and-inv}
+use Rattle.table.specs.declared.Comp.{Comp}
+use Rattle.table.specs.declared.State.{State}
+use Rattle.table.specs.declared.Sort.{Sort}
+use Rattle.table.specs.declared.Sort.the-variants.{Location, Small, Identifier}
+use Rattle.table.specs.Words.{partsIn, locsIn, chansIn, defsIn, locName, chanName, defName}
+use Rattle.table.specs.Meaning.{listFrom, compsOf}
+use Rattle.table.specs.Valid.{distinct, timerOk, sortOk, markOk, compOk}
+use Rattle.table.specs.Tests.{firstOf, rowName, countsOk}
+use Rattle.table.proofs.ValidLists.{every-all, every-miss}
+
+-- ── counts ──
+pub record Counts (w : List ℕ) : Type 0 where
+  pub parts : partsIn w ≤ 4_096
+  pub locs : locsIn w ≤ 64
+  pub chans : chansIn w ≤ 64
+  pub defs : defsIn w ≤ 32
+
+pub counts-hold : (w : List ℕ) → countsOk w ≡ true → Counts w
+unfolding countsOk
+counts-hold w e =
+    let p = and-inv (leb (partsIn w) 4_096) _ e in
+    let q = and-inv (leb (locsIn w) 64) _ (p .1) in
+    let r = and-inv (leb (chansIn w) 64) _ (q .1) in
+    record {
+      parts = leb-true (partsIn w) 4_096 (p .0);
+      locs = leb-true (locsIn w) 64 (q .0);
+      chans = leb-true (chansIn w) 64 (r .0);
+      defs = leb-true (defsIn w) 32 (r .1);
+    }
+
+-- ── names ──
+abbrev rows : List ℕ → Sort → ℕ → ℕ → ℕ → Bool
+rows w f o s n = every (isName (firstOf f)) (listFrom 0 n (rowName w o s)) && distinct (listFrom 0 n (rowName w o s))
+
+module _ (w : List ℕ) (n : ℕ) where
+  pub locations-are : rows w Location 776 4 n ≡ sortOk isLocation (listFrom 0 n (locName w))
+  unfolding sortOk isLocation locName rowName
+  locations-are = refl
+
+  pub channels-are : rows w Small 1_032 4 n ≡ sortOk isSmall (listFrom 0 n (chanName w))
+  unfolding sortOk isSmall chanName rowName
+  channels-are = refl
+
+  pub identifiers-are : rows w Identifier 10 24 n ≡ sortOk isIdentifier (listFrom 0 n (defName w))
+  unfolding sortOk isIdentifier defName rowName
+  identifiers-are = refl
+
+-- ── components ──
+-- a component that stands past the end, which no code reads
+abbrev pub noComp : Comp
+noComp = record { loc = 0; mark = 0; place = 0; timer = 0; vals = [] }
+
+pub mapped : {X Y : Type 0} (f : X → Y) (l : List X) (n : ℕ) → length (map f l) ≡ n → length l ≡ n
+mapped f l n p = sym (length-map l f) ∙ p
+
+module _ (st : State) (f : Comp → Bool) (h : st .n ≤ 256) (l : length (st .c) ≡ 256) where
+  comps-length : length (compsOf st) ≡ st .n
+  unfolding compsOf
+  comps-length = length-take-le (st .n) (st .c) (omega arith)
+
+  comp-at : (k : ℕ) → k < st .n → getD (compsOf st) k noComp ≡ getD (st .c) k noComp
+  unfolding compsOf
+  comp-at k b = getD-take (st .n) (st .c) k noComp b
+
+  pub comps-all : ((k : ℕ) → k < st .n → f (getD (st .c) k noComp) ≡ true) → every f (compsOf st) ≡ true
+  comps-all e = every-all f noComp (compsOf st) (λ k b. let c : k < st .n = omega (arith, comps-length) in ap f (comp-at k c) ∙ e k c)
+
+  pub comps-miss : (k : ℕ) → k < st .n → f (getD (st .c) k noComp) ≡ false → every f (compsOf st) ≡ false
+  comps-miss k b e = every-miss f noComp (compsOf st) k (omega (arith, comps-length)) (ap f (comp-at k b) ∙ e)
+
+pub comp-is : (w : List ℕ) (x : Comp) → ltb (x .loc) (locsIn w) ≡ true → (eqb (x .mark) 64 || ltb (x .mark) (locsIn w)) ≡ true
+    → ltb (x .place) (partsIn w) ≡ true
+    → timerOk (x .timer) ≡ true
+    → length (x .vals) ≡ 8
+    → compOk w x ≡ every (λ v. ltb v (locsIn w)) (x .vals)
+unfolding compOk markOk
+comp-is w x p q r s e = rw (p, q, r, s, eq-eqb (length (x .vals)) 8 e)

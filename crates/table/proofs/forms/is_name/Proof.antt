@@ -1,0 +1,53 @@
+-- A name's form is its first letter, its letters and digits, and that it is no reserved word.
+-- By the law of the whole form.
+use Prim.Native.Nat.{_%_}
+use mathlib.Core.Path.{_≡_, sym, ap, _∙_}
+use mathlib.Core.Bool.{not}
+use borrow.Author.Needs.{needs}
+use Rattle.terms.specs.Letters.{classOf}
+use Rattle.table.specs.Tests.{firstOf}
+use Rattle.table.proofs.NamesForm.{name-is}
+use Rattle.table.proofs.ValidBool.{failed, passed, and-false}
+use Rattle.table.proofs.forms.is_name.Statement.{statement}
+use Rattle.table.proofs.forms.is_name.Tie as tie
+
+low-byte-requires : tie.Need-low-byte-requires
+low-byte-requires c κs = search needs
+
+first-ok-requires : tie.Need-first-ok-requires
+first-ok-requires c κs = search needs
+
+returns : tie.Need-returns
+returns c =
+    let k = c .before .before .before .args in
+    let e : c .before .first-ok .result ≡ firstOf (k .s) (classOf (k .k .a % 256)) = c .before .first-ok .ensures ∙ ap (λ b. firstOf (k .s) (classOf b)) (c .before .before .low-byte .ensures) in
+    sym (name-is (k .s) (k .k) ∙ rw (failed (c .if1 .taken) e))
+
+solid-key-requires : tie.Need-solid-key-requires
+solid-key-requires c κs = search needs
+
+returns-2 : tie.Need-returns-2
+returns-2 c =
+    let k = c .before .before .before .before .before .args in
+    sym (name-is (k .s) (k .k) ∙ simp (failed (c .if2 .taken) (c .before .solid-key .ensures), and-false))
+
+is-reserved-requires : tie.Need-is-reserved-requires
+is-reserved-requires c κs = search needs
+
+returns-3 : tie.Need-returns-3
+returns-3 c =
+    let k = c .before .before .before .before .before .before .args in
+    let e : c .before .before .before .before .first-ok .result ≡ firstOf (k .s) (classOf (k .k .a % 256)) = c .before .before .before .before .first-ok .ensures ∙ ap (λ b. firstOf (k .s) (classOf b)) (c .before .before .before .before .before .low-byte .ensures) in
+    ap not (c .is-reserved .ensures) ∙ sym (name-is (k .s) (k .k) ∙ rw (passed (c .before .before .before .if1 .left) e, passed (c .before .if2 .left) (c .before .before .solid-key .ensures)))
+
+pub is-name-spec : {M : Type 1} → statement M
+is-name-spec =
+    tie.close
+    (tie.spec
+    low-byte-requires
+    first-ok-requires
+    returns
+    solid-key-requires
+    returns-2
+    is-reserved-requires
+    returns-3)

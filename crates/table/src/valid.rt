@@ -1,0 +1,554 @@
+// Question 17, answered: is a table valid? Every function answers for one definition; the counts are checked first, so that every index is in range.
+ghost use mathlib.Core.Path.{_≡_};
+ghost use mathlib.Core.Bool.{_&&_, _||_};
+ghost use mathlib.Core.List.{[], _∷_};
+ghost use Prim.Native.Nat.{_+_, _*_, _<_, _≤_};
+ghost use lib.Dec.{eqb, ltb};
+ghost use lib.ListN.{take, drop};
+ghost use Rattle.terms.specs.Letters.{member, isName};
+ghost use Rattle.terms.specs.Same.{every};
+ghost use Rattle.table.specs.Words.{partsIn, defsIn, field, scopeAt, namesAt, paramsAt, arityOf, atMost8};
+ghost use Rattle.table.specs.Meaning.{listFrom};
+ghost use Rattle.table.specs.Valid.{alike, distinct, index, below, timerOk, slotOk, refOk, innerOk, entered, partOk, defOk, scriptOk, compOk, stateOk, valid};
+ghost use Rattle.table.specs.Tests.{keyName, firstOf, rowName, Scoped, slots, restOk, endOk, sendOk, countsOk};
+ghost use Rattle.table.specs.declared.Head.the-variants.{Go, Out, In, Call};
+use super::Comp;
+use super::Key;
+use super::Sort;
+use super::State;
+use super::forms::is_name;
+use super::words::arity_of;
+use super::words::body_of;
+use super::words::field;
+use super::words::is_named;
+use super::words::key_at;
+use super::words::low_at;
+use super::words::next_at;
+use super::words::wide;
+use super::words::word;
+
+// ── scopes ──
+
+fn at_most_8(x: u32) -> usize
+    ensures { λ r. ⌜ r ≡ atMost8 x ⌝ }
+{
+    if x <= 8 {
+        return wide(x);
+    }
+    8
+}
+
+// Do the names of the scope stand in the script?
+fn slots_in(w: &[u32; 99592], i: usize, n: usize) -> bool
+    requires { ⌜ Scoped (now w) i n ⌝ }
+    ensures { λ r. ⌜ r ≡ every (λ o. ltb o 99589) (scopeAt (now (w .entry)) i) ⌝ }
+{
+    let mut k = 0;
+    while k < n {
+        if 99589 <= field(w, i, 9 + k) {
+            return false;
+        }
+        k += 1;
+    }
+    true
+}
+
+// Are the first n words of the scopes of p and i the same?
+fn same_slots(w: &[u32; 99592], p: usize, i: usize, n: usize) -> bool
+    requires { ⌜ (p < 4096) × (i < 4096) × (n ≤ 8) ⌝ }
+    ensures { λ r. ⌜ r ≡ alike (take n (slots (now (w .entry)) p)) (take n (slots (now (w .entry)) i)) ⌝ }
+{
+    let mut k = 0;
+    while k < n {
+        if field(w, p, 9 + k) != field(w, i, 9 + k) {
+            return false;
+        }
+        k += 1;
+    }
+    true
+}
+
+// The first slot of a name.
+fn find_slot(w: &[u32; 99592], i: usize, n: usize, x: Key) -> usize
+    requires { ⌜ Scoped (now w) i n ⌝ }
+    ensures { λ r. ⌜ r ≡ index (namesAt (now (w .entry)) i) (keyName x) ⌝ }
+{
+    let mut k = 0;
+    while k < n {
+        if is_named(w, wide(field(w, i, 9 + k)), x) {
+            return k;
+        }
+        k += 1;
+    }
+    n
+}
+
+fn slot_ok(w: &[u32; 99592], i: usize, n: usize, k: usize) -> bool
+    requires { ⌜ Scoped (now w) i n ⌝ }
+    ensures { λ r. ⌜ r ≡ slotOk (namesAt (now (w .entry)) i) k ⌝ }
+{
+    if n <= k {
+        return false;
+    }
+    let x = key_at(w, wide(field(w, i, 9 + k)));
+    find_slot(w, i, n, x) == k
+}
+
+fn ref_ok(w: &[u32; 99592], i: usize, n: usize, v: u32) -> bool
+    requires { ⌜ Scoped (now w) i n ⌝ }
+    ensures { λ r. ⌜ r ≡ refOk (now (w .entry)) (namesAt (now (w .entry)) i) v ⌝ }
+{
+    if v < 64 {
+        let l = word(w, 1);
+        return v < l;
+    }
+    slot_ok(w, i, n, wide(v - 64))
+}
+
+// ── places ──
+
+fn inner_ok(w: &[u32; 99592], i: usize, n: usize, p: usize) -> bool
+    requires { ⌜ Scoped (now w) i n ⌝ }
+    ensures { λ r. ⌜ r ≡ innerOk (now (w .entry)) i p (scopeAt (now (w .entry)) i) ⌝ }
+{
+    if i <= p {
+        return false;
+    }
+    let m = at_most_8(field(w, p, 8));
+    if m != n {
+        return false;
+    }
+    same_slots(w, p, i, n)
+}
+
+// The same of the P of an input whose name has the slot k.
+fn bound_ok(w: &[u32; 99592], i: usize, n: usize, p: usize, k: u32) -> bool
+    requires { ⌜ Scoped (now w) i n ⌝ }
+    ensures { λ r. ⌜ r ≡ innerOk (now (w .entry)) i p (entered (now (w .entry)) i k) ⌝ }
+{
+    if wide(k) < n {
+        return inner_ok(w, i, n, p);
+    }
+    if p >= i {
+        return false;
+    }
+    let m = at_most_8(field(w, p, 8));
+    if m != n + 1 {
+        return false;
+    }
+    if wide(field(w, p, 9 + n)) != 1305 + i * 24 {
+        return false;
+    }
+    same_slots(w, p, i, n)
+}
+
+// The next part, and the least place of the process.
+fn end_ok(w: &[u32; 99592], i: usize, n: usize, f: usize) -> bool
+    requires { ⌜ Scoped (now w) i n ⌝ }
+    ensures { λ r. ⌜ r ≡ endOk (now (w .entry)) i f ⌝ }
+{
+    let x = wide(next_at(w, i));
+    let low = wide(low_at(w, i));
+    if x == 0 {
+        return low == f;
+    }
+    if x != f {
+        return false;
+    }
+    let j = x - 1;
+    if !inner_ok(w, i, n, j) {
+        return false;
+    }
+    let b = wide(low_at(w, j));
+    low == b
+}
+
+// ── parts ──
+
+fn timer_ok(t: u32) -> bool
+    ensures { λ r. ⌜ r ≡ timerOk t ⌝ }
+{
+    t <= 1000001
+}
+
+fn go_ok(w: &[u32; 99592], i: usize, n: usize) -> bool
+    requires { ⌜ Scoped (now w) i n ⌝ }
+    ensures { λ r. ⌜ r ≡ restOk (now (w .entry)) i (Go (field (now (w .entry)) i 2) (field (now (w .entry)) i 3) (field (now (w .entry)) i 4)) ⌝ }
+{
+    if !timer_ok(field(w, i, 2)) {
+        return false;
+    }
+    if !ref_ok(w, i, n, field(w, i, 3)) {
+        return false;
+    }
+    let p = wide(field(w, i, 4));
+    if p + 1 != i {
+        return false;
+    }
+    if !inner_ok(w, i, n, p) {
+        return false;
+    }
+    end_ok(w, i, n, wide(low_at(w, p)))
+}
+
+// What an output and an input share, of which P has been tested.
+fn send_ok(w: &[u32; 99592], i: usize, n: usize, p: usize) -> bool
+    requires { ⌜ Scoped (now w) i n × (p ≡ field (now w) i 4) × (p < i) ⌝ }
+    ensures { λ r. ⌜ r ≡ sendOk (now (w .entry)) i ⌝ }
+{
+    let c = word(w, 2);
+    if c <= field(w, i, 1) {
+        return false;
+    }
+    if !timer_ok(field(w, i, 2)) {
+        return false;
+    }
+    if p + 1 != i {
+        return false;
+    }
+    let q = wide(field(w, i, 5));
+    if q + 1 != wide(low_at(w, p)) {
+        return false;
+    }
+    if !inner_ok(w, i, n, q) {
+        return false;
+    }
+    end_ok(w, i, n, wide(low_at(w, q)))
+}
+
+fn out_ok(w: &[u32; 99592], i: usize, n: usize) -> bool
+    requires { ⌜ Scoped (now w) i n ⌝ }
+    ensures { λ r. ⌜ r ≡ restOk (now (w .entry)) i (Out (field (now (w .entry)) i 1) (field (now (w .entry)) i 2) (field (now (w .entry)) i 3) (field (now (w .entry)) i 4) (field (now (w .entry)) i 5)) ⌝ }
+{
+    if !ref_ok(w, i, n, field(w, i, 3)) {
+        return false;
+    }
+    let p = wide(field(w, i, 4));
+    if !inner_ok(w, i, n, p) {
+        return false;
+    }
+    send_ok(w, i, n, p)
+}
+
+fn in_ok(w: &[u32; 99592], i: usize, n: usize) -> bool
+    requires { ⌜ Scoped (now w) i n ⌝ }
+    ensures { λ r. ⌜ r ≡ restOk (now (w .entry)) i (In (field (now (w .entry)) i 1) (field (now (w .entry)) i 2) (field (now (w .entry)) i 3) (field (now (w .entry)) i 4) (field (now (w .entry)) i 5)) ⌝ }
+{
+    let y = key_at(w, 1305 + i * 24);
+    if !is_name(Sort::Small, y) {
+        return false;
+    }
+    let k = field(w, i, 3);
+    if find_slot(w, i, n, y) != wide(k) {
+        return false;
+    }
+    let p = wide(field(w, i, 4));
+    if !bound_ok(w, i, n, p, k) {
+        return false;
+    }
+    send_ok(w, i, n, p)
+}
+
+fn args_ok(w: &[u32; 99592], i: usize, n: usize, m: u32) -> bool
+    requires { ⌜ Scoped (now w) i n ⌝ }
+    ensures { λ r. ⌜ r ≡ every (refOk (now (w .entry)) (namesAt (now (w .entry)) i)) (take m (field (now (w .entry)) i 17 ∷ field (now (w .entry)) i 18 ∷ field (now (w .entry)) i 19 ∷ field (now (w .entry)) i 20 ∷ [])) ⌝ }
+{
+    let e = wide(m);
+    let mut k = 0;
+    while k < 4 {
+        if e <= k {
+            return true;
+        }
+        if !ref_ok(w, i, n, field(w, i, 17 + k)) {
+            return false;
+        }
+        k += 1;
+    }
+    true
+}
+
+fn call_ok(w: &[u32; 99592], i: usize, n: usize) -> bool
+    requires { ⌜ Scoped (now w) i n × (defsIn (now w) ≤ 32) ⌝ }
+    ensures { λ r. ⌜ r ≡ restOk (now (w .entry)) i (Call (field (now (w .entry)) i 1) (field (now (w .entry)) i 3) (field (now (w .entry)) i 17) (field (now (w .entry)) i 18) (field (now (w .entry)) i 19) (field (now (w .entry)) i 20)) ⌝ }
+{
+    let c = word(w, 3);
+    let d = field(w, i, 1);
+    if c <= d {
+        return false;
+    }
+    let m = field(w, i, 3);
+    if m != arity_of(w, wide(d)) {
+        return false;
+    }
+    if !args_ok(w, i, n, m) {
+        return false;
+    }
+    end_ok(w, i, n, i)
+}
+
+fn part_ok(w: &[u32; 99592], i: usize) -> bool
+    requires { ⌜ (i < 4096) × (defsIn (now w) ≤ 32) ⌝ }
+    ensures { λ r. ⌜ r ≡ partOk (now (w .entry)) i ⌝ }
+{
+    let n = wide(field(w, i, 8));
+    if 8 < n {
+        return false;
+    }
+    if !slots_in(w, i, n) {
+        return false;
+    }
+    let k = field(w, i, 0);
+    match k {
+        0 => end_ok(w, i, n, i),
+        1 => go_ok(w, i, n),
+        2 => out_ok(w, i, n),
+        3 => in_ok(w, i, n),
+        4 => call_ok(w, i, n),
+        _ => false,
+    }
+}
+
+fn parts_ok(w: &[u32; 99592]) -> bool
+    requires { ⌜ (partsIn (now w) ≤ 4096) × (defsIn (now w) ≤ 32) ⌝ }
+    ensures { λ r. ⌜ r ≡ below (partsIn (now (w .entry))) (partOk (now (w .entry))) ⌝ }
+{
+    let n = wide(word(w, 0));
+    let mut i = 0;
+    while i < n {
+        if !part_ok(w, i) {
+            return false;
+        }
+        i += 1;
+    }
+    true
+}
+
+// ── names ──
+
+// Has each of n names that stand s words apart from o on the form of its sort?
+fn names_ok(w: &[u32; 99592], f: Sort, o: usize, s: usize, n: usize) -> bool
+    requires { ⌜ (o ≤ 2000) × (s ≤ 24) × (n ≤ 64) ⌝ }
+    ensures { λ r. ⌜ r ≡ every (isName (firstOf f)) (listFrom 0 n (rowName (now (w .entry)) o s)) ⌝ }
+{
+    let mut j = 0;
+    while j < n {
+        let x = key_at(w, o + j * s);
+        if !is_name(f, x) {
+            return false;
+        }
+        j += 1;
+    }
+    true
+}
+
+// Does name i of these stand among those after it?
+fn held_again(w: &[u32; 99592], o: usize, s: usize, n: usize, i: usize) -> bool
+    requires { ⌜ (o ≤ 2000) × (s ≤ 24) × (n ≤ 64) × (i < n) ⌝ }
+    ensures { λ r. ⌜ r ≡ member (rowName (now (w .entry)) o s i) (drop (i + 1) (listFrom 0 n (rowName (now (w .entry)) o s))) ⌝ }
+{
+    let x = key_at(w, o + i * s);
+    let mut j = i + 1;
+    while j < n {
+        if is_named(w, o + j * s, x) {
+            return true;
+        }
+        j += 1;
+    }
+    false
+}
+
+// Is each of these names held once?
+fn all_apart(w: &[u32; 99592], o: usize, s: usize, n: usize) -> bool
+    requires { ⌜ (o ≤ 2000) × (s ≤ 24) × (n ≤ 64) ⌝ }
+    ensures { λ r. ⌜ r ≡ distinct (listFrom 0 n (rowName (now (w .entry)) o s)) ⌝ }
+{
+    let mut i = 0;
+    while i < n {
+        if held_again(w, o, s, n, i) {
+            return false;
+        }
+        i += 1;
+    }
+    true
+}
+
+fn sort_ok(w: &[u32; 99592], f: Sort, o: usize, s: usize, n: usize) -> bool
+    requires { ⌜ (o ≤ 2000) × (s ≤ 24) × (n ≤ 64) ⌝ }
+    ensures { λ r. ⌜ r ≡ (every (isName (firstOf f)) (listFrom 0 n (rowName (now (w .entry)) o s)) && distinct (listFrom 0 n (rowName (now (w .entry)) o s))) ⌝ }
+{
+    if !names_ok(w, f, o, s, n) {
+        return false;
+    }
+    all_apart(w, o, s, n)
+}
+
+// ── definitions ──
+
+// Are the parameters of d what is in scope at its body b?
+fn params_in(w: &[u32; 99592], d: usize, b: usize, a: usize) -> bool
+    requires { ⌜ (d < 32) × (b < 4096) × (a ≤ 4) × (a ≡ arityOf (now w) d) ⌝ }
+    ensures { λ r. ⌜ r ≡ alike (scopeAt (now (w .entry)) b) (paramsAt (now (w .entry)) d) ⌝ }
+{
+    let m = at_most_8(field(w, b, 8));
+    if m != a {
+        return false;
+    }
+    let mut k = 0;
+    while k < a {
+        if wide(field(w, b, 9 + k)) != 14 + d * 24 + k * 4 {
+            return false;
+        }
+        k += 1;
+    }
+    true
+}
+
+fn def_ok(w: &[u32; 99592], d: usize) -> bool
+    requires { ⌜ (d < 32) × (partsIn (now w) ≤ 4096) ⌝ }
+    ensures { λ r. ⌜ r ≡ defOk (now (w .entry)) d ⌝ }
+{
+    let a = wide(arity_of(w, d));
+    if 4 < a {
+        return false;
+    }
+    let b = wide(body_of(w, d));
+    let n = wide(word(w, 0));
+    if n <= b {
+        return false;
+    }
+    if !params_in(w, d, b, a) {
+        return false;
+    }
+    sort_ok(w, Sort::Small, 14 + d * 24, 4, a)
+}
+
+fn defs_ok(w: &[u32; 99592]) -> bool
+    requires { ⌜ (partsIn (now w) ≤ 4096) × (defsIn (now w) ≤ 32) ⌝ }
+    ensures { λ r. ⌜ r ≡ below (defsIn (now (w .entry))) (defOk (now (w .entry))) ⌝ }
+{
+    let n = wide(word(w, 3));
+    let mut d = 0;
+    while d < n {
+        if !def_ok(w, d) {
+            return false;
+        }
+        d += 1;
+    }
+    true
+}
+
+// ── the whole ──
+
+fn counts_ok(w: &[u32; 99592]) -> bool
+    ensures { λ r. ⌜ r ≡ countsOk (now (w .entry)) ⌝ }
+{
+    if 4096 < word(w, 0) {
+        return false;
+    }
+    if 64 < word(w, 1) {
+        return false;
+    }
+    if 64 < word(w, 2) {
+        return false;
+    }
+    word(w, 3) <= 32
+}
+
+// A script by itself.
+pub fn script_ok(w: &[u32; 99592]) -> bool
+    ensures { λ r. ⌜ r ≡ scriptOk (now (w .entry)) ⌝ }
+{
+    if !counts_ok(w) {
+        return false;
+    }
+    if !sort_ok(w, Sort::Location, 776, 4, wide(word(w, 1))) {
+        return false;
+    }
+    if !sort_ok(w, Sort::Small, 1032, 4, wide(word(w, 2))) {
+        return false;
+    }
+    if !sort_ok(w, Sort::Identifier, 10, 24, wide(word(w, 3))) {
+        return false;
+    }
+    if !defs_ok(w) {
+        return false;
+    }
+    parts_ok(w)
+}
+
+// ── components ──
+
+fn mark_ok(l: u32, m: u32) -> bool
+    ensures { λ r. ⌜ r ≡ (eqb m 64 || ltb m l) ⌝ }
+{
+    if m == 64 {
+        return true;
+    }
+    m < l
+}
+
+// Is there a location below l in each slot?
+fn vals_ok(l: u32, c: Comp) -> bool
+    ensures { λ r. ⌜ r ≡ every (λ v. ltb v l) (c .vals) ⌝ }
+{
+    let mut k = 0;
+    while k < 8 {
+        if l <= c.vals[k] {
+            return false;
+        }
+        k += 1;
+    }
+    true
+}
+
+fn comp_ok(w: &[u32; 99592], c: Comp) -> bool
+    ensures { λ r. ⌜ r ≡ compOk (now (w .entry)) c ⌝ }
+{
+    let l = word(w, 1);
+    if l <= c.loc {
+        return false;
+    }
+    if !mark_ok(l, c.mark) {
+        return false;
+    }
+    let p = word(w, 0);
+    if p <= c.place {
+        return false;
+    }
+    if !timer_ok(c.timer) {
+        return false;
+    }
+    vals_ok(l, c)
+}
+
+// A state by itself.
+pub fn state_ok(w: &[u32; 99592], st: State) -> bool
+    ensures { λ r. ⌜ r ≡ stateOk (now (w .entry)) st ⌝ }
+{
+    let n = st.n;
+    if n == 0 {
+        return false;
+    }
+    if 256 < n {
+        return false;
+    }
+    let mut i = 0;
+    while i < n {
+        let c = st.c[i];
+        if !comp_ok(w, c) {
+            return false;
+        }
+        i += 1;
+    }
+    true
+}
+
+// Question 17.
+pub fn is_valid(w: &[u32; 99592], st: State) -> bool
+    ensures { λ r. ⌜ r ≡ valid (now (w .entry)) st ⌝ }
+{
+    if !script_ok(w) {
+        return false;
+    }
+    state_ok(w, st)
+}

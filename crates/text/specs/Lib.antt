@@ -1,0 +1,8 @@
+pub mod Characters
+pub mod Tokens
+pub mod Tree
+pub mod Grammar
+pub mod Write
+pub mod Questions
+pub mod WellFormed
+pub mod Examples

@@ -1,0 +1,28 @@
+-- `closed` ends a part at its `)`, with one more of nesting and parts.
+-- By what the callees ensure, field by field.
+use mathlib.Core.Path.{_≡_, refl, sym, ap, _∙_}
+use Rattle.text.specs.Tokens.{lex, lexFrom}
+use Rattle.text.specs.Characters.{classOf}
+use Rattle.text_parts.proofs.Cycle.{closed-is}
+use borrow.Author.Needs.{needs}
+use Rattle.text_parts.proofs.closed.Statement.{statement}
+use Rattle.text_parts.proofs.closed.Tie as tie
+
+sign-after-requires : tie.Need-sign-after-requires
+unfolding lexFrom classOf
+sign-after-requires c κs = λ l. refl
+
+one-more-requires : tie.Need-one-more-requires
+one-more-requires c κs = search needs
+
+one-more-requires-2 : tie.Need-one-more-requires-2
+one-more-requires-2 c κs = search needs
+
+returns : tie.Need-returns
+returns c =
+    let a = c .before .before .before .before .args in
+    closed-is (a .s .now) (a .r) _ (c .before .before .sign-after .ensures) (λ i. record { nesting = c .before .one-more .ensures i; parts = c .one-more2 .ensures i; width = 1 })
+
+pub closed-spec : {M : Type 1} → statement M
+closed-spec =
+    tie.close (tie.spec sign-after-requires one-more-requires one-more-requires-2 returns)

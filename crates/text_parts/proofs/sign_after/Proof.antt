@@ -1,0 +1,23 @@
+-- `sign_after` reads a sign behind what was read, if it was.
+-- By whether the size's end is 0.
+use mathlib.Core.Path.{_≡_, refl, sym, ap, _∙_}
+use Rattle.text_parts.proofs.Cycle.{after-none, after-some}
+use borrow.Author.Needs.{needs}
+use Rattle.text_parts.proofs.sign_after.Statement.{statement}
+use Rattle.text_parts.proofs.sign_after.Tie as tie
+
+eat-requires : tie.Need-eat-requires
+eat-requires c κs = search needs
+
+returns : tie.Need-returns
+returns c =
+    let a = c .before .before .args in
+    after-none (a .s .now) (a .r) (a .c) (c .match .keys1)
+
+returns-2 : tie.Need-returns-2
+returns-2 c =
+    let a = c .before .before .before .args in
+    after-some (a .s .now) (a .r) (a .c) (c .before .match .rest .1) _ (c .eat .ensures)
+
+pub sign-after-spec : {M : Type 1} → statement M
+sign-after-spec = tie.close (tie.spec eat-requires returns returns-2)

@@ -1,0 +1,4 @@
+pub mod Openings
+pub mod Counts
+pub mod Counting
+pub mod Answers

@@ -1,0 +1,3 @@
+pub mod Lexing
+pub mod Positions
+pub mod WordSorts

@@ -1,0 +1,28 @@
+-- `capital_sort` gives the sort of a word that begins with a capital.
+-- It is no keyword but perhaps `S`, and else a location if it is short enough.
+use mathlib.Core.Path.{_≡_, refl, sym, ap, _∙_}
+use Rattle.text_words.proofs.WordSorts.{capital-reserved, capital-name, capital-long}
+use borrow.Author.Needs.{needs}
+use Rattle.text_words.proofs.capital_sort.Statement.{statement}
+use Rattle.text_words.proofs.capital_sort.Tie as tie
+
+slice-aggregate-is-same : tie.Need-slice-aggregate-is-same
+slice-aggregate-is-same c = search needs
+
+is-same-requires : tie.Need-is-same-requires
+is-same-requires c κs = search needs
+
+returns : tie.Need-returns
+returns c = capital-reserved _ (c .before .before .before .before .pre .0) (sym (c .before .is-same .ensures) ∙ c .if1 .taken)
+
+returns-2 : tie.Need-returns-2
+returns-2 c =
+    let p = c .before .before .before .before .before .pre in
+    capital-name _ (p .0) (p .1) (sym (c .before .before .is-same .ensures) ∙ c .before .if1 .left) (c .if2 .taken)
+
+returns-3 : tie.Need-returns-3
+returns-3 c = capital-long _ (c .before .before .before .before .before .pre .0) (c .if2 .left)
+
+pub capital-sort-spec : {M : Type 1} → statement M
+capital-sort-spec =
+    tie.close (tie.spec slice-aggregate-is-same is-same-requires returns returns-2 returns-3)
