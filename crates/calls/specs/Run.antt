@@ -5,7 +5,7 @@ use mathlib.Core.List.{List, [], _∷_, map}
 use mathlib.Core.Bool.{Bool, true, false, cond}
 use mathlib.Core.Path.{_≡_}
 use lib.Dec.{eqb}
-use lib.ListN.{getD}
+use lib.ListN.{getD, take, drop}
 use Rattle.terms.specs.Terms.{Component}
 use Rattle.terms.specs.Rules.{Answer, Action, _>>=_}
 use Rattle.terms.specs.Rules.Answer.{refused, accepted}
@@ -53,3 +53,7 @@ unfoldable pub fedOf : List ℕ → List (List ℕ) → List ℕ → List Fed
 fedOf w [] ks = []
 fedOf w (e ∷ es) [] = []
 fedOf w (e ∷ es) (k ∷ ks) = fed (callOf w e) (eqb k 0) ∷ fedOf w es ks
+
+-- what a run of the first calls of a list gives, as many as there are codes for: their codes, the codes past them as they were, and the last state
+abbrev pub runsAs : List ℕ → State → List (List ℕ) → List ℕ → List ℕ → ℕ → State → Type 0
+runsAs w st es before after m last = Run w st (take m es) (take m after) last × (drop m after ≡ drop m before)

@@ -1,0 +1,53 @@
+// A list of calls one after another, each on the state that the call before it returned or, if refused, left.
+ghost use mathlib.Core.Path.{_≡_};
+ghost use mathlib.Core.List.{List, [], _∷_};
+ghost use lib.ListN.{length};
+ghost use Prim.Native.Nat.{min};
+ghost use Rattle.calls.specs.Run.{answerTo, does, runsAs};
+use super::Ran;
+use calls_tick::Ticked;
+use table::State;
+use table::words;
+
+// One call of a list: 4 and a location for a tick, else the kind and the positions of an action.
+fn call(w: &[u32; 99592], st: State, kind: u32, p: u32, q: u32) -> Ticked
+    ensures { λ r. ⌜ does (now (w .entry)) st (answerTo (now (w .entry)) st (kind ∷ p ∷ q ∷ [])) (r .code) (r .state) ⌝ }
+{
+    if kind == 4 {
+        return super::tick_at(w, st, p);
+    }
+    let r = super::action(w, st, kind, words::wide(p), words::wide(q));
+    let next = r.state;
+    Ticked {
+        code: r.code,
+        state: next,
+    }
+}
+
+// The calls of a list one after another, as many as there are codes for; a code is 0, or the number of the question answered by no.
+pub fn run(w: &[u32; 99592], st: State, calls: &[[u32; 3]], codes: &mut [u32]) -> Ran
+    ensures runs { λ r. ⌜ runsAs (now (w .entry)) st (now (calls .entry)) (now (codes .entry)) (now (codes .exit)) (r .done) (r .state) ⌝ }
+    ensures done { λ r. ⌜ r .done ≡ min (length (now (calls .entry))) (length (now (codes .entry))) ⌝ }
+{
+    let n = calls.len();
+    let m = codes.len();
+    let mut state = st;
+    let mut j: usize = 0;
+    while j < n {
+        if m <= j {
+            return Ran {
+                done: j,
+                state: state,
+            };
+        }
+        let e = calls[j];
+        let r = call(w, state, e[0], e[1], e[2]);
+        codes[j] = r.code;
+        state = r.state;
+        j += 1;
+    }
+    Ran {
+        done: j,
+        state: state,
+    }
+}
