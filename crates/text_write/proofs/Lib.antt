@@ -1,0 +1,9 @@
+pub mod Puts
+pub mod Numbers
+pub mod Letters
+pub mod Lists
+pub mod Values
+pub mod Heads
+pub mod Spelled
+pub mod Networks
+pub mod Answered

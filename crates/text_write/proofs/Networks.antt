@@ -1,0 +1,170 @@
+-- The text of a table: its definitions in order, then its components, each unmarked one the part at its place with its own timer and values.
+-- By what a definition and an unmarked component stand for; all slots of a component hold locations.
+use Prim.Native.Nat.{ℕ, suc, _+_, _-_, _*_, _≤_, _<_}
+use native.Mathlib.Omega.{arith}
+use mathlib.Core.List.{List, [], _∷_, _++_, map}
+use mathlib.Core.Bool.{Bool, true, false, _&&_, not}
+use mathlib.Core.Path.{_≡_, refl, ap, sym, _∙_}
+use lib.Dec.{ltb}
+use lib.ListN.{length, getD, take, drop, replicate, length-map, drop-of-length-le}
+use lib.Seq.{drop-cons, getD-take, length-take-le}
+use native.Mathlib.Numerals.{add-one}
+use borrow.Author.Tests.{ltb-true, ltb-false, lt-ltb, le-ltb, not-true}
+use Rattle.terms.specs.Names.{bytes}
+use Rattle.terms.specs.Same.{every}
+use Rattle.terms.specs.Rules.{unmarked}
+use Rattle.terms.specs.Substitution.{subP}
+use Rattle.terms.proofs.Names.{and-inv}
+use Rattle.terms.proofs.Substitution.{none-inP}
+use Rattle.text.specs.Write.{located}
+use Rattle.table.specs.declared.Comp.{Comp}
+use Rattle.table.specs.declared.State.{State}
+use Rattle.table.specs.Words.{locsIn, defsIn, nameAt, locName, defName, arityOf, bodyOf, paramsAt, paramsOf}
+use Rattle.table.specs.Meaning.{listFrom, processAt, defOf, defsOf, means, compsOf, netOf, networkOf}
+use Rattle.table.specs.Valid.{scriptOk, compOk, valid}
+use Rattle.table.proofs.Tests.{script-fine, def-fine, comp-fine, StateFine, state-fine, every-getD}
+use Rattle.table.proofs.Splits.{unmarked-is, marked-is}
+use Rattle.text_write.specs.Forms.{listed, processText, partText, defText, defsText, compText, barred, netText}
+use Rattle.text_write.specs.Values.{partSeen, processSeen, Places}
+use Rattle.text_write.specs.Answer.{textOf, noMark}
+use Rattle.text_write.proofs.Values.{all-shown, none-shown}
+use Rattle.text_write.proofs.Spelled.{text-spelled, network-spelled}
+
+-- ── definitions ──
+-- no slot holds a value
+none-seen : (w : List ℕ) (i : ℕ) → processSeen w i (replicate 8 64) ≡ processAt w i
+unfolding processSeen
+none-seen w i = ap (subP (processAt w i)) (none-shown w i) ∙ none-inP (processAt w i)
+
+pub def-written : (w : List ℕ) (d : ℕ)
+    → nameAt w (10 + d * 24) ++ (listed (map (nameAt w) (take (arityOf w d) ((14 + d * 24) ∷ (18 + d * 24) ∷ (22 + d * 24) ∷ (26 + d * 24) ∷ [])))
+    ++ (bytes " = " ++ (processText (processSeen w (bodyOf w d) (replicate 8 64)) ++ bytes " .\n")))
+    ≡ defText (defOf w d)
+def-written w d = unfold defText defOf defName paramsOf paramsAt in rw (none-seen w (bodyOf w d))
+
+pub body-place : (w : List ℕ) (d : ℕ) → scriptOk w ≡ true → d < defsIn w → Places w (bodyOf w d) (replicate 8 64)
+body-place w d e h = record { good = e; within = def-fine w e d h .body; slots = refl }
+
+pub defs-next : (w : List ℕ) (d n : ℕ) → d < n → defsText (listFrom d (n - d) (defOf w)) ≡ defText (defOf w d) ++ defsText (listFrom (d + 1) (n - (d + 1)) (defOf w))
+defs-next w d n h =
+    ap (λ m. defsText (listFrom d m (defOf w))) left
+    ∙ first (n - (d + 1))
+    ∙ ap (λ m. defText (defOf w d) ++ defsText (listFrom m (n - (d + 1)) (defOf w))) (sym (add-one d))
+  where
+    first : (m : ℕ) → defsText (listFrom d (suc m) (defOf w)) ≡ defText (defOf w d) ++ defsText (listFrom (suc d) m (defOf w))
+    first m = unfold listFrom defsText in refl
+
+    left : n - d ≡ suc (n - (d + 1))
+    left = omega arith
+
+pub defs-end : (w : List ℕ) (d n : ℕ) → n ≤ d → defsText (listFrom d (n - d) (defOf w)) ≡ []
+defs-end w d n h = ap (λ m. defsText (listFrom d m (defOf w))) left ∙ (unfold listFrom defsText in refl)
+  where
+    left : n - d ≡ 0
+    left = omega arith
+
+pub defs-all : (w : List ℕ) → defsText (defsOf w) ≡ defsText (listFrom 0 (defsIn w - 0) (defOf w))
+defs-all w = unfold defsOf in ap (λ m. defsText (listFrom 0 m (defOf w))) left
+  where
+    left : defsIn w ≡ defsIn w - 0
+    left = omega arith
+
+-- ── one component ──
+every-less : (m : ℕ) (vs : List ℕ) → m ≤ 64 → every (λ v. ltb v m) vs ≡ true → every (λ v. ltb v 64) vs ≡ true
+unfolding every
+every-less m [] h e = refl
+every-less m (v ∷ vs) h e = let r = and-inv (ltb v m) _ e in rw (lt-ltb v 64 (omega (arith, ltb-true v m (r .0))), every-less m vs h (r .1))
+
+module _ (w : List ℕ) (good : scriptOk w ≡ true) (c : Comp) (fine : compOk w c ≡ true) where
+  pub comp-place : Places w (c .place) (c .vals)
+  comp-place = let f = comp-fine w c fine in record { good = good; within = f .place; slots = f .slots }
+
+  pub comp-written : 64 ≤ c .mark
+      → nameAt w (776 + c .loc * 4) ++ (91 ∷ (partText (partSeen w (c .place) (c .timer) (c .vals)) ++ (93 ∷ []))) ≡ compText (means w c)
+  comp-written h =
+      let f = comp-fine w c fine in
+      let e = all-shown w (c .place) (c .vals) (every-less (locsIn w) (c .vals) (script-fine w good .locs) (f .vals)) in
+      sym (ap compText (unmarked-is w c (le-ltb (c .mark) 64 h)) ∙ (unfold compText processText partText partSeen locName in rw e))
+
+-- ── all components ──
+pub valid-script : (w : List ℕ) (st : State) → valid w st ≡ true → scriptOk w ≡ true
+unfolding valid
+valid-script w st e = and-inv (scriptOk w) _ e .0
+
+pub valid-state : (w : List ℕ) (st : State) → valid w st ≡ true → StateFine w st
+unfolding valid
+valid-state w st e = state-fine w st (and-inv (scriptOk w) _ e .1)
+
+-- 14 on the table
+unmarked-one : (w : List ℕ) (c : Comp) (b : Bool) → ltb (c .mark) 64 ≡ b → unmarked (means w c) ≡ not b
+unfolding unmarked
+unmarked-one w c true e = rw (marked-is w c e)
+unmarked-one w c false e = rw (unmarked-is w c e)
+
+unmarked-all : (w : List ℕ) (cs : List Comp) → every unmarked (map (means w) cs) ≡ every (λ c. not (ltb (c .mark) 64)) cs
+unfolding every
+unmarked-all w [] = refl
+unmarked-all w (c ∷ cs) = rw (unmarked-one w c (ltb (c .mark) 64) refl, unmarked-all w cs)
+
+pub unmarked-table : (w : List ℕ) (st : State) → noMark w st ≡ every (λ c. not (ltb (c .mark) 64)) (compsOf st)
+unfolding noMark netOf
+unmarked-table w st = unmarked-all w (compsOf st)
+
+-- the length of an array, from that of its image
+pub mapped : {A B : Type 0} (f : A → B) (xs : List A) (n : ℕ) → length (map f xs) ≡ n → length xs ≡ n
+mapped f xs n e = sym (length-map xs f) ∙ e
+
+-- ── the components in use, by position ──
+module _ (st : State) (h : st .n ≤ length (st .c)) where
+  comps-length : length (compsOf st) ≡ st .n
+  unfolding compsOf
+  comps-length = length-take-le (st .n) (st .c) h
+
+  in-use : (d : Comp) (k : ℕ) → k < st .n → getD (compsOf st) k d ≡ getD (st .c) k d
+  unfolding compsOf
+  in-use d k l = getD-take (st .n) (st .c) k d l
+
+  comp-at : (d : Comp) (k : ℕ) → k < st .n → drop k (compsOf st) ≡ getD (st .c) k d ∷ drop (k + 1) (compsOf st)
+  comp-at d k l = drop-cons (compsOf st) k d (omega (arith, comps-length)) ∙ rw (add-one k, in-use d k l)
+
+-- a test of the components from position k on
+module _ (f : Comp → Bool) (st : State) (h : st .n ≤ length (st .c)) where
+  every-next : (d : Comp) (k : ℕ) → k < st .n → every f (drop k (compsOf st)) ≡ f (getD (st .c) k d) && every f (drop (k + 1) (compsOf st))
+  every-next d k l = ap (every f) (comp-at st h d k l) ∙ (unfold every in refl)
+
+  pub every-yes : (d : Comp) (k : ℕ) → k < st .n → f (getD (st .c) k d) ≡ true → every f (drop (k + 1) (compsOf st)) ≡ every f (drop k (compsOf st))
+  every-yes d k l e = sym (every-next d k l ∙ ap (λ b. b && every f (drop (k + 1) (compsOf st))) e)
+
+  pub every-no : (d : Comp) (k : ℕ) → k < st .n → f (getD (st .c) k d) ≡ false → false ≡ every f (drop k (compsOf st))
+  every-no d k l e = sym (every-next d k l ∙ ap (λ b. b && every f (drop (k + 1) (compsOf st))) e)
+
+  pub every-end : (k : ℕ) → st .n ≤ k → true ≡ every f (drop k (compsOf st))
+  every-end k l = sym (ap (every f) (drop-of-length-le (compsOf st) {i = k} (omega (arith, comps-length st h))) ∙ (unfold every in refl))
+
+-- the components that are left from position k on
+module _ (w : List ℕ) (st : State) where
+  abbrev pub left : ℕ → List (List ℕ)
+  left k = map compText (map (means w) (drop k (compsOf st)))
+
+  module _ (h : st .n ≤ length (st .c)) where
+    pub comps-first : (d : Comp) → 0 < st .n → netText (map compText (netOf w st)) ≡ compText (means w (getD (st .c) 0 d)) ++ barred (left 1)
+    comps-first d l = unfold netOf in ap (λ cs. netText (map compText (map (means w) cs))) (comp-at st h d 0 l) ∙ (unfold netText in refl)
+
+    pub comps-next : (d : Comp) (k : ℕ) → k < st .n → barred (left k) ≡ bytes " | " ++ (compText (means w (getD (st .c) k d)) ++ barred (left (k + 1)))
+    comps-next d k l = ap (λ cs. barred (map compText (map (means w) cs))) (comp-at st h d k l) ∙ (unfold barred in refl)
+
+    pub comps-end : (k : ℕ) → st .n ≤ k → barred (left k) ≡ bytes " .\n"
+    comps-end k l = ap (λ cs. barred (map compText (map (means w) cs))) (drop-of-length-le (compsOf st) {i = k} (omega (arith, comps-length st h))) ∙ (unfold barred in refl)
+
+    -- a component in use is good, and unmarked where all are
+    pub comp-good : (d : Comp) (k : ℕ) → k < st .n → valid w st ≡ true → noMark w st ≡ true → (compOk w (getD (st .c) k d) ≡ true) × (64 ≤ getD (st .c) k d .mark)
+    comp-good d k l v u =
+        let q = in-use st h d k l in
+        let g = every-getD (compOk w) (compsOf st) d k (valid-state w st v .each) (omega (arith, comps-length st h)) in
+        let m = every-getD (λ c. not (ltb (c .mark) 64)) (compsOf st) d k (sym (unmarked-table w st) ∙ u) (omega (arith, comps-length st h)) in
+        (rw q at g, ltb-false (getD (st .c) k d .mark) 64 (not-true (ltb (getD (st .c) k d .mark) 64) (rw q at m)))
+
+-- ── the whole text ──
+pub text-is : (w : List ℕ) (st : State) → defsText (defsOf w) ++ netText (map compText (netOf w st)) ≡ textOf w st
+unfolding textOf networkOf
+text-is w st = sym (text-spelled (defsOf w) (map located (netOf w st)) ∙ ap (λ z. defsText (defsOf w) ++ z) (network-spelled (netOf w st)))

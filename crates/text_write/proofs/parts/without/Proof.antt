@@ -1,0 +1,27 @@
+-- The slot of an input emptied; one past the eight is none of them.
+-- By setting an element, or none.
+use native.Mathlib.Omega.{arith}
+use mathlib.Core.Path.{ap, sym}
+use lib.ListN.{set}
+use lib.Seq.{set-out}
+use borrow.Author.Needs.{needs}
+use Rattle.text_write.proofs.parts.without.Statement.{statement}
+use Rattle.text_write.proofs.parts.without.Tie as tie
+
+wide-requires : tie.Need-wide-requires
+wide-requires c κs = search needs
+
+mul-r : tie.Need-mul-r
+mul-r c = search needs
+
+array-write-r : tie.Need-array-write-r
+array-write-r c = search needs
+
+returns : tie.Need-returns
+returns c = ap (λ n. set (c .before .before .before .args .vals .now) n 64) (c .before .wide .ensures)
+
+returns-2 : tie.Need-returns-2
+returns-2 c = sym (set-out (c .before .before .before .args .vals .now) (c .before .before .before .args .k) 64 (omega arith))
+
+pub without-spec : {M : Type 1} → statement M
+without-spec = tie.close (tie.spec wide-requires mul-r array-write-r returns returns-2)

@@ -1,0 +1,27 @@
+-- The write call: a network that fails question 17 is refused, and any other is written by `write_valid`.
+-- By the answer to question 17.
+use mathlib.Core.Path.{sym, _∙_}
+use borrow.Author.Tests.{not-true, not-false}
+use Rattle.text_write.proofs.Answered.{says-17}
+use borrow.Author.Needs.{needs}
+use Rattle.text_write.proofs.write.Statement.{statement}
+use Rattle.text_write.proofs.write.Tie as tie
+
+is-valid-requires : tie.Need-is-valid-requires
+is-valid-requires c κs = search needs
+
+returns : tie.Need-returns
+returns c = says-17 (c .before .before .before .args .w .now) (c .before .before .before .args .st) (c .before .before .before .args .buf .now) (sym (c .before .is-valid .ensures) ∙ not-true _ (c .if1 .taken))
+
+write-valid-requires : tie.Need-write-valid-requires
+write-valid-requires c κs = sym (c .before .before .is-valid .ensures) ∙ not-false _ (c .before .if1 .left)
+
+same-length : tie.Need-same-length
+same-length c = search needs
+
+returns-2 : tie.Need-returns-2
+returns-2 c = search needs
+
+pub write-spec : {M : Type 1} → statement M
+write-spec =
+    tie.close (tie.spec is-valid-requires returns write-valid-requires same-length returns-2)

@@ -1,0 +1,4 @@
+pub mod Put
+pub mod Forms
+pub mod Values
+pub mod Answer

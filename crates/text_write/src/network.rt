@@ -1,0 +1,112 @@
+// Definitions, components, and the whole text of a network.
+ghost use mathlib.Core.Path.{_≡_};
+ghost use mathlib.Core.Bool.{true, not};
+ghost use mathlib.Core.List.{map};
+ghost use Prim.Native.Nat.{_≤_, _<_};
+ghost use lib.Dec.{ltb};
+ghost use Rattle.terms.specs.Same.{every};
+ghost use Rattle.table.specs.Words.{defsIn};
+ghost use Rattle.table.specs.Meaning.{defOf, defsOf, means, compsOf, netOf};
+ghost use Rattle.table.specs.Valid.{scriptOk, compOk, valid};
+ghost use Rattle.text_write.specs.Put.{Wrote};
+ghost use Rattle.text_write.specs.Forms.{defText, defsText, compText, netText};
+ghost use Rattle.text_write.specs.Answer.{textOf, noMark};
+use super::parts::write_part;
+use super::parts::write_process;
+use super::put::put;
+use super::put::put_all;
+use super::put::put_bar;
+use super::put::put_end;
+use super::put::put_list;
+use super::put::put_name;
+use table::Comp;
+use table::State;
+use table::words::arity_of;
+use table::words::body_of;
+use table::words::wide;
+use table::words::word;
+
+// The definition d, on a line.
+pub fn write_def(w: &[u32; 99592], d: usize, buf: &mut [u8], at: usize) -> usize
+    requires { ⌜ (scriptOk (now w) ≡ true) × (d < defsIn (now w)) ⌝ }
+    ensures { λ r. ⌜ Wrote (now (buf .entry)) at (defText (defOf (now (w .entry)) d)) (now (buf .exit)) r ⌝ }
+{
+    let o = [14 + d * 24, 18 + d * 24, 22 + d * 24, 26 + d * 24];
+    let none = [64u32; 8];
+    let a = put_name(w, 10 + d * 24, buf, at);
+    let b = put_list(w, &o, wide(arity_of(w, d)), buf, a);
+    let c = put_all(b" = ", buf, b);
+    let e = write_process(w, wide(body_of(w, d)), &none, buf, c);
+    put_end(buf, e)
+}
+
+// All definitions, in table order.
+pub fn write_defs(w: &[u32; 99592], buf: &mut [u8], at: usize) -> usize
+    requires { ⌜ scriptOk (now w) ≡ true ⌝ }
+    ensures { λ r. ⌜ Wrote (now (buf .entry)) at (defsText (defsOf (now (w .entry)))) (now (buf .exit)) r ⌝ }
+{
+    let n = wide(word(w, 3));
+    let mut a = at;
+    let mut d = 0;
+    while d < n {
+        a = write_def(w, d, buf, a);
+        d += 1;
+    }
+    a
+}
+
+// An unmarked component: its one part in brackets, after its location.
+pub fn write_comp(w: &[u32; 99592], c: Comp, buf: &mut [u8], at: usize) -> usize
+    requires { ⌜ (scriptOk (now w) ≡ true) × (compOk (now w) c ≡ true) × (64 ≤ c .mark) ⌝ }
+    ensures { λ r. ⌜ Wrote (now (buf .entry)) at (compText (means (now (w .entry)) c)) (now (buf .exit)) r ⌝ }
+{
+    let vals = c.vals;
+    let a = put_name(w, 776 + wide(c.loc) * 4, buf, at);
+    let b = put(b'[', buf, a);
+    let d = write_part(w, wide(c.place), c.timer, &vals, buf, b);
+    put(b']', buf, d)
+}
+
+// The line of the components, in order.
+pub fn write_comps(w: &[u32; 99592], st: State, buf: &mut [u8], at: usize) -> usize
+    requires { ⌜ (valid (now w) st ≡ true) × (noMark (now w) st ≡ true) ⌝ }
+    ensures { λ r. ⌜ Wrote (now (buf .entry)) at (netText (map compText (netOf (now (w .entry)) st))) (now (buf .exit)) r ⌝ }
+{
+    let n = st.n;
+    let first = st.c[0];
+    let mut a = write_comp(w, first, buf, at);
+    let mut k = 1;
+    while k < n {
+        a = put_bar(buf, a);
+        let c = st.c[k];
+        a = write_comp(w, c, buf, a);
+        k += 1;
+    }
+    put_end(buf, a)
+}
+
+// The whole text, from the start of the buffer on.
+pub fn write_text(w: &[u32; 99592], st: State, buf: &mut [u8]) -> usize
+    requires { ⌜ (valid (now w) st ≡ true) × (noMark (now w) st ≡ true) ⌝ }
+    ensures { λ r. ⌜ Wrote (now (buf .entry)) 0 (textOf (now (w .entry)) st) (now (buf .exit)) r ⌝ }
+{
+    let a = write_defs(w, buf, 0);
+    write_comps(w, st, buf, a)
+}
+
+// 14: is no component marked?
+pub fn all_unmarked(st: State) -> bool
+    requires { ⌜ st .n ≤ 256 ⌝ }
+    ensures { λ r. ⌜ r ≡ every (λ c. not (ltb (c .mark) 64)) (compsOf st) ⌝ }
+{
+    let n = st.n;
+    let mut k = 0;
+    while k < n {
+        let c = st.c[k];
+        if c.mark < 64 {
+            return false;
+        }
+        k += 1;
+    }
+    true
+}

@@ -1,0 +1,177 @@
+// Parts and processes: a part up to its first process, then the processes of it, which part writer and process writer write in turn.
+// The place in the table is the falling number. The name of location l stands at word 776 + 4l, of channel c at 1032 + 4c, of definition d
+// at 10 + 24d, and what the input at i binds at 1305 + 24i. Values are eight numbers: below 64 the location that a slot holds, else its own name is written.
+ghost use mathlib.Core.Path.{_≡_};
+ghost use mathlib.Core.Bool.{true};
+ghost use mathlib.Core.List.{_∷_, _++_, map};
+ghost use Prim.Native.Nat.{_≤_, _<_};
+ghost use lib.ListN.{length, take, set};
+ghost use Rattle.terms.specs.Names.{bytes};
+ghost use Rattle.terms.specs.Clock.{ticksOf};
+ghost use Rattle.table.specs.Words.{nameAt, chanName, defName, namesAt};
+ghost use Rattle.table.specs.Valid.{refOk};
+ghost use Rattle.text_write.specs.Put.{Wrote};
+ghost use Rattle.text_write.specs.Forms.{valueText, listed, fieldsText, openText, partText, processText};
+ghost use Rattle.text_write.specs.Values.{Places, valueSeen, partSeen, processSeen};
+use super::put::put;
+use super::put::put_all;
+use super::put::put_bar;
+use super::put::put_fields;
+use super::put::put_list;
+use super::put::put_name;
+use table::Head;
+use table::words::field;
+use table::words::head_at;
+use table::words::next_at;
+use table::words::wide;
+
+// Where the name stands that a value at the part i is written as.
+pub fn value_at(w: &[u32; 99592], i: usize, vals: &[u32; 8], v: u32) -> usize
+    requires { ⌜ (i < 4096) × (length (now vals) ≡ 8) ⌝ }
+    ensures { λ r. ⌜ (refOk (now (w .entry)) (namesAt (now (w .entry)) i) v ≡ true → nameAt (now (w .entry)) r ≡ valueText (valueSeen (now (w .entry)) i (now (vals .entry)) v)) ⌝ }
+{
+    let n = wide(v);
+    if n < 64 {
+        return 776 + n * 4;
+    }
+    let k = n - 64;
+    if 7 < k {
+        // no slot, and so no value of a valid table
+        return 0;
+    }
+    let x = wide(vals[k]);
+    if x < 64 {
+        return 776 + x * 4;
+    }
+    wide(field(w, i, 9 + k))
+}
+
+// The values in the P of an input of the slot k: the slot holds none.
+pub fn without(vals: &[u32; 8], k: u32) -> [u32; 8]
+    requires { ⌜ length (now vals) ≡ 8 ⌝ }
+    ensures { λ r. ⌜ r ≡ set (now (vals .entry)) k 64 ⌝ }
+{
+    let mut r = *vals;
+    let j = wide(k);
+    if j < 8 {
+        r[j] = 64;
+    }
+    r
+}
+
+// `go(t,x,`, where the name x stands at the word o.
+fn open_one(w: &[u32; 99592], t: u32, o: usize, buf: &mut [u8], at: usize) -> usize
+    ensures { λ r. ⌜ Wrote (now (buf .entry)) at (bytes "go(" ++ fieldsText (ticksOf t) (nameAt (now (w .entry)) o)) (now (buf .exit)) r ⌝ }
+{
+    let a = put_all(b"go(", buf, at);
+    put_fields(w, t, o, buf, a)
+}
+
+// The word s, which is `out(` or `in(`, then `c,t,x,`, where the name x stands at the word o.
+fn open_two(
+    w: &[u32; 99592],
+    s: &[u8],
+    c: u32,
+    t: u32,
+    o: usize,
+    buf: &mut [u8],
+    at: usize,
+) -> usize
+    ensures { λ r. ⌜ Wrote (now (buf .entry)) at (now (s .entry) ++ (chanName (now (w .entry)) c ++ (44 ∷ fieldsText (ticksOf t) (nameAt (now (w .entry)) o)))) (now (buf .exit)) r ⌝ }
+{
+    let a = put_all(s, buf, at);
+    let b = put_name(w, 1032 + wide(c) * 4, buf, a);
+    let d = put(b',', buf, b);
+    put_fields(w, t, o, buf, d)
+}
+
+// A call of the definition d with the n names that stand at the words o.
+fn put_call(w: &[u32; 99592], d: u32, o: &[usize; 4], n: usize, buf: &mut [u8], at: usize) -> usize
+    requires { ⌜ (n ≤ 4) × (length (now o) ≡ 4) ⌝ }
+    ensures { λ r. ⌜ Wrote (now (buf .entry)) at (defName (now (w .entry)) d ++ listed (map (nameAt (now (w .entry))) (take n (now (o .entry))))) (now (buf .exit)) r ⌝ }
+{
+    let a = put_name(w, 10 + wide(d) * 24, buf, at);
+    put_list(w, o, n, buf, a)
+}
+
+// The part at i with the timer t, up to its first process.
+fn put_open(w: &[u32; 99592], i: usize, t: u32, vals: &[u32; 8], buf: &mut [u8], at: usize) -> usize
+    requires { ⌜ Places (now w) i (now vals) ⌝ }
+    ensures { λ r. ⌜ Wrote (now (buf .entry)) at (openText (partSeen (now (w .entry)) i t (now (vals .entry)))) (now (buf .exit)) r ⌝ }
+{
+    match head_at(w, i) {
+        Head::Stop => put_all(b"stop", buf, at),
+        Head::Go(_, v, _) => open_one(w, t, value_at(w, i, vals, v), buf, at),
+        Head::Out(c, _, v, _, _) => open_two(w, b"out(", c, t, value_at(w, i, vals, v), buf, at),
+        Head::In(c, _, _, _, _) => open_two(w, b"in(", c, t, 1305 + i * 24, buf, at),
+        Head::Call(d, n, a0, a1, a2, a3) => {
+            let o = [
+                value_at(w, i, vals, a0),
+                value_at(w, i, vals, a1),
+                value_at(w, i, vals, a2),
+                value_at(w, i, vals, a3),
+            ];
+            put_call(w, d, &o, wide(n), buf, at)
+        }
+    }
+}
+
+// The part at i with the timer t.
+pub fn write_part(
+    w: &[u32; 99592],
+    i: usize,
+    t: u32,
+    vals: &[u32; 8],
+    buf: &mut [u8],
+    at: usize,
+) -> usize
+    requires { ⌜ Places (now w) i (now vals) ⌝ }
+    ensures { λ r. ⌜ Wrote (now (buf .entry)) at (partText (partSeen (now (w .entry)) i t (now (vals .entry)))) (now (buf .exit)) r ⌝ }
+{
+    let a = put_open(w, i, t, vals, buf, at);
+    match head_at(w, i) {
+        Head::Stop => a,
+        Head::Go(_, _, p) => {
+            let b = write_process(w, wide(p), vals, buf, a);
+            put(b')', buf, b)
+        }
+        Head::Out(_, _, _, p, q) => {
+            let b = write_process(w, wide(p), vals, buf, a);
+            let c = put(b',', buf, b);
+            let d = write_process(w, wide(q), vals, buf, c);
+            put(b')', buf, d)
+        }
+        Head::In(_, _, k, p, q) => {
+            let inner = without(vals, k);
+            let b = write_process(w, wide(p), &inner, buf, a);
+            let c = put(b',', buf, b);
+            let d = write_process(w, wide(q), vals, buf, c);
+            put(b')', buf, d)
+        }
+        Head::Call(_, _, _, _, _, _) => a,
+    }
+}
+
+// The process at i, part by part.
+pub fn write_process(
+    w: &[u32; 99592],
+    i: usize,
+    vals: &[u32; 8],
+    buf: &mut [u8],
+    at: usize,
+) -> usize
+    requires { ⌜ Places (now w) i (now vals) ⌝ }
+    ensures { λ r. ⌜ Wrote (now (buf .entry)) at (processText (processSeen (now (w .entry)) i (now (vals .entry)))) (now (buf .exit)) r ⌝ }
+{
+    let mut j = i;
+    let mut a = at;
+    loop {
+        a = write_part(w, j, field(w, j, 2), vals, buf, a);
+        let n = wide(next_at(w, j));
+        if n == 0 {
+            return a;
+        }
+        a = put_bar(buf, a);
+        j = n - 1;
+    }
+}

@@ -1,0 +1,36 @@
+//! `answers SCRIPT CALLS`: prints the answer to every call of a list, in the
+//! format of README.md, and the verdict of the grouped run.
+
+use std::env;
+use std::error::Error;
+use std::fs;
+use std::io::{self, Write};
+use std::process::ExitCode;
+
+use timo_reference::calls::Engine;
+use timo_reference::{lists, printout};
+
+fn main() -> ExitCode {
+    let arguments: Vec<String> = env::args().skip(1).collect();
+    let result = match arguments.as_slice() {
+        [script, calls] => print_answers(script, calls),
+        _ => Err("usage: answers SCRIPT CALLS".into()),
+    };
+    match result {
+        Ok(()) => ExitCode::SUCCESS,
+        Err(error) => {
+            let _ = writeln!(io::stderr(), "answers: {error}");
+            ExitCode::FAILURE
+        }
+    }
+}
+
+fn print_answers(script: &str, calls: &str) -> Result<(), Box<dyn Error>> {
+    let script = fs::read(script)?;
+    let calls = lists::parse(&fs::read_to_string(calls)?).map_err(|bad| bad.to_string())?;
+    let text = printout::answers(Engine::default(), &script, &calls);
+    match io::stdout().lock().write_all(text.as_bytes()) {
+        Err(error) if error.kind() == io::ErrorKind::BrokenPipe => Ok(()),
+        ended => Ok(ended?),
+    }
+}

@@ -1,0 +1,302 @@
+//! The outward calls (document 01, *Actions*, *The tick at l*, *The other
+//! calls*), each with its questions in the order of *Questions, asked
+//! downward*.
+//!
+//! A network goes in as a shared reference and a new one comes out, so that a
+//! refusal leaves it as it was. Lent buffers are written only after the last
+//! question.
+
+use crate::reading::{self, Limits, MOST_COMPONENTS};
+use crate::refusal::Refusal;
+use crate::rules::{Action, Label, Rules, Vanish, Variant};
+use crate::term::{Component, Definition, Network, Part};
+use crate::writing;
+
+/// An action as callers hand it in, of any content.
+#[derive(Clone, Copy, Debug, PartialEq, Eq)]
+pub struct Record {
+    pub kind: u32,
+    pub p: u32,
+    pub q: u32,
+}
+
+impl Record {
+    pub fn new(kind: u32, p: u32, q: u32) -> Record {
+        Record { kind, p, q }
+    }
+
+    /// The record of an action; q is 0 for kinds 1 and 2.
+    pub fn of(action: Action) -> Record {
+        let number = |position: usize| position as u32;
+        match action {
+            Action::Call(p) => Record::new(1, number(p), 0),
+            Action::Move(p) => Record::new(2, number(p), 0),
+            Action::Communication(p, q) => Record::new(3, number(p), number(q)),
+        }
+    }
+}
+
+/// What a step returns beside the records in the lent buffer.
+#[derive(Clone, Debug)]
+pub struct Stepped {
+    pub network: Network,
+    /// One label for each record written.
+    pub labels: Vec<Label>,
+}
+
+/// The locations where the tick is not allowed.
+#[derive(Clone, Copy, Debug, PartialEq, Eq)]
+pub struct Forced {
+    /// Bit k stands for location number k.
+    pub set: u64,
+    pub count: u32,
+    /// The lowest such location, or 64 for none.
+    pub lowest: u32,
+}
+
+/// The calls, by the right rules or by a wrong variant.
+#[derive(Clone, Copy, Debug, Default)]
+pub struct Engine {
+    rules: Rules,
+}
+
+impl Engine {
+    pub fn new(variant: Variant) -> Engine {
+        Engine {
+            rules: Rules { variant },
+        }
+    }
+
+    /// Questions 1 to 7.
+    pub fn read(self, text: &[u8]) -> Result<Network, Refusal> {
+        reading::read(text, Limits::On)
+    }
+
+    /// Questions 8 to 11.
+    pub fn action(self, network: &Network, record: Record) -> Result<(Network, Label), Refusal> {
+        let action = questioned(&network.components, record)?;
+        let mut components = network.components.clone();
+        let label = self.take(network, &mut components, action)?;
+        Ok((network.with(components), label))
+    }
+
+    /// Questions 8, 12, 13.
+    pub fn tick(self, network: &Network, location: u32) -> Result<Network, Refusal> {
+        let location = location_name(network, location)?;
+        self.close(network, network.components.clone(), location)
+    }
+
+    /// Questions 8, 15, 13. Question 12 cannot come up: one pass upward leaves
+    /// nothing that is forced.
+    pub fn step(
+        self,
+        network: &Network,
+        location: u32,
+        lent: &mut [Record],
+    ) -> Result<Stepped, Refusal> {
+        let location = location_name(network, location)?;
+        let mut components = network.components.clone();
+        let mut records = Vec::new();
+        let mut labels = Vec::new();
+        for position in 0..components.len() {
+            if let Some(action) = self.choice(&components, position, location) {
+                labels.push(self.take(network, &mut components, action)?);
+                records.push(Record::of(action));
+            }
+        }
+        if records.len() > lent.len() {
+            return Err(Refusal::BufferShort);
+        }
+        let network = self.close(network, components, location)?;
+        lent[..records.len()].copy_from_slice(&records);
+        Ok(Stepped { network, labels })
+    }
+
+    /// Question 8 for the location; each action in turn 8 to 11 and 16; then
+    /// 12 and 13.
+    pub fn proposal(
+        self,
+        network: &Network,
+        location: u32,
+        records: &[Record],
+    ) -> Result<(Network, Vec<Label>), Refusal> {
+        let location = location_name(network, location)?;
+        let mut components = network.components.clone();
+        let mut labels = Vec::new();
+        for record in records {
+            let action = questioned(&components, *record)?;
+            let label = self.take(network, &mut components, action)?;
+            if label.at() != location {
+                return Err(Refusal::Elsewhere);
+            }
+            labels.push(label);
+        }
+        Ok((self.close(network, components, location)?, labels))
+    }
+
+    /// No question. A network read with limits has at most 64 locations; of
+    /// one read without, only the first 64 are reported.
+    pub fn forced(self, network: &Network) -> Forced {
+        let mut set = 0u64;
+        for (number, location) in network.script.locations.iter().take(64).enumerate() {
+            if self.rules.forced(&network.components, location) {
+                set |= 1 << number;
+            }
+        }
+        Forced {
+            set,
+            count: set.count_ones(),
+            lowest: set.trailing_zeros(),
+        }
+    }
+
+    /// No question.
+    pub fn same(self, one: &Network, other: &Network) -> bool {
+        sorted_definitions(one) == sorted_definitions(other)
+            && same_in_any_order(&one.components, &other.components)
+    }
+
+    /// Questions 14 and 15. Gives the length of the text.
+    pub fn write(self, network: &Network, lent: &mut [u8]) -> Result<usize, Refusal> {
+        if network
+            .components
+            .iter()
+            .any(|component| component.mark.is_some())
+        {
+            return Err(Refusal::MarkedText);
+        }
+        let text = writing::network(network);
+        if text.len() > lent.len() {
+            return Err(Refusal::BufferShort);
+        }
+        lent[..text.len()].copy_from_slice(text.as_bytes());
+        Ok(text.len())
+    }
+
+    /// Takes an action that questions 8 to 11 have let through.
+    fn take(
+        self,
+        network: &Network,
+        components: &mut Vec<Component>,
+        action: Action,
+    ) -> Result<Label, Refusal> {
+        self.rules
+            .take(&network.script, components, action)
+            .ok_or(Refusal::WrongForm)
+    }
+
+    /// The tick with questions 12 and 13.
+    fn close(
+        self,
+        network: &Network,
+        components: Vec<Component>,
+        location: &str,
+    ) -> Result<Network, Refusal> {
+        if self.rules.forced(&components, location) {
+            return Err(Refusal::Forced);
+        }
+        let after = self.rules.tick(components, location, Vanish::OwnMarks);
+        if after.len() > MOST_COMPONENTS {
+            return Err(Refusal::TableFull);
+        }
+        Ok(network.with(after))
+    }
+
+    /// What a step fires when its pass comes to `position`.
+    fn choice(self, components: &[Component], position: usize, location: &str) -> Option<Action> {
+        match components[position].ready_at(location)? {
+            Part::Call { .. } => Some(Action::Call(position)),
+            Part::Go { timer, .. } if timer.is_zero() => Some(Action::Move(position)),
+            Part::Out { channel, .. } => {
+                let partner = self.partner(components, location, channel)?;
+                Some(Action::Communication(position, partner))
+            }
+            _ => None,
+        }
+    }
+
+    /// The lowest ready input on a channel.
+    fn partner(self, components: &[Component], location: &str, channel: &str) -> Option<usize> {
+        let hears = |component: &Component| match component.ready_at(location) {
+            Some(Part::In { channel: heard, .. }) => heard == channel,
+            _ => false,
+        };
+        if self.rules.variant == Variant::FiresHighestInput {
+            return components.iter().rposition(hears);
+        }
+        components.iter().position(hears)
+    }
+}
+
+/// Question 8 for a location number.
+fn location_name(network: &Network, location: u32) -> Result<&str, Refusal> {
+    let number = usize::try_from(location).map_err(|_| Refusal::OutOfRange)?;
+    network
+        .script
+        .locations
+        .get(number)
+        .map(String::as_str)
+        .ok_or(Refusal::OutOfRange)
+}
+
+/// Questions 8 to 11 for an action. Kinds 1 and 2 do not look at q.
+fn questioned(components: &[Component], record: Record) -> Result<Action, Refusal> {
+    let action = in_range(components, record).ok_or(Refusal::OutOfRange)?;
+    let chosen: Vec<&Component> = action.positions().iter().map(|p| &components[*p]).collect();
+    if chosen.iter().any(|component| component.mark.is_some()) {
+        return Err(Refusal::Marked);
+    }
+    let parts: Vec<Option<&Part>> = chosen
+        .iter()
+        .map(|component| component.ready_part())
+        .collect();
+    match (action, parts.as_slice()) {
+        (Action::Call(_), [Some(Part::Call { .. })]) => Ok(action),
+        (Action::Move(_), [Some(Part::Go { .. })]) => Ok(action),
+        (
+            Action::Communication(..),
+            [Some(Part::Out { channel: sent, .. }), Some(Part::In { channel: heard, .. })],
+        ) => {
+            if chosen[0].location == chosen[1].location && sent == heard {
+                Ok(action)
+            } else {
+                Err(Refusal::Apart)
+            }
+        }
+        _ => Err(Refusal::WrongForm),
+    }
+}
+
+/// Question 8 for an action.
+pub(crate) fn in_range(components: &[Component], record: Record) -> Option<Action> {
+    let position = |number: u32| {
+        let position = usize::try_from(number).ok()?;
+        (position < components.len()).then_some(position)
+    };
+    match record.kind {
+        1 => Some(Action::Call(position(record.p)?)),
+        2 => Some(Action::Move(position(record.p)?)),
+        3 => Some(Action::Communication(
+            position(record.p)?,
+            position(record.q)?,
+        )),
+        _ => None,
+    }
+}
+
+fn sorted_definitions(network: &Network) -> Vec<&Definition> {
+    let mut definitions: Vec<&Definition> = network.script.definitions.iter().collect();
+    definitions.sort();
+    definitions
+}
+
+/// Whether two lists hold the same components, each as often.
+pub fn same_in_any_order(one: &[Component], other: &[Component]) -> bool {
+    sorted(one) == sorted(other)
+}
+
+fn sorted(components: &[Component]) -> Vec<&Component> {
+    let mut sorted: Vec<&Component> = components.iter().collect();
+    sorted.sort();
+    sorted
+}

@@ -1,0 +1,317 @@
+//! Call lists on a network: mostly what is enabled there, about a third
+//! refused, all locations mixed. The list is made by following the network
+//! with the right engine.
+
+use super::damage::damage_tokens;
+use super::draft::{cut, spaced, Tokens};
+use crate::calls::{Engine, Record};
+use crate::lists::Call;
+use crate::random::Random;
+use crate::rules::{Action, Rules};
+use crate::term::{Component, Network, Part};
+use crate::writing;
+
+/// That many calls from a network just read.
+pub fn calls(random: &mut Random, network: Network, count: usize) -> Vec<Call> {
+    let mut network = network;
+    let mut calls = Vec::new();
+    for _ in 0..count {
+        let call = call(random, &network);
+        if let Some(next) = next(&network, &call) {
+            network = next;
+        }
+        calls.push(call);
+    }
+    calls
+}
+
+/// The network after a call, if the call changes it.
+fn next(network: &Network, call: &Call) -> Option<Network> {
+    let engine = Engine::default();
+    match call {
+        Call::Action(record) => engine.action(network, *record).ok().map(|(next, _)| next),
+        Call::Tick(location) => engine.tick(network, *location).ok(),
+        Call::Step { location, room } => {
+            let mut lent = vec![Record::new(0, 0, 0); *room];
+            engine
+                .step(network, *location, &mut lent)
+                .ok()
+                .map(|stepped| stepped.network)
+        }
+        Call::Proposal { location, records } => engine
+            .proposal(network, *location, records)
+            .ok()
+            .map(|(next, _)| next),
+        _ => None,
+    }
+}
+
+fn call(random: &mut Random, network: &Network) -> Call {
+    match random.weighted(&[38, 8, 12, 16, 6, 10, 4, 4, 2, 4, 4]) {
+        0 => enabled_action(random, network),
+        1 => Call::Action(any_record(random, network)),
+        2 => Call::Action(fitting_record(random, network)),
+        3 => Call::Tick(any_location(random, network)),
+        4 => Call::Tick(quiet_location(random, network)),
+        5 => proposal(random, network),
+        6 => step(random, network),
+        7 => Call::Forced,
+        8 => Call::Keep,
+        9 => same(random, network),
+        _ => write(random, network),
+    }
+}
+
+// --- actions and ticks --------------------------------------------------------
+
+fn enabled_action(random: &mut Random, network: &Network) -> Call {
+    let enabled = enabled(&network.components, None);
+    if enabled.is_empty() {
+        return Call::Tick(quiet_location(random, network));
+    }
+    let mut record = Record::of(*random.pick(&enabled));
+    if record.kind < 3 {
+        record.q = any_number(random, network.components.len());
+    }
+    Call::Action(record)
+}
+
+/// Every action that can fire, at one location or at all.
+fn enabled(components: &[Component], location: Option<&str>) -> Vec<Action> {
+    let mut actions = Vec::new();
+    for (p, component) in components.iter().enumerate() {
+        if location.is_some_and(|location| location != component.location) {
+            continue;
+        }
+        match component.ready_part() {
+            Some(Part::Call { .. }) => actions.push(Action::Call(p)),
+            Some(Part::Go { .. }) => actions.push(Action::Move(p)),
+            Some(Part::Out { channel, .. }) => {
+                let inputs = inputs(components, &component.location, channel);
+                actions.extend(inputs.map(|q| Action::Communication(p, q)));
+            }
+            _ => {}
+        }
+    }
+    actions
+}
+
+fn inputs<'a>(
+    components: &'a [Component],
+    location: &'a str,
+    channel: &'a str,
+) -> impl Iterator<Item = usize> + 'a {
+    let hears = move |position: &usize| match components[*position].ready_at(location) {
+        Some(Part::In { channel: heard, .. }) => heard == channel,
+        _ => false,
+    };
+    (0..components.len()).filter(hears)
+}
+
+/// A record whose kind fits the component at p, marked or not, and for an
+/// output any input, wherever it stands.
+fn fitting_record(random: &mut Random, network: &Network) -> Record {
+    let components = &network.components;
+    let p = random.below(components.len());
+    match &components[p].process.parts[0] {
+        Part::Call { .. } => Record::of(Action::Call(p)),
+        Part::Go { .. } => Record::of(Action::Move(p)),
+        Part::Out { .. } => {
+            let is_input = |q: &usize| matches!(components[*q].process.parts[0], Part::In { .. });
+            let inputs: Vec<usize> = (0..components.len()).filter(is_input).collect();
+            let q = if inputs.is_empty() {
+                p
+            } else {
+                *random.pick(&inputs)
+            };
+            Record::of(Action::Communication(p, q))
+        }
+        _ => any_record(random, network),
+    }
+}
+
+/// Any kind at positions that are mostly in range.
+fn any_record(random: &mut Random, network: &Network) -> Record {
+    let kind = [1, 2, 3, 0, 4, u32::MAX][random.weighted(&[6, 6, 12, 1, 1, 1])];
+    let components = network.components.len();
+    Record::new(
+        kind,
+        any_number(random, components),
+        any_number(random, components),
+    )
+}
+
+/// Mostly below `bound`, at times at it, past it or far away.
+fn any_number(random: &mut Random, bound: usize) -> u32 {
+    let far = [
+        255,
+        256,
+        257,
+        65_535,
+        65_536,
+        0x8000_0000,
+        0xffff_fffe,
+        u32::MAX,
+    ];
+    match random.weighted(&[20, 1, 1, 1]) {
+        0 => random.below(bound) as u32,
+        1 => bound as u32,
+        2 => bound as u32 + 1,
+        _ => *random.pick(&far),
+    }
+}
+
+fn any_location(random: &mut Random, network: &Network) -> u32 {
+    if random.chance(1, 25) {
+        let far = [
+            63,
+            64,
+            65,
+            255,
+            256,
+            u32::MAX,
+            network.script.locations.len() as u32,
+        ];
+        return *random.pick(&far);
+    }
+    random.below(network.script.locations.len()) as u32
+}
+
+/// A location where the tick is allowed, if there is one.
+fn quiet_location(random: &mut Random, network: &Network) -> u32 {
+    let forced = Engine::default().forced(network).set;
+    let all = 0..network.script.locations.len() as u32;
+    let quiet: Vec<u32> = all.filter(|number| (forced >> number) & 1 == 0).collect();
+    if quiet.is_empty() {
+        any_location(random, network)
+    } else {
+        *random.pick(&quiet)
+    }
+}
+
+// --- steps and proposals -------------------------------------------------------
+
+fn step(random: &mut Random, network: &Network) -> Call {
+    let location = any_location(random, network);
+    let room = [256, 0, 1, 2, 300][random.weighted(&[10, 2, 2, 1, 1])];
+    Call::Step { location, room }
+}
+
+/// Actions at one location until its tick is allowed; at times one too few, or
+/// with an action spoilt.
+fn proposal(random: &mut Random, network: &Network) -> Call {
+    let location = any_location(random, network);
+    let mut records = match network.script.locations.get(location as usize) {
+        Some(name) => whole_step(random, network, name),
+        None => every_record(network),
+    };
+    match random.below(8) {
+        0 => {
+            records.pop();
+        }
+        1 => spoil(random, network, &mut records),
+        2 => random.shuffle(&mut records),
+        _ => {}
+    }
+    Call::Proposal { location, records }
+}
+
+fn whole_step(random: &mut Random, network: &Network, location: &str) -> Vec<Record> {
+    let rules = Rules::default();
+    let mut components = network.components.clone();
+    let mut records = Vec::new();
+    loop {
+        let enabled = enabled(&components, Some(location));
+        let forced = rules.forced(&components, location);
+        if enabled.is_empty() || (!forced && random.chance(1, 2)) {
+            return records;
+        }
+        let action = *random.pick(&enabled);
+        rules.take(&network.script, &mut components, action);
+        records.push(Record::of(action));
+    }
+}
+
+fn every_record(network: &Network) -> Vec<Record> {
+    enabled(&network.components, None)
+        .into_iter()
+        .map(Record::of)
+        .collect()
+}
+
+fn spoil(random: &mut Random, network: &Network, records: &mut Vec<Record>) {
+    let elsewhere = every_record(network);
+    let bad = if !elsewhere.is_empty() && random.chance(1, 2) {
+        *random.pick(&elsewhere)
+    } else {
+        any_record(random, network)
+    };
+    let at = random.below(records.len() + 1);
+    records.insert(at, bad);
+}
+
+// --- comparing and writing -----------------------------------------------------
+
+fn same(random: &mut Random, network: &Network) -> Call {
+    if random.chance(1, 3) {
+        return Call::Same;
+    }
+    Call::Like(like(random, network))
+}
+
+/// The network's own text with components and definitions in another order, at
+/// times changed in one token.
+fn like(random: &mut Random, network: &Network) -> String {
+    let mut definitions: Vec<String> = network
+        .script
+        .definitions
+        .iter()
+        .map(writing::definition)
+        .collect();
+    let mut located: Vec<String> = network
+        .components
+        .iter()
+        .map(|c| format!("{}[{}]", c.location, writing::process(&c.process)))
+        .collect();
+    if random.chance(1, 2) {
+        random.shuffle(&mut definitions);
+        random.shuffle(&mut located);
+    }
+    let text = format!("{} {} .", definitions.join(" "), located.join(" | "));
+    let mut tokens = cut(&text);
+    if random.chance(1, 2) {
+        alter(random, &mut tokens);
+    }
+    let text = String::from_utf8_lossy(&spaced(random, &tokens)).replace('\n', " ");
+    text.trim_end().to_string()
+}
+
+/// One token replaced by another of its class, at times by any.
+fn alter(random: &mut Random, tokens: &mut Tokens) {
+    if random.chance(1, 6) {
+        return damage_tokens(random, tokens);
+    }
+    let at = random.below(tokens.len());
+    let alike = |token: &&String| class(token) == class(&tokens[at]);
+    let others: Vec<&String> = tokens.iter().filter(alike).collect();
+    let other = random.pick(&others).to_string();
+    tokens[at] = other;
+}
+
+/// Numbers, capitals, small letters and single signs.
+fn class(token: &str) -> u8 {
+    match token.as_bytes()[0] {
+        b'0'..=b'9' => b'0',
+        b'A'..=b'Z' => b'A',
+        b'a'..=b'z' => b'a',
+        sign => sign,
+    }
+}
+
+/// A buffer that is mostly large enough; at times of the very length, or one
+/// byte short.
+fn write(random: &mut Random, network: &Network) -> Call {
+    let length = writing::network(network).len();
+    let room = [65_536, length, length - 1, 0][random.weighted(&[4, 2, 2, 1])];
+    Call::Write { room }
+}

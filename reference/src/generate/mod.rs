@@ -1,0 +1,57 @@
+//! Scripts and call lists that reach the corners, from a seed.
+//!
+//! | module   | what it makes                                                  |
+//! |----------|----------------------------------------------------------------|
+//! | `draft`  | scripts as lists of tokens, and their spacing                  |
+//! | `random_script` | readable scripts from few names, so that many meet      |
+//! | `edges`  | every limit and one past it; deep and long texts               |
+//! | `damage` | damaged texts, and texts that several questions refuse         |
+//! | `call_list` | calls on a network, biased toward what is enabled           |
+
+pub mod call_list;
+pub mod damage;
+pub mod draft;
+pub mod edges;
+pub mod random_script;
+
+use crate::calls::Engine;
+use crate::lists::Call;
+use crate::random::Random;
+
+/// The seed of one script among many, far from those of its neighbours.
+pub fn seed(seed: u64, index: u64) -> u64 {
+    Random::new(seed.wrapping_mul(0x1_0000_0001).wrapping_add(index)).draw()
+}
+
+/// A text of any sort.
+pub fn script(seed: u64) -> Vec<u8> {
+    let mut random = Random::new(seed);
+    match random.weighted(&[40, 20, 20, 20]) {
+        0 => random_script::text(&mut random),
+        1 => edges::text(&mut random),
+        2 => damage::damaged(&mut random),
+        _ => damage::several_faults(&mut random),
+    }
+}
+
+/// A text that is meant to be read and then run; one in ten is of any sort.
+pub fn script_to_run(seed: u64) -> Vec<u8> {
+    let mut random = Random::new(seed);
+    match random.weighted(&[84, 6, 10]) {
+        0 => random_script::text(&mut random),
+        1 => random_script::crowded_text(&mut random),
+        _ => script(seed.wrapping_add(1)),
+    }
+}
+
+/// A list of calls for a text; empty if the text is refused.
+pub fn calls(seed: u64, script: &[u8]) -> Vec<Call> {
+    let mut random = Random::new(seed ^ 0x5eed_ca11);
+    match Engine::default().read(script) {
+        Ok(network) => {
+            let count = random.between(100, 500);
+            call_list::calls(&mut random, network, count)
+        }
+        Err(_) => Vec::new(),
+    }
+}

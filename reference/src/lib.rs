@@ -1,0 +1,36 @@
+//! A reference engine for TiMo, written from document 01 and from Tables 1
+//! and 2 of source document 001.
+//!
+//! Terms carry their names as strings and own their sub-terms; values are put
+//! in by substitution; an action builds new terms. There is no table, no
+//! environment and, inside the rules, no limit.
+//!
+//! | module      | what it holds                                               |
+//! |-------------|-------------------------------------------------------------|
+//! | `term`      | timers, values, parts, processes, components, networks      |
+//! | `refusal`   | the numbered questions                                      |
+//! | `reading`   | from bytes to a network, questions 1 to 7                   |
+//! | `writing`   | from terms to text                                          |
+//! | `rules`     | actions with labels, the forced test, the tick              |
+//! | `calls`     | the outward calls with questions 8 to 16                    |
+//! | `runs`      | the straight and the grouped run and what is claimed        |
+//! | `program`   | what `timorun` does, on any input and output                |
+//! | `lists`     | call lists as text                                          |
+//! | `printout`  | the answers to a call list, line by line                    |
+//! | `random`    | a small seeded generator of numbers                         |
+//! | `generate`  | scripts and call lists that reach the corners               |
+//! | `deep`      | a big stack for terms read without limits                   |
+
+pub mod calls;
+pub mod deep;
+pub mod generate;
+pub mod lists;
+pub mod printout;
+pub mod program;
+pub mod random;
+pub mod reading;
+pub mod refusal;
+pub mod rules;
+pub mod runs;
+pub mod term;
+pub mod writing;

@@ -1,0 +1,551 @@
+//! The rules (document 01, *Actions* and *The tick at l*; Table 2).
+//!
+//! `fire` takes the components of an action and gives what they become, with
+//! the label; positions play no part in it. The tick is a map from each
+//! component to a list of components, with the test "whose marks vanish" as a
+//! parameter. Nothing here knows a limit.
+//!
+//! `Variant` puts a wrong rule in the place of a right one, to try whether a
+//! comparison notices. Everything but such trials uses `Variant::Right`.
+
+use std::collections::HashSet;
+use std::fmt;
+use std::mem;
+
+use crate::term::{Component, Part, Process, Script, Timer, Value};
+use crate::writing::spelling;
+
+/// The right rules, or rules with one mistake.
+#[derive(Clone, Copy, Debug, Default, PartialEq, Eq)]
+pub enum Variant {
+    #[default]
+    Right,
+    /// Lets a tick time out a pair whose timers are both 0.
+    TimesOutPairAtZero,
+    /// Clears every owner's marks at any tick.
+    ClearsAllMarks,
+    /// Ticks what another location has marked.
+    TicksMarkedByOthers,
+    /// Puts a value under an inner binder of the same name.
+    SubstitutesUnderBinder,
+    /// Splits a marked process when it is marked.
+    SplitsEarly,
+    /// Marks a moved component with its target.
+    MarksMoveWithTarget,
+    /// Lets a step choose the highest ready input.
+    FiresHighestInput,
+    /// Leaves a Q of several parts in one component.
+    ForgetsSplitOfQ,
+    /// Lowers the timers of a Q in the tick that gives it.
+    LowersFreshQ,
+}
+
+impl Variant {
+    /// Every variant with a mistake.
+    pub const WRONG: [Variant; 9] = [
+        Variant::TimesOutPairAtZero,
+        Variant::ClearsAllMarks,
+        Variant::TicksMarkedByOthers,
+        Variant::SubstitutesUnderBinder,
+        Variant::SplitsEarly,
+        Variant::MarksMoveWithTarget,
+        Variant::FiresHighestInput,
+        Variant::ForgetsSplitOfQ,
+        Variant::LowersFreshQ,
+    ];
+}
+
+/// An action with the positions of its components.
+#[derive(Clone, Copy, Debug, PartialEq, Eq)]
+pub enum Action {
+    /// Kind 1.
+    Call(usize),
+    /// Kind 2.
+    Move(usize),
+    /// Kind 3: the output's position and the input's.
+    Communication(usize, usize),
+}
+
+impl Action {
+    pub fn kind(self) -> Kind {
+        match self {
+            Action::Call(_) => Kind::Call,
+            Action::Move(_) => Kind::Move,
+            Action::Communication(..) => Kind::Communication,
+        }
+    }
+
+    /// The positions in the order in which `fire` wants the components.
+    pub fn positions(self) -> Vec<usize> {
+        match self {
+            Action::Call(p) | Action::Move(p) => vec![p],
+            Action::Communication(p, q) => vec![p, q],
+        }
+    }
+}
+
+#[derive(Clone, Copy, Debug, PartialEq, Eq)]
+pub enum Kind {
+    Call = 1,
+    Move = 2,
+    Communication = 3,
+}
+
+/// What an action did and where: `id@l`, `v@l` or `c<v>@l`.
+#[derive(Clone, Debug, PartialEq, Eq)]
+pub enum Label {
+    Call {
+        identifier: String,
+        at: String,
+    },
+    Move {
+        target: String,
+        at: String,
+    },
+    Communication {
+        channel: String,
+        value: String,
+        at: String,
+    },
+}
+
+impl Label {
+    /// The location where the action fired.
+    pub fn at(&self) -> &str {
+        match self {
+            Label::Call { at, .. } | Label::Move { at, .. } | Label::Communication { at, .. } => at,
+        }
+    }
+}
+
+impl fmt::Display for Label {
+    fn fmt(&self, f: &mut fmt::Formatter<'_>) -> fmt::Result {
+        match self {
+            Label::Call { identifier, at } => write!(f, "{identifier}@{at}"),
+            Label::Move { target, at } => write!(f, "{target}@{at}"),
+            Label::Communication { channel, value, at } => write!(f, "{channel}<{value}>@{at}"),
+        }
+    }
+}
+
+/// Whose marks vanish at a tick: those of its location, or all as in Table 2.
+#[derive(Clone, Copy, Debug, PartialEq, Eq)]
+pub enum Vanish {
+    OwnMarks,
+    AllMarks,
+}
+
+/// The components after an action, in the order of those before it.
+#[derive(Clone, Debug)]
+pub struct Fired {
+    pub components: Vec<Component>,
+    pub label: Label,
+}
+
+#[derive(Clone, Copy, Debug, Default)]
+pub struct Rules {
+    pub variant: Variant,
+}
+
+impl Rules {
+    fn is(self, variant: Variant) -> bool {
+        self.variant == variant
+    }
+
+    // --- actions -------------------------------------------------------------
+
+    /// Fires an action on its components, or gives nothing if it cannot fire.
+    pub fn fire(self, script: &Script, kind: Kind, components: &[&Component]) -> Option<Fired> {
+        match (kind, components) {
+            (Kind::Call, [caller]) => self.call(script, caller),
+            (Kind::Move, [mover]) => self.movement(mover),
+            (Kind::Communication, [output, input]) => self.communication(output, input),
+            _ => None,
+        }
+    }
+
+    /// Fires an action at its positions and gives its label.
+    pub fn take(
+        self,
+        script: &Script,
+        components: &mut Vec<Component>,
+        action: Action,
+    ) -> Option<Label> {
+        let positions = action.positions();
+        let before: Option<Vec<&Component>> =
+            positions.iter().map(|p| components.get(*p)).collect();
+        let fired = self.fire(script, action.kind(), &before?)?;
+        for (position, component) in positions.into_iter().zip(fired.components) {
+            components[position] = component;
+        }
+        if self.is(Variant::SplitsEarly) {
+            *components = mem::take(components).into_iter().flat_map(split).collect();
+        }
+        Some(fired.label)
+    }
+
+    fn call(self, script: &Script, caller: &Component) -> Option<Fired> {
+        let Part::Call {
+            identifier,
+            arguments,
+        } = caller.ready_part()?
+        else {
+            return None;
+        };
+        let definition = script.definition(identifier)?;
+        if definition.parameters.len() != arguments.len() {
+            return None;
+        }
+        let names = definition.parameters.iter().map(String::as_str);
+        let values: Values = names.zip(arguments).collect();
+        let body = self.put(&values, &definition.body);
+        let at = caller.location.clone();
+        let label = Label::Call {
+            identifier: identifier.clone(),
+            at: at.clone(),
+        };
+        Some(Fired {
+            components: vec![marked(&at, &at, body)],
+            label,
+        })
+    }
+
+    /// The mark's owner is the location that was left.
+    fn movement(self, mover: &Component) -> Option<Fired> {
+        let Part::Go { target, then, .. } = mover.ready_part()? else {
+            return None;
+        };
+        let Value::Location(target) = target else {
+            return None;
+        };
+        let at = mover.location.clone();
+        let owner = if self.is(Variant::MarksMoveWithTarget) {
+            target
+        } else {
+            &at
+        };
+        let moved = marked(target, owner, then.clone());
+        Some(Fired {
+            components: vec![moved],
+            label: Label::Move {
+                target: target.clone(),
+                at,
+            },
+        })
+    }
+
+    fn communication(self, output: &Component, input: &Component) -> Option<Fired> {
+        let Part::Out {
+            channel,
+            value,
+            then: sent,
+            ..
+        } = output.ready_part()?
+        else {
+            return None;
+        };
+        let Part::In {
+            channel: heard,
+            variable,
+            then: received,
+            ..
+        } = input.ready_part()?
+        else {
+            return None;
+        };
+        if output.location != input.location || channel != heard {
+            return None;
+        }
+        let at = output.location.clone();
+        let received = self.put(&vec![(variable.as_str(), value)], received);
+        let components = vec![marked(&at, &at, sent.clone()), marked(&at, &at, received)];
+        let value = spelling(value).to_string();
+        Some(Fired {
+            components,
+            label: Label::Communication {
+                channel: channel.clone(),
+                value,
+                at,
+            },
+        })
+    }
+
+    // --- substitution --------------------------------------------------------
+
+    /// The process with values put for free names, all at once.
+    fn put(self, values: &Values, process: &Process) -> Process {
+        Process {
+            parts: process
+                .parts
+                .iter()
+                .map(|part| self.put_part(values, part))
+                .collect(),
+        }
+    }
+
+    fn put_part(self, values: &Values, part: &Part) -> Part {
+        match part {
+            Part::Stop => Part::Stop,
+            Part::Go {
+                timer,
+                target,
+                then,
+            } => Part::Go {
+                timer: *timer,
+                target: put_value(values, target),
+                then: self.put(values, then),
+            },
+            Part::Out {
+                channel,
+                timer,
+                value,
+                then,
+                otherwise,
+            } => Part::Out {
+                channel: channel.clone(),
+                timer: *timer,
+                value: put_value(values, value),
+                then: self.put(values, then),
+                otherwise: self.put(values, otherwise),
+            },
+            Part::In {
+                channel,
+                timer,
+                variable,
+                then,
+                otherwise,
+            } => Part::In {
+                channel: channel.clone(),
+                timer: *timer,
+                variable: variable.clone(),
+                then: self.put(&self.under_binder(values, variable), then),
+                otherwise: self.put(values, otherwise),
+            },
+            Part::Call {
+                identifier,
+                arguments,
+            } => Part::Call {
+                identifier: identifier.clone(),
+                arguments: arguments
+                    .iter()
+                    .map(|value| put_value(values, value))
+                    .collect(),
+            },
+        }
+    }
+
+    /// What is still put in where `variable` is bound anew.
+    fn under_binder<'v>(self, values: &Values<'v>, variable: &str) -> Values<'v> {
+        if self.is(Variant::SubstitutesUnderBinder) {
+            return values.clone();
+        }
+        values
+            .iter()
+            .copied()
+            .filter(|(name, _)| *name != variable)
+            .collect()
+    }
+
+    // --- the tick ------------------------------------------------------------
+
+    /// Whether a call, a communication or a move with timer 0 could fire at
+    /// `location`; exactly then the tick there is not allowed.
+    pub fn forced(self, components: &[Component], location: &str) -> bool {
+        let ready: Vec<&Part> = components
+            .iter()
+            .filter_map(|component| component.ready_at(location))
+            .collect();
+        ready.iter().any(|part| fires_alone(part)) || self.pair_could_meet(&ready)
+    }
+
+    /// Timers play no part in it.
+    fn pair_could_meet(self, ready: &[&Part]) -> bool {
+        if self.is(Variant::TimesOutPairAtZero) {
+            return pair_above_zero(ready);
+        }
+        let sent: HashSet<&str> = ready.iter().filter_map(|part| sends_on(part)).collect();
+        ready
+            .iter()
+            .filter_map(|part| hears_on(part))
+            .any(|channel| sent.contains(channel))
+    }
+
+    /// The network after the tick at `location`, which must be allowed.
+    pub fn tick(
+        self,
+        components: Vec<Component>,
+        location: &str,
+        vanish: Vanish,
+    ) -> Vec<Component> {
+        components
+            .into_iter()
+            .flat_map(|c| self.tick_component(c, location, vanish))
+            .collect()
+    }
+
+    fn tick_component(self, c: Component, location: &str, vanish: Vanish) -> Vec<Component> {
+        let all = vanish == Vanish::AllMarks || self.is(Variant::ClearsAllMarks);
+        match &c.mark {
+            None if c.location == location => self.tick_ready(c),
+            None => vec![c],
+            Some(owner) if all || owner == location => split(Component { mark: None, ..c }),
+            Some(_) if c.location == location && self.is(Variant::TicksMarkedByOthers) => {
+                vec![Component {
+                    process: tick_all_parts(c.process),
+                    ..c
+                }]
+            }
+            Some(_) => vec![c],
+        }
+    }
+
+    /// A component ready at the ticking location.
+    fn tick_ready(self, mut component: Component) -> Vec<Component> {
+        match self.timed_out(&mut component) {
+            Some(otherwise) => {
+                let given = Component {
+                    process: otherwise,
+                    ..component
+                };
+                if self.is(Variant::ForgetsSplitOfQ) {
+                    vec![given]
+                } else {
+                    split(given)
+                }
+            }
+            None => {
+                component.process.parts.iter_mut().for_each(lower);
+                vec![component]
+            }
+        }
+    }
+
+    /// The Q of an `in` or `out` with timer 0.
+    fn timed_out(self, component: &mut Component) -> Option<Process> {
+        let [part] = component.process.parts.as_mut_slice() else {
+            return None;
+        };
+        let mut otherwise = expired_branch(part)?;
+        if self.is(Variant::LowersFreshQ) {
+            otherwise.parts.iter_mut().for_each(lower);
+        }
+        Some(otherwise)
+    }
+}
+
+/// Names with the values put for them.
+type Values<'v> = Vec<(&'v str, &'v Value)>;
+
+fn put_value(values: &Values, value: &Value) -> Value {
+    let Value::Variable(variable) = value else {
+        return value.clone();
+    };
+    match values.iter().find(|(name, _)| name == variable) {
+        Some((_, put)) => (*put).clone(),
+        None => value.clone(),
+    }
+}
+
+/// A call, or a move that can wait no longer.
+fn fires_alone(part: &Part) -> bool {
+    match part {
+        Part::Call { .. } => true,
+        Part::Go { timer, .. } => timer.is_zero(),
+        _ => false,
+    }
+}
+
+fn sends_on(part: &Part) -> Option<&str> {
+    match part {
+        Part::Out { channel, .. } => Some(channel),
+        _ => None,
+    }
+}
+
+fn hears_on(part: &Part) -> Option<&str> {
+    match part {
+        Part::In { channel, .. } => Some(channel),
+        _ => None,
+    }
+}
+
+/// The mistake of passing over a pair whose timers are both 0.
+fn pair_above_zero(ready: &[&Part]) -> bool {
+    let at_zero = |part: &Part| match part {
+        Part::Out { timer, .. } | Part::In { timer, .. } => timer.is_zero(),
+        _ => false,
+    };
+    ready.iter().any(|one| {
+        ready.iter().any(|other| {
+            sends_on(one).is_some()
+                && sends_on(one) == hears_on(other)
+                && !(at_zero(one) && at_zero(other))
+        })
+    })
+}
+
+fn marked(location: &str, owner: &str, process: Process) -> Component {
+    Component {
+        location: location.to_string(),
+        mark: Some(owner.to_string()),
+        process,
+    }
+}
+
+/// One component for each part, left to right.
+fn split(mut component: Component) -> Vec<Component> {
+    if component.process.parts.len() == 1 {
+        return vec![component];
+    }
+    let parts = mem::take(&mut component.process.parts);
+    let single = |part| Component {
+        process: Process { parts: vec![part] },
+        ..component.clone()
+    };
+    parts.into_iter().map(single).collect()
+}
+
+/// One tick less, where a part has a timer.
+fn lower(part: &mut Part) {
+    match part {
+        Part::Go { timer, .. } | Part::Out { timer, .. } | Part::In { timer, .. } => {
+            *timer = timer.less_one();
+        }
+        Part::Stop | Part::Call { .. } => {}
+    }
+}
+
+/// Takes the Q out of an `in` or `out` whose timer is 0.
+fn expired_branch(part: &mut Part) -> Option<Process> {
+    match part {
+        Part::Out {
+            timer: Timer::Ticks(0),
+            otherwise,
+            ..
+        }
+        | Part::In {
+            timer: Timer::Ticks(0),
+            otherwise,
+            ..
+        } => Some(Process {
+            parts: mem::take(&mut otherwise.parts),
+        }),
+        _ => None,
+    }
+}
+
+/// The mistake of ticking a marked process: every part is lowered or replaced
+/// by its Q.
+fn tick_all_parts(mut process: Process) -> Process {
+    let mut after = Vec::new();
+    for mut part in mem::take(&mut process.parts) {
+        match expired_branch(&mut part) {
+            Some(mut otherwise) => after.append(&mut otherwise.parts),
+            None => {
+                lower(&mut part);
+                after.push(part);
+            }
+        }
+    }
+    Process { parts: after }
+}

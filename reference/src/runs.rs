@@ -1,0 +1,189 @@
+//! The straight and the grouped run (document 01, *Mixed runs*) and what
+//! demand 3 claims of them.
+//!
+//! The run is fed the accepted actions and ticks only; a refused call counts
+//! for nothing. It keeps two networks without limits. Every point of the claim
+//! is checked on the way, and the first one that fails ends the run.
+
+use std::fmt;
+use std::mem;
+
+use crate::calls::{in_range, same_in_any_order, Record};
+use crate::rules::{Kind, Label, Rules, Vanish};
+use crate::term::{Component, Network};
+
+/// A point of the claim that does not hold.
+#[derive(Clone, Debug, PartialEq, Eq)]
+pub enum Broken {
+    /// The rules do not allow an accepted action on the straight network.
+    StraightAction,
+    /// The rules do not allow an accepted tick on the straight network.
+    StraightTick,
+    /// The grouped network holds no components equal to a note's.
+    NoteWithoutComponents,
+    /// A note's components cannot fire.
+    NoteCannotFire,
+    /// A note fires with another label than its action.
+    NoteLabel,
+    /// The rules do not allow the tick that closes a whole step.
+    GroupedTick,
+    /// The straight network is not the engine's last one.
+    StraightDiffers,
+    /// The grouped network is not a permutation of the engine's last one.
+    GroupedDiffers,
+    /// The definitions have changed.
+    DefinitionsChanged,
+}
+
+impl fmt::Display for Broken {
+    fn fmt(&self, f: &mut fmt::Formatter<'_>) -> fmt::Result {
+        f.write_str(match self {
+            Broken::StraightAction => "action not allowed on the straight network",
+            Broken::StraightTick => "tick not allowed on the straight network",
+            Broken::NoteWithoutComponents => "no components equal to those of a note",
+            Broken::NoteCannotFire => "a note cannot fire",
+            Broken::NoteLabel => "a note fires with another label",
+            Broken::GroupedTick => "tick not allowed on the grouped network",
+            Broken::StraightDiffers => "straight network differs from the engine's last",
+            Broken::GroupedDiffers => "grouped network is no permutation of the engine's last",
+            Broken::DefinitionsChanged => "definitions changed",
+        })
+    }
+}
+
+/// An accepted action that no tick at its location has closed: its kind, its
+/// components as they stood before it, and its label, which names the location.
+#[derive(Clone, Debug)]
+struct Note {
+    kind: Kind,
+    components: Vec<Component>,
+    label: Label,
+}
+
+/// A mixed run under way.
+#[derive(Clone, Debug)]
+pub struct Run {
+    rules: Rules,
+    read: Network,
+    straight: Vec<Component>,
+    grouped: Vec<Component>,
+    notes: Vec<Note>,
+}
+
+impl Run {
+    /// A run from the network that reading returned, by the right rules.
+    pub fn new(read: &Network) -> Run {
+        Run {
+            rules: Rules::default(),
+            read: read.clone(),
+            straight: read.components.clone(),
+            grouped: read.components.clone(),
+            notes: Vec::new(),
+        }
+    }
+
+    /// An accepted action.
+    pub fn action(&mut self, record: Record) -> Result<(), Broken> {
+        let action = in_range(&self.straight, record).ok_or(Broken::StraightAction)?;
+        let components = action
+            .positions()
+            .iter()
+            .map(|p| self.straight[*p].clone())
+            .collect();
+        let label = self
+            .rules
+            .take(&self.read.script, &mut self.straight, action)
+            .ok_or(Broken::StraightAction)?;
+        self.notes.push(Note {
+            kind: action.kind(),
+            components,
+            label,
+        });
+        Ok(())
+    }
+
+    /// An accepted tick.
+    pub fn tick(&mut self, location: u32) -> Result<(), Broken> {
+        let script = self.read.script.clone();
+        let location = script
+            .locations
+            .get(location as usize)
+            .ok_or(Broken::StraightTick)?;
+        let straight = mem::take(&mut self.straight);
+        self.straight = self
+            .ticked(straight, location, Vanish::OwnMarks)
+            .ok_or(Broken::StraightTick)?;
+        let (of_location, others) = self
+            .notes
+            .drain(..)
+            .partition(|note| note.label.at() == location);
+        self.notes = others;
+        self.fire_in_order(of_location)?;
+        let grouped = mem::take(&mut self.grouped);
+        self.grouped = self
+            .ticked(grouped, location, Vanish::AllMarks)
+            .ok_or(Broken::GroupedTick)?;
+        Ok(())
+    }
+
+    /// The accepted actions of a step or proposal, then its tick.
+    pub fn whole_step(&mut self, location: u32, records: &[Record]) -> Result<(), Broken> {
+        for record in records {
+            self.action(*record)?;
+        }
+        self.tick(location)
+    }
+
+    /// The end of the run, with the network that the engine has last returned.
+    pub fn finish(mut self, last: &Network) -> Result<(), Broken> {
+        let left = mem::take(&mut self.notes);
+        self.fire_in_order(left)?;
+        if self.read.script.definitions != last.script.definitions {
+            return Err(Broken::DefinitionsChanged);
+        }
+        if self.straight != last.components {
+            return Err(Broken::StraightDiffers);
+        }
+        if !same_in_any_order(&self.grouped, &last.components) {
+            return Err(Broken::GroupedDiffers);
+        }
+        Ok(())
+    }
+
+    /// The tick, if the rules allow it.
+    fn ticked(
+        &self,
+        components: Vec<Component>,
+        location: &str,
+        vanish: Vanish,
+    ) -> Option<Vec<Component>> {
+        if self.rules.forced(&components, location) {
+            return None;
+        }
+        Some(self.rules.tick(components, location, vanish))
+    }
+
+    fn fire_in_order(&mut self, notes: Vec<Note>) -> Result<(), Broken> {
+        notes.into_iter().try_for_each(|note| self.fire_note(note))
+    }
+
+    /// Fires a note on the first components of the grouped network that are
+    /// equal to its own.
+    fn fire_note(&mut self, note: Note) -> Result<(), Broken> {
+        let first = |wanted: &Component| self.grouped.iter().position(|c| c == wanted);
+        let positions: Option<Vec<usize>> = note.components.iter().map(first).collect();
+        let positions = positions.ok_or(Broken::NoteWithoutComponents)?;
+        let components: Vec<&Component> = positions.iter().map(|p| &self.grouped[*p]).collect();
+        let fired = self
+            .rules
+            .fire(&self.read.script, note.kind, &components)
+            .ok_or(Broken::NoteCannotFire)?;
+        if fired.label != note.label {
+            return Err(Broken::NoteLabel);
+        }
+        for (position, component) in positions.into_iter().zip(fired.components) {
+            self.grouped[position] = component;
+        }
+        Ok(())
+    }
+}

@@ -1,0 +1,216 @@
+//! Demand 3 on random lists: the grouped run of document 01 holds for the
+//! right engine, and a comparison of printouts tells every wrong variant apart.
+
+mod common;
+use common::*;
+use std::collections::HashMap;
+use timo_reference::calls::{Engine, Record};
+use timo_reference::generate;
+use timo_reference::lists::{self, Call};
+use timo_reference::printout;
+use timo_reference::rules::Variant;
+use timo_reference::runs::{Broken, Run};
+use timo_reference::term::Network;
+
+/// A script that is read, with its calls.
+fn case(index: u64) -> Option<(Vec<u8>, Vec<Call>)> {
+    let seed = generate::seed(2024, index);
+    let script = generate::script_to_run(seed);
+    let calls = generate::calls(seed, &script);
+    (!calls.is_empty()).then_some((script, calls))
+}
+
+#[test]
+fn the_claim_holds_on_hundreds_of_random_lists() {
+    let (mut calls_made, mut refusals) = (0, 0);
+    for (script, calls) in (0..400).filter_map(case) {
+        let network = engine()
+            .read(&script)
+            .expect("a list belongs to a readable script");
+        let (run, refused) = printout::verdict(engine(), network, &calls);
+        assert_eq!(run, Ok(()), "{}", String::from_utf8_lossy(&script));
+        calls_made += calls.len();
+        refusals += refused;
+    }
+    assert!(calls_made > 80_000);
+    let share = refusals * 100 / calls_made;
+    assert!(
+        (25..45).contains(&share),
+        "{share} of a hundred calls are refused"
+    );
+}
+
+#[test]
+fn a_comparison_of_printouts_tells_every_wrong_variant_apart() {
+    let cases: Vec<(Vec<u8>, Vec<Call>)> = (0..200).filter_map(case).collect();
+    let right: Vec<String> = cases
+        .iter()
+        .map(|(script, calls)| printout::answers(engine(), script, calls))
+        .collect();
+    for variant in Variant::WRONG {
+        let differs = |index: &usize| {
+            let (script, calls) = &cases[*index];
+            printout::answers(Engine::new(variant), script, calls) != right[*index]
+        };
+        let found = (0..cases.len()).find(differs);
+        assert!(found.is_some(), "{variant:?} is not told apart");
+        println!("{variant:?} differs first on list {}", found.unwrap_or(0));
+    }
+}
+
+/// A step may choose any input, so the highest one is within the rules.
+#[test]
+fn the_claim_is_broken_by_every_variant_that_the_rules_exclude() {
+    let cases: Vec<(Vec<u8>, Vec<Call>)> = (0..200).filter_map(case).collect();
+    for variant in Variant::WRONG {
+        let breaks = |(script, calls): &(Vec<u8>, Vec<Call>)| {
+            let network = engine().read(script).expect("a readable script");
+            printout::verdict(Engine::new(variant), network, calls)
+                .0
+                .is_err()
+        };
+        let broken = cases.iter().any(breaks);
+        assert_eq!(broken, variant != Variant::FiresHighestInput, "{variant:?}");
+    }
+}
+
+#[test]
+fn actions_of_two_locations_are_grouped_by_their_ticks() {
+    let read = read("A[go(0,B,out(c,1,B,stop,stop))] | B[in(c,1,x,stop,stop)] .");
+    let mut run = Run::new(&read);
+    assert_eq!(run.action(Record::new(2, 0, 0)), Ok(()));
+    assert_eq!(run.tick(1), Ok(()));
+    assert_eq!(run.tick(0), Ok(()));
+    assert_eq!(run.action(Record::new(3, 0, 1)), Ok(()));
+    let last = act(&tick(&tick(&act(&read, 2, 0, 0), 1), 0), 3, 0, 1);
+    assert_eq!(run.finish(&last), Ok(()));
+}
+
+#[test]
+fn a_step_counts_as_its_actions_one_by_one_and_then_the_tick() {
+    let read = read("D = stop | D . A[D | go(0,B,D)] | B[in(c,1,x,stop,D)] .");
+    let (last, records, _) = step(&act(&read, 2, 1, 0), 0);
+    assert_eq!(records, [Record::new(1, 0, 0)]);
+    let mut run = Run::new(&read);
+    assert_eq!(run.action(Record::new(2, 1, 0)), Ok(()));
+    assert_eq!(run.whole_step(0, &records), Ok(()));
+    assert_eq!(run.finish(&last), Ok(()));
+}
+
+#[test]
+fn a_run_notices_what_the_rules_do_not_allow() {
+    let read = read("A[go(0,B,stop)] | B[stop] .");
+    assert_eq!(
+        Run::new(&read).action(Record::new(1, 0, 0)),
+        Err(Broken::StraightAction)
+    );
+    assert_eq!(Run::new(&read).tick(0), Err(Broken::StraightTick));
+    let moved = act(&read, 2, 0, 0);
+    assert_eq!(Run::new(&read).finish(&moved), Err(Broken::StraightDiffers));
+    let mut run = Run::new(&read);
+    assert_eq!(run.action(Record::new(2, 0, 0)), Ok(()));
+    assert_eq!(run.finish(&moved), Ok(()));
+}
+
+#[test]
+fn a_printed_list_is_read_back() {
+    for (_, calls) in (0..40).filter_map(case) {
+        assert_eq!(lists::parse(&lists::print(&calls)), Ok(calls));
+    }
+    assert!(lists::parse("tick\n").is_err());
+    assert!(lists::parse("proposal 0 1 2\n").is_err());
+}
+
+#[test]
+fn the_same_seed_gives_the_same_texts_and_lists() {
+    for seed in 0..50 {
+        let script = generate::script_to_run(seed);
+        assert_eq!(script, generate::script_to_run(seed));
+        assert_eq!(
+            generate::calls(seed, &script),
+            generate::calls(seed, &script)
+        );
+    }
+}
+
+#[test]
+fn random_texts_reach_every_reading_question() {
+    let mut seen = [0; 8];
+    for index in 0..3_000 {
+        let text = generate::script(generate::seed(7, index));
+        seen[question(&text) as usize] += 1;
+    }
+    assert!(seen.iter().all(|count| *count > 5), "{seen:?}");
+}
+
+#[test]
+fn random_lists_reach_every_refusal() {
+    let mut seen: HashMap<String, usize> = HashMap::new();
+    for (script, calls) in (0..100).filter_map(case) {
+        let text = printout::answers(engine(), &script, &calls);
+        for line in text.lines().filter(|line| !line.starts_with("component")) {
+            *seen.entry(line.to_string()).or_default() += 1;
+        }
+    }
+    let times = |line: &str| seen.get(line).copied().unwrap_or(0);
+    for number in 8..=16 {
+        assert!(times(&format!("refused {number}")) > 10, "refusal {number}");
+    }
+    for answer in ["ok yes", "ok no", "rest kept", "run ok"] {
+        assert!(times(answer) > 10, "{answer}");
+    }
+}
+
+/// After one pass upward nothing is forced, so a step is refused by 8, 15 or
+/// 13 only; and no call ever makes the components fewer.
+#[test]
+fn a_step_never_meets_12_and_components_never_become_fewer() {
+    for (script, calls) in (0..60).filter_map(case) {
+        let mut network = engine().read(&script).expect("a readable script");
+        for call in &calls {
+            for location in 0..network.script.locations.len() as u32 {
+                let answer = number(engine().step(&network, location, &mut records()));
+                assert!(matches!(answer, 0 | 13), "a step gave {answer}");
+            }
+            if let Some(next) = next(&network, call) {
+                assert!(next.components.len() >= network.components.len());
+                network = next;
+            }
+        }
+    }
+}
+
+fn records() -> [Record; 256] {
+    [Record::new(0, 0, 0); 256]
+}
+
+/// The network that an accepted action or tick returns.
+fn next(network: &Network, call: &Call) -> Option<Network> {
+    match call {
+        Call::Action(record) => engine().action(network, *record).ok().map(|(next, _)| next),
+        Call::Tick(location) => engine().tick(network, *location).ok(),
+        _ => None,
+    }
+}
+
+/// Reading what was written gives the same network, wherever the text meets
+/// the limits.
+#[test]
+fn written_networks_are_read_back() {
+    for (script, calls) in (0..100).filter_map(case) {
+        let mut network = engine().read(&script).expect("a readable script");
+        for call in calls.iter().take(120) {
+            if let Call::Step { location, .. } | Call::Tick(location) = call {
+                let mut lent = vec![Record::new(0, 0, 0); 256];
+                if let Ok(stepped) = engine().step(&network, *location, &mut lent) {
+                    network = stepped.network;
+                }
+            }
+        }
+        let text = written(&network);
+        match engine().read(text.as_bytes()) {
+            Ok(again) => assert!(engine().same(&again, &network)),
+            Err(refusal) => assert!(matches!(refusal.number(), 1 | 4), "{refusal}"),
+        }
+    }
+}
