@@ -6,10 +6,17 @@
 pub mod run;
 
 ghost use mathlib.Core.Path.{_≡_};
+ghost use lib.ListN.{length};
 ghost use Rattle.calls_act.specs.Acted.{actionAnswer, actsAs};
 ghost use Rattle.calls_tick.specs.Ticked.{tickAnswer, ticksAs};
+ghost use Rattle.calls_step.specs.Stepped.{stepAnswer, stepsAs};
+ghost use Rattle.calls_forced.specs.Report.{forcedReport};
 use calls_act::Acted;
 use calls_act::act;
+use calls_forced::Report;
+use calls_forced::forced;
+use calls_step::Stepped;
+use calls_step::step;
 use calls_tick::Ticked;
 use calls_tick::tick;
 use table::State;
@@ -39,4 +46,29 @@ pub fn tick_at(w: &[u32; 99592], st: State, l: u32) -> Ticked
         return tick::tick_valid(w, st, l);
     }
     tick::refuse(17, st)
+}
+
+// The step at the location numbered l: questions 17, 8, 15, 13. The records of its actions stand in front of what was in the buffer.
+pub fn step_at(w: &[u32; 99592], st: State, l: u32, records: &mut [[u32; 3]]) -> Stepped
+    ensures { λ r. ⌜ stepsAs (now (w .entry)) st (stepAnswer (now (w .entry)) st l (length (now (records .entry)))) r (now (records .entry)) (now (records .exit)) ⌝ }
+{
+    if valid::is_valid(w, st) {
+        return step::step_valid(w, st, l, records);
+    }
+    step::refuse(17, st)
+}
+
+// The locations where the tick is not allowed: question 17 first.
+pub fn forced_report(w: &[u32; 99592], st: State) -> Report
+    ensures { λ r. ⌜ r ≡ forcedReport (now (w .entry)) st ⌝ }
+{
+    if valid::is_valid(w, st) {
+        return forced::forced_valid(w, st);
+    }
+    Report {
+        code: 17,
+        set: 0,
+        count: 0,
+        lowest: 0,
+    }
 }

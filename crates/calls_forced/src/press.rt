@@ -1,0 +1,64 @@
+// The locations where a ready component must act before a tick: a call, a move with timer 0, or an output that is heard there.
+ghost use mathlib.Core.Path.{_≡_};
+ghost use mathlib.Core.Bool.{true};
+ghost use Rattle.table.specs.Meaning.{compsOf};
+ghost use Rattle.table.specs.Valid.{scriptOk, compOk, valid};
+ghost use Rattle.calls_forced.specs.Marked.{Marked, isHeard, pressesIn, pressOf};
+use table::Comp;
+use table::Head;
+use table::State;
+use table::words;
+
+fn is_heard(ears: &[u32; 4096], k: usize) -> bool
+    ensures { λ r. ⌜ r ≡ isHeard (now (ears .entry)) k ⌝ }
+{
+    if k < 4096 {
+        return ears[k] == 1;
+    }
+    false
+}
+
+fn presses(ears: &[u32; 4096], l: u32, t: u32, h: Head) -> bool
+    ensures { λ r. ⌜ r ≡ pressesIn (now (ears .entry)) l t h ⌝ }
+{
+    match h {
+        Head::Stop => false,
+        Head::Go(_, _, _) => t == 0,
+        Head::Out(d, _, _, _, _) => is_heard(ears, words::wide(l) * 64 + words::wide(d)),
+        Head::In(_, _, _, _, _) => false,
+        Head::Call(_, _, _, _, _, _) => true,
+    }
+}
+
+// The location of c if it presses there, else 64.
+fn press_of(w: &[u32; 99592], ears: &[u32; 4096], c: Comp) -> usize
+    requires { ⌜ (scriptOk (now w) ≡ true) × (compOk (now w) c ≡ true) ⌝ }
+    ensures { λ r. ⌜ r ≡ pressOf (now (w .entry)) (now (ears .entry)) c ⌝ }
+{
+    if c.mark < 64 {
+        return 64;
+    }
+    let h = words::head_at(w, words::wide(c.place));
+    if presses(ears, c.loc, c.timer, h) {
+        return words::wide(c.loc);
+    }
+    64
+}
+
+pub fn pressed_in(w: &[u32; 99592], st: State, ears: &[u32; 4096]) -> [u32; 64]
+    requires { ⌜ valid (now w) st ≡ true ⌝ }
+    ensures { λ r. ⌜ Marked 64 (pressOf (now (w .entry)) (now (ears .entry))) (compsOf st) r ⌝ }
+{
+    let n = st.n;
+    let mut out = [0u32; 64];
+    let mut j: usize = 0;
+    while j < n {
+        let c = st.c[j];
+        let k = press_of(w, ears, c);
+        if k < 64 {
+            out[k] = 1;
+        }
+        j += 1;
+    }
+    out
+}

@@ -1,0 +1,250 @@
+-- The loop of `sweep`: the records written and the sweep over the positions left are the sweep over all positions.
+-- By the law of one position (Sweeping); the chains of who waits follow.
+use Prim.Native.Nat.{ℕ, zero, suc, _+_, _-_, _<_, _≤_}
+use native.Mathlib.Omega.{arith}
+use native.Mathlib.Numerals.{add-one}
+use mathlib.Core.List.{List, [], _∷_, _++_, map, append-assoc, append-nil, cons≢nil}
+use mathlib.Core.Bool.{Bool, true, false, cond, _&&_}
+use mathlib.Core.Path.{_≡_, refl, sym, ap, subst, _∙_}
+use lib.Dec.{eqb, ltb}
+use lib.ListN.{length, getD, set, take, length-set, length-map, length-take}
+use lib.Seq.{getD-set-same, getD-set-other, take-suc-set, take-set-le}
+use borrow.Author.Tests.{eqb-true, eqb-false, eq-eqb, ltb-true, ltb-false}
+use Rattle.terms.specs.Same.{every}
+use Rattle.terms.specs.Rules.{Answer, Action, _>>=_, at, seek}
+use Rattle.terms.specs.Rules as R
+use Rattle.terms.specs.Rules.Answer.{refused, accepted}
+use Rattle.terms.proofs.Answers.{clash, took}
+use Rattle.table.specs.declared.Comp.{Comp}
+use Rattle.table.specs.declared.State.{State}
+use Rattle.table.specs.Words.{headAt}
+use Rattle.table.specs.Meaning.{compsOf}
+use Rattle.table.specs.Valid.{scriptOk, compOk, valid}
+use Rattle.table.specs.Fire.{ActedAt, actOn, readyAt, hears}
+use Rattle.table.proofs.Tests.{comp-fine}
+use Rattle.table.proofs.Fires.{every-at, map-append}
+use Rattle.table.proofs.Kept.{okA, goodActed, act-kept}
+use Rattle.calls_act.specs.Acted.{noComp}
+use Rattle.calls_act.proofs.Positions.{at-take, take-put, valid-parts, few-comps, length-comps}
+use Rattle.calls_step.specs.declared.Rec.{Rec}
+use Rattle.calls_step.specs.declared.Visit.{Visit}
+use Rattle.calls_step.specs.Sweep.{SweptAt, idleAt, tookAt, takenAt, visitAt, followedAt, choiceAt, sweepAt, hearers, Chain, Queued, recOf}
+use Rattle.calls_step.specs.Visit.{sendsAt, kindAt, Performed, otherOf, poppedOf, recBy, someOf}
+use Rattle.calls_step.proofs.Queues.{seek-first, sends-fits}
+use Rattle.calls_step.proofs.Sweeping.{recsOf, Turned, turned-none, turned-some}
+
+pub record Going (w : List ℕ) (l : ℕ) (st now : State) (heads nexts : List ℕ) (acts : List Rec) (count p : ℕ) : Type 0 where
+  pub few-p : p ≤ st .n
+  pub few-count : count ≤ p
+  pub size : length (now .c) ≡ 256
+  pub same : now .n ≡ st .n
+  pub room : length acts ≡ 256
+  pub fine : every (compOk w) (compsOf now) ≡ true
+  pub queue : Queued w l 0 (compsOf now) heads nexts
+  pub actions : take count acts ++ map recOf (sweepAt w l p (st .n - p) (compsOf now) .actions) ≡ map recOf (sweepAt w l 0 (st .n) (compsOf st) .actions)
+  pub comps : sweepAt w l p (st .n - p) (compsOf now) .comps ≡ sweepAt w l 0 (st .n) (compsOf st) .comps
+
+-- ── what stays good ──
+took-fine : (w : List ℕ) → scriptOk w ≡ true → (y : Answer Action) (cs : List Comp) → every (compOk w) cs ≡ true → every (compOk w) (takenAt w y cs .comps) ≡ true
+took-fine w g (refused n) cs e = e
+took-fine w g (accepted a) cs e = go (actOn w a cs) (act-kept w g cs e a)
+  where
+    go : (x : Answer ActedAt) → okA (goodActed w) x ≡ true → every (compOk w) (tookAt a x cs .comps) ≡ true
+    go (refused n) h = e
+    go (accepted r) h = h
+
+visit-fine : (w : List ℕ) → scriptOk w ≡ true → (l p : ℕ) (x : Answer Comp) (cs : List Comp) → every (compOk w) cs ≡ true → every (compOk w) (visitAt w l p x cs .comps) ≡ true
+visit-fine w g l p (refused n) cs e = e
+visit-fine w g l p (accepted c) cs e = took-fine w g (choiceAt w l p c cs) cs e
+
+seek-below : {A : Type 0} (f : A → Bool) (xs : List A) (i : ℕ) → seek f xs ≡ accepted i → i < length xs
+unfolding seek
+seek-below f [] i e = clash e
+seek-below f (x ∷ xs) i e = go (f x) (seek f xs) refl e (seek-below f xs)
+  where
+    go : (b : Bool) (s : Answer ℕ) → seek f xs ≡ s → cond b (accepted 0) (s >>= λ p. accepted (suc p)) ≡ accepted i → ((j : ℕ) → seek f xs ≡ accepted j → j < length xs) → i < suc (length xs)
+    go true s q e k = let z : _≡_ {A = ℕ} 0 i = took e in omega arith
+    go false (refused n) q e k = clash e
+    go false (accepted j) q e k = let z : _≡_ {A = ℕ} (suc j) i = took e in omega (arith, k j q)
+
+-- ── records ──
+take-rec : (acts : List Rec) (count k p q : ℕ) → count < length acts → take (count + someOf k) (set acts count (recBy k p q)) ≡ take count acts ++ recsOf k p q
+take-rec acts count zero p q h = let z : count + 0 ≡ count = omega arith in ap (λ n. take n (set acts count (recBy 0 p q))) z ∙ take-set-le count acts count (recBy 0 p q) (omega arith) ∙ sym (append-nil (take count acts))
+take-rec acts count (suc k) p q h = ap (λ n. take n (set acts count (recBy (suc k) p q))) (add-one count) ∙ take-suc-set acts count (recBy (suc k) p q) h
+
+pub some-fits : (k : ℕ) → someOf k ≤ 1
+some-fits zero = omega arith
+some-fits (suc k) = omega arith
+
+-- ── the chain of the component's channel ──
+chain-none : (nexts : List ℕ) (x : ℕ) (qs : List ℕ) → Chain nexts x qs → x ≡ 0 → qs ≡ []
+chain-none nexts x [] c e = refl
+chain-none nexts x (q ∷ qs) c e = absurd (omega (arith, c .0))
+
+chain-some : (nexts : List ℕ) (q : ℕ) (qs : List ℕ) → Chain nexts (suc q) qs → (rest : List ℕ) × (qs ≡ q ∷ rest) × Chain nexts (getD nexts q 0) rest
+chain-some nexts q [] c = absurd (omega arith)
+chain-some nexts q (r ∷ rest) c = let z : q ≡ r = omega (arith, c .0) in (rest, ap (λ y. y ∷ rest) (sym z), subst (λ y. Chain nexts (getD nexts y 0) rest) (sym z) (c .1))
+
+module _ (w : List ℕ) (good : scriptOk w ≡ true) (l : ℕ) (st now : State) (heads nexts : List ℕ) (acts : List Rec) (count p : ℕ) (few : st .n ≤ 256) (i : Going w l st now heads nexts acts count p) (h : p < st .n) where
+  abbrev cs : List Comp
+  cs = compsOf now
+
+  abbrev c : Comp
+  c = getD (now .c) p noComp
+
+  abbrev s : ℕ
+  s = sendsAt w l c
+
+  abbrev x : ℕ
+  x = getD heads s 0
+
+  at-here : (q : ℕ) → q < st .n → at (compsOf now) q ≡ accepted (getD (now .c) q noComp)
+  unfolding compsOf
+  at-here q b = at-take (now .c) (now .n) q noComp (omega (arith, i .same)) (omega (arith, i .same, i .size))
+
+  pub good-at : (q : ℕ) → q < st .n → compOk w (getD (now .c) q noComp) ≡ true
+  good-at q b = every-at (compOk w) (compsOf now) q _ (i .fine) (at-here q b)
+
+  pub channel-fits : sendsAt w l (getD (now .c) p noComp) ≤ 64
+  channel-fits = sends-fits w l (getD (now .c) p noComp) good (good-at p h)
+
+  no-channel : sendsAt w l (getD (now .c) p noComp) ≡ 64 → getD heads (sendsAt w l (getD (now .c) p noComp)) 0 ≡ 0
+  no-channel e = ap (λ z. getD heads z 0) e ∙ i .queue .none
+
+  other-below : (y : ℕ) → getD heads (sendsAt w l (getD (now .c) p noComp)) 0 ≡ y → otherOf p y < st .n
+  other-below zero e = h
+  other-below (suc q) e = by (ltb (sendsAt w l (getD (now .c) p noComp)) 64) refl
+    where
+      by : (b : Bool) → ltb (sendsAt w l (getD (now .c) p noComp)) 64 ≡ b → q < st .n
+      by false b = absurd (omega (arith, ltb-false (sendsAt w l (getD (now .c) p noComp)) 64 b, channel-fits, e, no-channel (omega (arith, ltb-false (sendsAt w l (getD (now .c) p noComp)) 64 b, channel-fits))))
+      by true b =
+          let k = chain-some nexts q _ (subst (λ z. Chain nexts z (hearers w l (sendsAt w l (getD (now .c) p noComp)) 0 (compsOf now))) e (i .queue .chain _ (ltb-true _ 64 b))) in
+          let f = seek-first w l (sendsAt w l (getD (now .c) p noComp)) 0 (compsOf now) q (k .0) (k .1) in
+          omega (arith, f .2, seek-below _ (compsOf now) (f .0) (f .1), length-comps now (i .size) (omega (arith, i .same)), i .same)
+
+  pub other-fits : otherOf p (getD heads (sendsAt w l (getD (now .c) p noComp)) 0) < st .n
+  other-fits = other-below _ refl
+
+  module _ (v : Visit) (f : Performed w (kindAt w l (getD (now .c) p noComp) (getD heads (sendsAt w l (getD (now .c) p noComp)) 0)) (getD (now .c) p noComp) (getD (now .c) (otherOf p (getD heads (sendsAt w l (getD (now .c) p noComp)) 0)) noComp) v) where
+    turned : (y : ℕ) → getD heads (sendsAt w l (getD (now .c) p noComp)) 0 ≡ y → Performed w (kindAt w l (getD (now .c) p noComp) y) (getD (now .c) p noComp) (getD (now .c) (otherOf p y) noComp) v
+        → Turned w l p (otherOf p y) (kindAt w l (getD (now .c) p noComp) y) y (compsOf now) (getD (now .c) p noComp) v
+    turned zero e g = turned-none w good l p (compsOf now) c v (at-here p h) (comp-fine w c (good-at p h)) (λ b. chain-none nexts x _ (i .queue .chain s b) e) g
+    turned (suc q) e g = by (ltb s 64) refl
+      where
+        by : (b : Bool) → ltb (sendsAt w l (getD (now .c) p noComp)) 64 ≡ b → Turned w l p q (kindAt w l (getD (now .c) p noComp) (suc q)) (suc q) (compsOf now) (getD (now .c) p noComp) v
+        by false b = absurd (omega (arith, ltb-false (sendsAt w l (getD (now .c) p noComp)) 64 b, channel-fits, e, no-channel (omega (arith, ltb-false (sendsAt w l (getD (now .c) p noComp)) 64 b, channel-fits))))
+        by true b =
+            let k = chain-some nexts q _ (subst (λ z. Chain nexts z (hearers w l s 0 (compsOf now))) e (i .queue .chain s (ltb-true _ 64 b))) in
+            turned-some w good l p q (compsOf now) c (getD (now .c) q noComp) v (at-here p h) (at-here q (other-below (suc q) e)) (comp-fine w c (good-at p h)) (λ z. sym e ∙ no-channel z) (k .0) (k .1) g
+
+    t : Turned w l p (otherOf p (getD heads (sendsAt w l (getD (now .c) p noComp)) 0)) (kindAt w l (getD (now .c) p noComp) (getD heads (sendsAt w l (getD (now .c) p noComp)) 0)) (getD heads (sendsAt w l (getD (now .c) p noComp)) 0) (compsOf now) (getD (now .c) p noComp) v
+    t = turned _ refl f
+
+    abbrev q : ℕ
+    q = otherOf p x
+
+    abbrev k : ℕ
+    k = kindAt w l c x
+
+    abbrev next : State
+    next = record { c = set (set (now .c) p (v .x)) q (v .y); n = now .n }
+
+    comps-next : compsOf next ≡ R.set (R.set (compsOf now) p (v .x)) q (v .y)
+    unfolding compsOf
+    comps-next =
+        take-put (set (now .c) p (v .x)) (now .n) q (v .y) (omega (arith, other-fits, i .same))
+        ∙ ap (λ z. R.set z q (v .y)) (take-put (now .c) (now .n) p (v .x) (omega (arith, i .same)))
+
+    visited : visitAt w l p (at (compsOf now) p) (compsOf now) .comps ≡ compsOf next
+    visited = t .comps ∙ sym comps-next
+
+    -- the chains of who still waits
+    heads-same : (y : ℕ) → getD heads s 0 ≡ y → y ≡ 0 → (g : ℕ) → getD (set heads s 0) g 0 ≡ getD heads g 0
+    heads-same y e z g = by (eqb g s) refl
+      where
+        by : (b : Bool) → eqb g (sendsAt w l (getD (now .c) p noComp)) ≡ b → getD (set heads (sendsAt w l (getD (now .c) p noComp)) 0) g 0 ≡ getD heads g 0
+        by true b = let m = eqb-true g s b in ap (λ n. getD (set heads s 0) n 0) m ∙ getD-set-same heads s 0 0 (omega (arith, i .queue .size, channel-fits)) ∙ sym (ap (λ n. getD heads n 0) m ∙ e ∙ z)
+        by false b = getD-set-other heads s g 0 0 (eqb-false g s b)
+
+    queue-next : (y : ℕ) → getD heads s 0 ≡ y → Turned w l p (otherOf p y) (kindAt w l c y) y (compsOf now) c v → compsOf next ≡ R.set (R.set (compsOf now) p (v .x)) (otherOf p y) (v .y)
+        → Queued w l 0 (compsOf next) (set heads s (poppedOf y (getD nexts (otherOf p y) 0))) nexts
+    queue-next zero e u z = record {
+      chain = λ g b. subst (λ xs. Chain nexts (getD (set heads s 0) g 0) xs) (sym (ap (hearers w l g 0) z ∙ u .still refl g)) (subst (λ m. Chain nexts m (hearers w l g 0 (compsOf now))) (sym (heads-same 0 e refl g)) (i .queue .chain g b));
+      none = heads-same 0 e refl 64 ∙ i .queue .none;
+      size = length-set heads s 0 ∙ i .queue .size;
+      room = i .queue .room;
+    }
+    queue-next (suc r) e u z = record {
+      chain = λ g b. link g b (eqb g s) refl;
+      none = getD-set-other heads s 64 (getD nexts r 0) 0 (λ m. omega (arith, e, no-channel (sym m))) ∙ i .queue .none;
+      size = length-set heads s (getD nexts r 0) ∙ i .queue .size;
+      room = i .queue .room;
+    }
+      where
+        some : _≡_ {A = ℕ} (suc r) 0 → ⊥
+        some m = omega arith
+
+        link : (g : ℕ) → g < 64 → (b : Bool) → eqb g (sendsAt w l (getD (now .c) p noComp)) ≡ b → Chain nexts (getD (set heads (sendsAt w l (getD (now .c) p noComp)) (getD nexts r 0)) g 0) (hearers w l g 0 (compsOf next))
+        link g b false m = subst (λ xs. Chain nexts (getD (set heads s (getD nexts r 0)) g 0) xs) (sym (ap (hearers w l g 0) z ∙ u .others some g m)) (subst (λ y. Chain nexts y (hearers w l g 0 (compsOf now))) (sym (getD-set-other heads s g (getD nexts r 0) 0 (eqb-false g s m))) (i .queue .chain g b))
+        link g b true m =
+            let o = eqb-true g s m in
+            let d = chain-some nexts r _ (subst (λ y. Chain nexts y (hearers w l s 0 (compsOf now))) e (i .queue .chain s (omega (arith, o, b)))) in
+            subst (λ y. Chain nexts (getD (set heads s (getD nexts r 0)) y 0) (hearers w l y 0 (compsOf next))) (sym o)
+            (subst (λ xs. Chain nexts (getD (set heads s (getD nexts r 0)) s 0) xs) (sym (ap (hearers w l s 0) z ∙ u .first some (d .0) (d .1)))
+            (subst (λ y. Chain nexts y (d .0)) (sym (getD-set-same heads s (getD nexts r 0) 0 (omega (arith, i .queue .size, channel-fits)))) (d .2)))
+
+    -- the sweep over the positions left
+    left-n : (m : ℕ) → st .n - p ≡ suc m → sweepAt w l p (st .n - p) (compsOf now) ≡ followedAt (visitAt w l p (at (compsOf now) p) (compsOf now)) (sweepAt w l (suc p) m)
+    left-n m e = ap (λ z. sweepAt w l p z (compsOf now)) e ∙ (unfold sweepAt in refl)
+
+    rest-is : (m : ℕ) → m ≡ st .n - (p + 1) → sweepAt w l (suc p) m (compsOf next) ≡ sweepAt w l (p + 1) (st .n - (p + 1)) (compsOf next)
+    rest-is m e = ap (λ z. sweepAt w l z m (compsOf next)) (sym (add-one p)) ∙ ap (λ z. sweepAt w l (p + 1) z (compsOf next)) e
+
+    stepped : sweepAt w l p (st .n - p) (compsOf now) ≡ record { actions = visitAt w l p (at (compsOf now) p) (compsOf now) .actions ++ sweepAt w l (p + 1) (st .n - (p + 1)) (compsOf next) .actions; comps = sweepAt w l (p + 1) (st .n - (p + 1)) (compsOf next) .comps }
+    stepped =
+        left-n (st .n - (p + 1)) (omega arith)
+        ∙ ap (λ z. record { actions = visitAt w l p (at (compsOf now) p) (compsOf now) .actions ++ sweepAt w l (suc p) (st .n - (p + 1)) z .actions; comps = sweepAt w l (suc p) (st .n - (p + 1)) z .comps }) visited
+        ∙ ap (λ z. record { actions = visitAt w l p (at (compsOf now) p) (compsOf now) .actions ++ z .actions; comps = z .comps }) (rest-is (st .n - (p + 1)) refl)
+
+    pub going-turn : Going w l st (record { c = set (set (now .c) p (v .x)) (otherOf p (getD heads (sendsAt w l (getD (now .c) p noComp)) 0)) (v .y); n = now .n })
+        (set heads (sendsAt w l (getD (now .c) p noComp)) (poppedOf (getD heads (sendsAt w l (getD (now .c) p noComp)) 0) (getD nexts (otherOf p (getD heads (sendsAt w l (getD (now .c) p noComp)) 0)) 0))) nexts
+        (set acts count (recBy (kindAt w l (getD (now .c) p noComp) (getD heads (sendsAt w l (getD (now .c) p noComp)) 0)) p (otherOf p (getD heads (sendsAt w l (getD (now .c) p noComp)) 0))))
+        (count + someOf (kindAt w l (getD (now .c) p noComp) (getD heads (sendsAt w l (getD (now .c) p noComp)) 0))) (p + 1)
+    going-turn = record {
+      few-p = omega arith;
+      few-count = omega (arith, i .few-count, some-fits k);
+      size = length-set (set (now .c) p (v .x)) q (v .y) ∙ length-set (now .c) p (v .x) ∙ i .size;
+      same = i .same;
+      room = length-set acts count (recBy k p q) ∙ i .room;
+      fine = subst (λ z. every (compOk w) z ≡ true) visited (visit-fine w good l p (at (compsOf now) p) (compsOf now) (i .fine));
+      queue = queue-next _ refl t comps-next;
+      actions =
+          ap (λ z. z ++ map recOf (sweepAt w l (p + 1) (st .n - (p + 1)) (compsOf next) .actions)) (take-rec acts count k p q (omega (arith, i .room, i .few-count)) ∙ ap (λ z. take count acts ++ z) (sym (t .actions)))
+          ∙ append-assoc (take count acts) _ _
+          ∙ ap (λ z. take count acts ++ z) (sym (map-append recOf (visitAt w l p (at (compsOf now) p) (compsOf now) .actions) _))
+          ∙ ap (λ z. take count acts ++ map recOf (z .actions)) (sym stepped)
+          ∙ i .actions;
+      comps = ap (λ z. z .comps) (sym stepped) ∙ i .comps;
+    }
+
+pub going-begin : (w : List ℕ) (l : ℕ) (st : State) (heads nexts : List ℕ) (acts : List Rec) → length (st .c) ≡ 256 → length acts ≡ 256 → every (compOk w) (compsOf st) ≡ true → Queued w l 0 (compsOf st) heads nexts → Going w l st st heads nexts acts 0 0
+going-begin w l st heads nexts acts e r f q =
+    let z : st .n - 0 ≡ st .n = omega arith in
+    record { few-p = omega arith; few-count = omega arith; size = e; same = refl; room = r; fine = f; queue = q; actions = ap (λ n. map recOf (sweepAt w l 0 n (compsOf st) .actions)) z; comps = ap (λ n. sweepAt w l 0 n (compsOf st) .comps) z }
+
+pub going-end : (w : List ℕ) (l : ℕ) (st now : State) (heads nexts : List ℕ) (acts : List Rec) (count p : ℕ) → Going w l st now heads nexts acts count p → st .n ≤ p → st .n ≤ 256
+    → (take count acts ≡ map recOf (sweepAt w l 0 (st .n) (compsOf st) .actions)) × (count ≡ length (sweepAt w l 0 (st .n) (compsOf st) .actions)) × (compsOf now ≡ sweepAt w l 0 (st .n) (compsOf st) .comps)
+unfolding sweepAt
+going-end w l st now heads nexts acts count p i h few = (records, number, sym done ∙ i .comps)
+  where
+    none : st .n - p ≡ 0
+    none = omega arith
+
+    done : sweepAt w l p (st .n - p) (compsOf now) .comps ≡ compsOf now
+    done = ap (λ z. sweepAt w l p z (compsOf now) .comps) none
+
+    records : take count acts ≡ map recOf (sweepAt w l 0 (st .n) (compsOf st) .actions)
+    records = sym (append-nil (take count acts)) ∙ ap (λ z. take count acts ++ map recOf z) (sym (ap (λ z. sweepAt w l p z (compsOf now) .actions) none)) ∙ i .actions
+
+    number : count ≡ length (sweepAt w l 0 (st .n) (compsOf st) .actions)
+    number = omega (arith, ap length records, length-take count acts, length-map (sweepAt w l 0 (st .n) (compsOf st) .actions) recOf, i .room, i .few-count, i .few-p)

@@ -1,0 +1,100 @@
+-- The step on a valid table stands for the step of the rules, with questions 15 and 13.
+-- By the law of the sweep (Sweeps), that of the tick's pass, and that a step never meets question 12.
+use Prim.Native.Nat.{ℕ, zero, suc, _+_, _-_, _<_, _≤_, min}
+use native.Mathlib.Omega.{arith}
+use native.Mathlib.Numerals.{add-one}
+use mathlib.Core.List.{List, [], _∷_, _++_, map, append-assoc, flatMap}
+use mathlib.Core.Bool.{Bool, true, false, cond, _&&_}
+use mathlib.Core.Path.{_≡_, refl, sym, ap, subst, _∙_}
+use lib.Dec.{leb, ltb}
+use lib.ListN.{length, getD, set, take, drop, length-map, length-set, length-take}
+use lib.Seq.{take-suc, drop-cons, set-at}
+use borrow.Author.Tests.{lt-ltb, le-ltb, le-leb, lt-leb}
+use Rattle.terms.specs.Names.{sameName}
+use Rattle.terms.specs.Terms.{Component}
+use Rattle.terms.specs.Same.{every}
+use Rattle.terms.specs.Rules.{Answer, Action, _>>=_, pass}
+use Rattle.terms.specs.Rules.Answer.{refused, accepted}
+use Rattle.terms.specs.Step.{Swept as SweptBy, fires, step}
+use Rattle.terms.proofs.Names.{and-in}
+use Rattle.terms.proofs.Steps.{step-accepted}
+use Rattle.table.specs.declared.Comp.{Comp}
+use Rattle.table.specs.declared.State.{State}
+use Rattle.table.specs.Words.{locsIn, locName}
+use Rattle.table.specs.Meaning.{defsOf, means, compsOf, netOf}
+use Rattle.table.specs.Valid.{scriptOk, compOk, stateOk, valid}
+use Rattle.table.specs.Fire.{passedAll}
+use Rattle.table.proofs.Tests.{StateFine}
+use Rattle.table.proofs.Ticks.{passed-all}
+use Rattle.table.proofs.Fires.{map-append}
+use Rattle.calls_act.specs.Acted.{asked}
+use Rattle.calls_act.proofs.Positions.{valid-parts, length-comps}
+use Rattle.calls_tick.specs.Ticked.{room}
+use Rattle.calls_tick.proofs.Ticking.{tick-took}
+use Rattle.calls_step.specs.declared.Rec.{Rec}
+use Rattle.calls_step.specs.declared.Stepped.{Stepped}
+use Rattle.calls_step.specs.declared.Swept.{Swept}
+use Rattle.calls_step.specs.Sweep.{SweptAt, sweepAt, recOf}
+use Rattle.calls_step.specs.Visit.{SweepsAs}
+use Rattle.calls_step.specs.Stepped.{Step, stepOf, stepRule, wordsOf, refusal, Took, stepsAs}
+use Rattle.calls_step.proofs.Sweeps.{Like, fires-like}
+
+module _ (w : List ℕ) (st : State) (l : ℕ) (v : valid w st ≡ true) (len : length (st .c) ≡ 256) (r : Swept) (s : SweepsAs w l st r) where
+  good : scriptOk w ≡ true
+  good = valid-parts w st v .0
+
+  abbrev swept : SweptAt
+  swept = sweepAt w l 0 (st .n) (compsOf st)
+
+  module _ (inl : l < locsIn w) where
+    -- the sweep of the rules
+    like : Like w good l inl (fires (defsOf w) (locName w l) (map (means w) (compsOf st))) (sweepAt w l 0 (st .n) (compsOf st))
+    like = subst (λ n. Like w good l inl (fires (defsOf w) (locName w l) (map (means w) (compsOf st))) (sweepAt w l 0 n (compsOf st))) (length-comps st len (valid-parts w st v .1 .few)) (fires-like w good l inl (compsOf st) (valid-parts w st v .1 .each))
+
+    -- the swept state still passes question 17
+    pub swept-good : valid w (r .state) ≡ true
+    unfolding valid stateOk
+    swept-good =
+        let p = valid-parts w st v .1 in
+        and-in _ _ good (and-in _ _ (lt-ltb 0 (r .state .n) (omega (arith, s .size, p .some))) (and-in _ _ (le-leb (r .state .n) 256 (omega (arith, s .size, p .few))) (rw (s .comps) (like .fine))))
+
+    -- what the rules answer, by the numbers of the code
+    ruled : (size : ℕ) → stepRule w st l size ≡ asked 15 (leb (r .count) size) (room (map (means w) (passedAll w l (compsOf (r .state)))) >>= λ cs. accepted (stepOf (swept .actions) cs))
+    unfolding stepRule netOf
+    ruled size =
+        let c = passed-all w good l inl (swept .comps) (like .fine) in
+        rw (lt-ltb l (locsIn w) inl, like .actions, ← s .number, step-accepted (defsOf w) (locName w l) (map (means w) (compsOf st)), like .actions, like .comps, ← c, s .comps)
+
+    pub step-small : (size : ℕ) → size < r .count → stepRule w st l size ≡ refused 15
+    step-small size h = ruled size ∙ rw (lt-leb (r .count) size h)
+
+    pub step-full : (size : ℕ) → r .count ≤ size → 256 < length (passedAll w l (compsOf (r .state))) → stepRule w st l size ≡ refused 13
+    unfolding room
+    step-full size h n = ruled size ∙ rw (le-leb (r .count) size h, length-map (passedAll w l (compsOf (r .state))) (means w), lt-leb (length (passedAll w l (compsOf (r .state)))) 256 n)
+
+    pub step-done : (size : ℕ) → r .count ≤ size → length (passedAll w l (compsOf (r .state))) < 257 → stepRule w st l size ≡ accepted (stepOf (swept .actions) (map (means w) (passedAll w l (compsOf (r .state)))))
+    unfolding room
+    step-done size h n = ruled size ∙ rw (le-leb (r .count) size h, length-map (passedAll w l (compsOf (r .state))) (means w), le-leb (length (passedAll w l (compsOf (r .state)))) 256 (omega arith))
+
+    pub step-took : (next : State) (before after : List (List ℕ)) → length (r .state .c) ≡ 256 → compsOf next ≡ passedAll w l (compsOf (r .state)) → next .n ≡ length (passedAll w l (compsOf (r .state))) → length (passedAll w l (compsOf (r .state))) < 257
+        → after ≡ map wordsOf (take (r .count) (r .acts)) ++ drop (r .count) before
+        → Took w (stepOf (swept .actions) (map (means w) (passedAll w l (compsOf (r .state))))) (record { code = 0; count = r .count; state = next }) before after
+    step-took next before after z e n b a =
+        let t = tick-took w (r .state) next l swept-good z e n b in
+        record { code = refl; count = s .number; comps = t .comps; good = t .good; records = a ∙ ap (λ xs. map wordsOf xs ++ drop (r .count) before) (s .records) ∙ ap (λ k. map wordsOf (map recOf (swept .actions)) ++ drop k before) (s .number) }
+
+-- question 8
+pub step-out : (w : List ℕ) (st : State) (l size : ℕ) → locsIn w ≤ l → stepRule w st l size ≡ refused 8
+unfolding stepRule
+step-out w st l size h = rw (le-ltb l (locsIn w) h)
+
+-- ── writing the records ──
+pub put-more : (acts : List Rec) (before now : List (List ℕ)) (j : ℕ) (d : Rec) → j < length acts → j < length before → length now ≡ length before → now ≡ map wordsOf (take j acts) ++ drop j before
+    → set now j (wordsOf (getD acts j d)) ≡ map wordsOf (take (j + 1) acts) ++ drop (j + 1) before
+put-more acts before now j d h b n e =
+    ap (λ z. set z j (wordsOf (getD acts j d))) (e ∙ ap (λ z. map wordsOf (take j acts) ++ z) (drop-cons before j [] b))
+    ∙ set-at (map wordsOf (take j acts)) (getD before j []) (drop (suc j) before) (wordsOf (getD acts j d)) j (length-map (take j acts) wordsOf ∙ length-take j acts ∙ small)
+    ∙ sym (ap (λ z. map wordsOf (take z acts) ++ drop z before) (add-one j) ∙ ap (λ z. map wordsOf z ++ drop (suc j) before) (take-suc acts j d h) ∙ ap (λ z. z ++ drop (suc j) before) (map-append wordsOf (take j acts) (getD acts j d ∷ [])) ∙ append-assoc (map wordsOf (take j acts)) (wordsOf (getD acts j d) ∷ []) (drop (suc j) before))
+  where
+    small : min j (length acts) ≡ j
+    small = omega arith

@@ -1,0 +1,328 @@
+-- One position of the sweep in code is one position of the sweep on the table, and the chains stay those of who still waits.
+-- By cases on the head of the component there: none, a call, a move, or a communication with the first of the chain.
+use Prim.Native.Nat.{ℕ, zero, suc, _+_, _-_, _<_, _≤_}
+use native.Mathlib.Omega.{arith}
+use mathlib.Core.List.{List, [], _∷_, _++_, map, cons≢nil}
+use mathlib.Core.Bool.{Bool, true, false, cond, _&&_, _||_, not, false≢true}
+use mathlib.Core.Path.{_≡_, refl, sym, ap, subst, _∙_}
+use lib.Dec.{eqb, ltb}
+use lib.ListN.{length, getD, set, length-set}
+use lib.Seq.{getD-set-same, getD-set-other}
+use borrow.Author.Tests.{ltb-true, ltb-false, lt-ltb, eqb-true, eqb-false, eq-eqb, ne-eqb}
+use Rattle.terms.specs.Same.{every}
+use Rattle.terms.specs.Rules.{Answer, Kind, Action, _>>=_, ok, at, setAll, positions, seek}
+use Rattle.terms.specs.Rules as R
+use Rattle.terms.specs.Rules.Answer.{refused, accepted}
+use Rattle.terms.specs.Rules.Kind.{calls, moves}
+use Rattle.terms.specs.Rules.Action.{single, pair}
+use Rattle.terms.proofs.Names.{and-inv}
+use Rattle.terms.proofs.Answers.{clash, took}
+use Rattle.terms.proofs.Forced.{ok-inv}
+use Rattle.table.specs.declared.Comp.{Comp}
+use Rattle.table.specs.declared.Head.{Head}
+use Rattle.table.specs.declared.Head.the-variants.{Stop, Go, Out, In, Call}
+use Rattle.table.specs.Words.{locsIn, headAt, bodyOf}
+use Rattle.table.specs.Valid.{scriptOk, compOk}
+use Rattle.table.specs.Fire.{Left, ActedAt, leftAt, becomesAt, handed, meetAt, aloneAt, togetherAt, leftBy, actOn, readyAt, hears, valueIn, loaded}
+use Rattle.table.proofs.Tests.{CompFine, comp-fine, comp-ok, script-fine}
+use Rattle.calls_tick.proofs.Hearing.{ear-fits, inEar}
+use Rattle.table.proofs.Kept.{okA, goodActed, act-kept}
+use Rattle.calls_act.specs.declared.Fired.{Fired}
+use Rattle.calls_act.specs.declared.Met.{Met}
+use Rattle.calls_act.specs.Fired.{tagOf, oneOf, twoOf}
+use Rattle.calls_step.specs.declared.Rec.{Rec}
+use Rattle.calls_step.specs.declared.Visit.{Visit}
+use Rattle.calls_step.specs.Sweep.{chosenBy, choiceAt, SweptAt, idleAt, tookAt, takenAt, visitAt, hearers, Chain, Queued, recOf}
+use Rattle.calls_step.specs.Visit.{sentOn, sendsAt, kindBy, kindAt, Performed, otherOf, poppedOf, recBy}
+use Rattle.calls_step.proofs.Queues.{seek-first, seek-nobody, hearers-other, hearers-first}
+
+-- ── lists ──
+pub put-same : {A : Type 0} (xs : List A) (p : ℕ) (x : A) → at xs p ≡ accepted x → R.set xs p x ≡ xs
+unfolding at R.set
+put-same [] p x e = refl
+put-same (y ∷ xs) zero x e = ap (λ z. z ∷ xs) (sym (took e))
+put-same (y ∷ xs) (suc p) x e = ap (λ z. y ∷ z) (put-same xs p x e)
+
+pub put-twice : {A : Type 0} (xs : List A) (p : ℕ) (x y : A) → R.set (R.set xs p x) p y ≡ R.set xs p y
+unfolding R.set
+put-twice [] p x y = refl
+put-twice (z ∷ xs) zero x y = refl
+put-twice (z ∷ xs) (suc p) x y = ap (λ r. z ∷ r) (put-twice xs p x y)
+
+at-put-other : {A : Type 0} (xs : List A) (p q : ℕ) (z y : A) → at xs q ≡ accepted y → (p ≡ q → ⊥) → at (R.set xs p z) q ≡ accepted y
+unfolding at R.set
+at-put-other [] p q z y e n = clash e
+at-put-other (x ∷ xs) zero zero z y e n = absurd (n refl)
+at-put-other (x ∷ xs) zero (suc q) z y e n = e
+at-put-other (x ∷ xs) (suc p) zero z y e n = e
+at-put-other (x ∷ xs) (suc p) (suc q) z y e n = at-put-other xs p q z y e (λ h. n (ap suc h))
+
+seek-at : {A : Type 0} (f : A → Bool) (xs : List A) (p : ℕ) (x : A) → seek f xs ≡ accepted p → at xs p ≡ accepted x → f x ≡ true
+unfolding seek at
+seek-at f [] p x e h = clash e
+seek-at {A} f (y ∷ xs) p x e h = go (f y) refl (seek f xs) refl p e h (seek-at f xs)
+  where
+    go : (b : Bool) → f y ≡ b → (s : Answer ℕ) → seek f xs ≡ s → (p : ℕ) → cond b (accepted 0) (s >>= λ p. accepted (suc p)) ≡ accepted p → at (y ∷ xs) p ≡ accepted x
+        → ((m : ℕ) (x : A) → seek f xs ≡ accepted m → at xs m ≡ accepted x → f x ≡ true) → f x ≡ true
+    go true q s t zero e h k = rw (← took h) q
+    go true q s t (suc p) e h k = let z : _≡_ {A = ℕ} 0 (suc p) = took e in absurd (omega arith)
+    go false q (refused n) t p e h k = clash e
+    go false q (accepted m) t zero e h k = let z : _≡_ {A = ℕ} (suc m) 0 = took e in absurd (omega arith)
+    go false q (accepted m) t (suc p) e h k = let z : _≡_ {A = ℕ} (suc m) (suc p) = took e in let y : m ≡ p = omega arith in k p x (t ∙ ap accepted y) h
+
+-- ── what an action leaves is marked ──
+left-unready : (w : List ℕ) (l k m i : ℕ) (vs : List ℕ) → scriptOk w ≡ true → k < locsIn w → readyAt l (leftAt k m i vs) ≡ false
+unfolding readyAt leftAt
+left-unready w l k m i vs e h = rw (lt-ltb k 64 (omega (arith, script-fine w e .locs)))
+
+abbrev unready : ℕ → List Comp → Type 0
+unready l [] = Unit {0}
+unready l (c ∷ cs) = (readyAt l c ≡ false) × unready l cs
+
+becomes-unready : (w : List ℕ) (l : ℕ) (k : Kind) (c : Comp) (h : Head) (f : Left) → scriptOk w ≡ true → CompFine w c → becomesAt w k c h ≡ accepted f → unready l (f .after)
+unfolding becomesAt
+becomes-unready w l calls c Stop f g q e = clash e
+becomes-unready w l calls c (Go t v p) f g q e = clash e
+becomes-unready w l calls c (Out d t v p r) f g q e = clash e
+becomes-unready w l calls c (In d t k p r) f g q e = clash e
+becomes-unready w l calls c (Call d n a₀ a₁ a₂ a₃) f g q e = subst (λ z. unready l (z .after)) (took e) (left-unready w l (c .loc) (c .loc) (bodyOf w d) (loaded (c .vals) n a₀ a₁ a₂ a₃) g (q .loc), tt)
+becomes-unready w l moves c Stop f g q e = clash e
+becomes-unready w l moves c (Go t v p) f g q e = subst (λ z. unready l (z .after)) (took e) (left-unready w l (c .loc) (valueIn (c .vals) v) p (c .vals) g (q .loc), tt)
+becomes-unready w l moves c (Out d t v p r) f g q e = clash e
+becomes-unready w l moves c (In d t k p r) f g q e = clash e
+becomes-unready w l moves c (Call d n a₀ a₁ a₂ a₃) f g q e = clash e
+
+-- ── a component that is ready, by its test ──
+ready-free : (l : ℕ) (c : Comp) → readyAt l c ≡ true → (ltb (c .mark) 64 ≡ false) × (c .loc ≡ l)
+unfolding readyAt
+ready-free l c e = go (ltb (c .mark) 64) refl e
+  where
+    go : (b : Bool) → ltb (c .mark) 64 ≡ b → (not b && eqb (c .loc) l) ≡ true → (ltb (c .mark) 64 ≡ false) × (c .loc ≡ l)
+    go true q e = absurd (false≢true e)
+    go false q e = (q, eqb-true (c .loc) l e)
+
+-- ── what one position gives: its record, the components, and who still hears ──
+abbrev pub recsOf : ℕ → ℕ → ℕ → List Rec
+recsOf zero p q = []
+recsOf (suc k) p q = recBy (suc k) p q ∷ []
+
+pub record Turned (w : List ℕ) (l p q k x : ℕ) (cs : List Comp) (c : Comp) (v : Visit) : Type 0 where
+  pub actions : map recOf (visitAt w l p (at cs p) cs .actions) ≡ recsOf k p q
+  pub comps : visitAt w l p (at cs p) cs .comps ≡ R.set (R.set cs p (v .x)) q (v .y)
+  pub still : x ≡ 0 → (h : ℕ) → hearers w l h 0 (R.set (R.set cs p (v .x)) q (v .y)) ≡ hearers w l h 0 cs
+  pub others : (x ≡ 0 → ⊥) → (h : ℕ) → eqb h (sendsAt w l c) ≡ false → hearers w l h 0 (R.set (R.set cs p (v .x)) q (v .y)) ≡ hearers w l h 0 cs
+  pub first : (x ≡ 0 → ⊥) → (qs : List ℕ) → hearers w l (sendsAt w l c) 0 cs ≡ q ∷ qs → hearers w l (sendsAt w l c) 0 (R.set (R.set cs p (v .x)) q (v .y)) ≡ qs
+
+-- nothing fires
+rests : (w : List ℕ) (l p : ℕ) (cs : List Comp) (c : Comp) (v : Visit) (n : ℕ) → at cs p ≡ accepted c → choiceAt w l p c cs ≡ refused n → v .x ≡ c → v .y ≡ c → Turned w l p p 0 0 cs c v
+rests w l p cs c v n e a x y = record {
+  actions = rw (e, a);
+  comps = rw (e, a) (sym same);
+  still = λ z h. ap (hearers w l h 0) same;
+  others = λ z. absurd (z refl);
+  first = λ z. absurd (z refl);
+}
+  where
+    same : R.set (R.set cs p (v .x)) p (v .y) ≡ cs
+    same = rw (x, y) (ap (λ z. R.set z p c) (put-same cs p c e) ∙ put-same cs p c e)
+
+one-inv : (f : Fired) (g : Left) → oneOf f ≡ accepted g → g .after ≡ f .comp ∷ []
+unfolding oneOf
+one-inv f g e = go (eqb (f .code) 0) e
+  where
+    go : (b : Bool) → cond b (accepted (record { tag = tagOf (f .label); after = f .comp ∷ [] })) (refused (f .code)) ≡ accepted g → g .after ≡ f .comp ∷ []
+    go true e = ap (λ z. z .after) (sym (took e))
+    go false e = clash e
+
+two-inv : (m : Met) (g : Left) → twoOf m ≡ accepted g → g .after ≡ m .sender ∷ m .receiver ∷ []
+unfolding twoOf
+two-inv m g e = go (eqb (m .code) 0) e
+  where
+    go : (b : Bool) → cond b (accepted (record { tag = tagOf (m .label); after = m .sender ∷ m .receiver ∷ [] })) (refused (m .code)) ≡ accepted g → g .after ≡ m .sender ∷ m .receiver ∷ []
+    go true e = ap (λ z. z .after) (sym (took e))
+    go false e = clash e
+
+abbrev kindNo : Kind → ℕ
+kindNo calls = 1
+kindNo moves = 2
+
+rec-one : (k : Kind) (p : ℕ) → recOf (single k p) ∷ [] ≡ recsOf (kindNo k) p p
+rec-one calls p = refl
+rec-one moves p = refl
+
+-- a call or a move fires
+fires-one : (w : List ℕ) (l p : ℕ) (k : Kind) (cs : List Comp) (c : Comp) (v : Visit) (f : Fired) (g : Left) → at cs p ≡ accepted c → choiceAt w l p c cs ≡ accepted (single k p) → aloneAt w k c ≡ accepted g → oneOf f ≡ aloneAt w k c
+    → unready l (g .after) → ((h : ℕ) → hears h (headAt w (c .place)) ≡ false) → v .x ≡ f .comp → v .y ≡ f .comp → Turned w l p p (kindNo k) 0 cs c v
+unfolding actOn leftBy positions setAll
+fires-one w l p k cs c v f g e a b o u n x y = record {
+  actions = rw (e, a, e, b) (rec-one k p);
+  comps = rw (e, a, e, b, after) (sym once);
+  still = λ z h. ap (hearers w l h 0) once ∙ hearers-other w l h 0 cs p c (f .comp) e (rw (n h) (and-none (readyAt l c))) (subst (unready l) after u .0);
+  others = λ z. absurd (z refl);
+  first = λ z. absurd (z refl);
+}
+  where
+    after : g .after ≡ f .comp ∷ []
+    after = one-inv f g (o ∙ b)
+
+    once : R.set (R.set cs p (v .x)) p (v .y) ≡ R.set cs p (f .comp)
+    once = rw (x, y) (put-twice cs p (f .comp) (f .comp))
+
+    and-none : (b : Bool) → (b && false) ≡ false
+    and-none true = refl
+    and-none false = refl
+
+-- a communication fires
+fires-two : (w : List ℕ) (l p q d : ℕ) (cs : List Comp) (c e : Comp) (v : Visit) (m : Met) (g : Left) → at cs p ≡ accepted c → at cs q ≡ accepted e → choiceAt w l p c cs ≡ accepted (pair p q) → togetherAt w c e ≡ accepted g → twoOf m ≡ togetherAt w c e
+    → unready l (g .after) → sendsAt w l c ≡ d → ((h : ℕ) → hears h (headAt w (c .place)) ≡ false) → ((h : ℕ) → hears h (headAt w (e .place)) ≡ eqb h d) → v .x ≡ m .sender → v .y ≡ m .receiver → Turned w l p q 3 (suc q) cs c v
+unfolding actOn leftBy positions setAll
+fires-two w l p q d cs c e v m g i j a b o u s n r x y = record {
+  actions = rw (i, a, i, j, b);
+  comps = rw (i, a, i, j, b, after) (sym (rw (x, y)));
+  still = λ z. absurd (omega arith);
+  others = λ z h k. put x y h ∙ hearers-other w l h 0 cs₁ q e (m .receiver) there (rw (r h, sym (ap (eqb h) s) ∙ k) (and-none (readyAt l e))) (marks .1 .0) ∙ sender h;
+  first = λ z qs k. put x y (sendsAt w l c) ∙ hearers-first w l (sendsAt w l c) 0 cs₁ q (m .receiver) qs (sender (sendsAt w l c) ∙ k ∙ ap (λ y. y ∷ qs) (omega arith)) (marks .1 .0);
+}
+  where
+    cs₁ : List Comp
+    cs₁ = R.set cs p (m .sender)
+
+    after : g .after ≡ m .sender ∷ m .receiver ∷ []
+    after = two-inv m g (o ∙ b)
+
+    marks : unready l (m .sender ∷ m .receiver ∷ [])
+    marks = subst (unready l) (two-inv m g (o ∙ b)) u
+
+    and-none : (b : Bool) → (b && false) ≡ false
+    and-none true = refl
+    and-none false = refl
+
+    put : v .x ≡ m .sender → v .y ≡ m .receiver → (h : ℕ) → hearers w l h 0 (R.set (R.set cs p (v .x)) q (v .y)) ≡ hearers w l h 0 (R.set (R.set cs p (m .sender)) q (m .receiver))
+    put x y h = rw (x, y)
+
+    sender : (h : ℕ) → hearers w l h 0 (R.set cs p (m .sender)) ≡ hearers w l h 0 cs
+    sender h = hearers-other w l h 0 cs p c (m .sender) i (rw (n h) (and-none (readyAt l c))) (subst (unready l) (two-inv m g (o ∙ b)) u .0)
+
+    -- the input stands somewhere else than the output
+    apart : p ≡ q → ⊥
+    apart z = let y : c ≡ e = took (sym i ∙ ap (at cs) z ∙ j) in false≢true (sym (n d) ∙ ap (λ k. hears d (headAt w (k .place))) y ∙ r d ∙ eq-eqb d d refl)
+
+    there : at (R.set cs p (m .sender)) q ≡ accepted e
+    there = at-put-other cs p q (m .sender) e j apart
+
+-- ── by cases on the head ──
+kind-ready : (w : List ℕ) (l : ℕ) (c : Comp) (x : ℕ) (h : Head) → readyAt l c ≡ true → headAt w (c .place) ≡ h → kindAt w l c x ≡ kindBy x (c .timer) h
+unfolding kindAt
+kind-ready w l c x h r e = rw (r, e)
+
+choice-ready : (w : List ℕ) (l p : ℕ) (c : Comp) (cs : List Comp) (h : Head) → readyAt l c ≡ true → headAt w (c .place) ≡ h → choiceAt w l p c cs ≡ chosenBy w l p (c .timer) cs h
+unfolding choiceAt
+choice-ready w l p c cs h r e = rw (r, e)
+
+sends-ready : (w : List ℕ) (l : ℕ) (c : Comp) (h : Head) → readyAt l c ≡ true → headAt w (c .place) ≡ h → sendsAt w l c ≡ sentOn h
+unfolding sendsAt
+sends-ready w l c h r e = rw (r, e)
+
+alone-free : (w : List ℕ) (k : Kind) (l : ℕ) (c : Comp) (h : Head) → readyAt l c ≡ true → headAt w (c .place) ≡ h → aloneAt w k c ≡ becomesAt w k c h
+unfolding aloneAt
+alone-free w k l c h r e = rw (ready-free l c r .0, e)
+
+module _ (w : List ℕ) (good : scriptOk w ≡ true) (l p : ℕ) (cs : List Comp) (c : Comp) (v : Visit) (at-p : at cs p ≡ accepted c) (fine : CompFine w c) where
+  -- no link: the component is its own partner
+  rest-case : kindAt w l c 0 ≡ 0 → (n : ℕ) → choiceAt w l p c cs ≡ refused n → Performed w (kindAt w l c 0) c c v → Turned w l p p (kindAt w l c 0) 0 cs c v
+  rest-case k n a f = subst (λ z. Turned w l p p z 0 cs c v) (sym k) (rests w l p cs c v n at-p a (f .none k .0) (f .none k .1))
+
+  silent : (h : Head) → headAt w (c .place) ≡ h → ((g : ℕ) → hears g h ≡ false) → (g : ℕ) → hears g (headAt w (c .place)) ≡ false
+  silent h e k g = rw e (k g)
+
+  call-case : (d n a₀ a₁ a₂ a₃ : ℕ) → readyAt l c ≡ true → headAt w (c .place) ≡ Call d n a₀ a₁ a₂ a₃ → Performed w (kindAt w l c 0) c c v → Turned w l p p (kindAt w l c 0) 0 cs c v
+  unfolding kindBy chosenBy becomesAt hears
+  call-case d n a₀ a₁ a₂ a₃ r e f =
+      let k : kindAt w l c 0 ≡ 1 = kind-ready w l c 0 _ r e in
+      let g = f .call k in
+      let a = alone-free w calls l c _ r e in
+      subst (λ z. Turned w l p p z 0 cs c v) (sym k)
+      (fires-one w l p calls cs c v (g .0) _ at-p (choice-ready w l p c cs _ r e) a (g .1) (becomes-unready w l calls c (Call d n a₀ a₁ a₂ a₃) _ good fine refl) (silent _ e (λ g. refl)) (g .2) (g .3))
+
+  go-case : (t y q : ℕ) → readyAt l c ≡ true → headAt w (c .place) ≡ Go t y q → Performed w (kindAt w l c 0) c c v → Turned w l p p (kindAt w l c 0) 0 cs c v
+  unfolding kindBy chosenBy becomesAt hears
+  go-case t y q r e f = by-timer (eqb (c .timer) 0) refl
+    where
+      by-timer : (b : Bool) → eqb (c .timer) 0 ≡ b → Turned w l p p (kindAt w l c 0) 0 cs c v
+      by-timer true z =
+          let k : kindAt w l c 0 ≡ 2 = kind-ready w l c 0 _ r e ∙ rw z in
+          let g = f .move k in
+          let a = alone-free w moves l c _ r e in
+          subst (λ z. Turned w l p p z 0 cs c v) (sym k)
+          (fires-one w l p moves cs c v (g .0) _ at-p (choice-ready w l p c cs _ r e ∙ rw z) a (g .1) (becomes-unready w l moves c (Go t y q) _ good fine refl) (silent _ e (λ g. refl)) (g .2) (g .3))
+      by-timer false z = rest-case (kind-ready w l c 0 _ r e ∙ rw z) 0 (choice-ready w l p c cs _ r e ∙ rw z) f
+
+  out-case : (d t y q s : ℕ) → readyAt l c ≡ true → headAt w (c .place) ≡ Out d t y q s → (sendsAt w l c < 64 → hearers w l (sendsAt w l c) 0 cs ≡ []) → Performed w (kindAt w l c 0) c c v → (b : Bool) → ltb d 64 ≡ b → Turned w l p p (kindAt w l c 0) 0 cs c v
+  unfolding kindBy chosenBy sentOn
+  out-case d t y q s r e nobody f true b =
+      let z : sendsAt w l c ≡ d = sends-ready w l c _ r e in
+      let n : hearers w l d 0 cs ≡ [] = subst (λ k. hearers w l k 0 cs ≡ []) z (nobody (rw z (ltb-true d 64 b))) in
+      rest-case (kind-ready w l c 0 _ r e) 8 (choice-ready w l p c cs _ r e ∙ rw (seek-nobody w l d 0 cs n)) f
+  out-case d t y q s r e nobody f false b = absurd (omega (arith, ltb-false d 64 b, subst (inEar 64) e (ear-fits w c good (comp-ok w c fine))))
+
+  pub turned-none : (sendsAt w l c < 64 → hearers w l (sendsAt w l c) 0 cs ≡ []) → Performed w (kindAt w l c 0) c c v → Turned w l p p (kindAt w l c 0) 0 cs c v
+  turned-none nobody f = by-ready (readyAt l c) refl (headAt w (c .place)) refl
+    where
+      by-ready : (b : Bool) → readyAt l c ≡ b → (h : Head) → headAt w (c .place) ≡ h → Turned w l p p (kindAt w l c 0) 0 cs c v
+      by-ready false r h e = rest-case (unfold kindAt in rw r) 0 (unfold choiceAt in rw r) f
+      by-ready true r Stop e = rest-case (kind-ready w l c 0 _ r e ∙ (unfold kindBy in refl)) 0 (choice-ready w l p c cs _ r e ∙ (unfold chosenBy in refl)) f
+      by-ready true r (Go t y q) e = go-case t y q r e f
+      by-ready true r (In d t k y q) e = rest-case (kind-ready w l c 0 _ r e ∙ (unfold kindBy in refl)) 0 (choice-ready w l p c cs _ r e ∙ (unfold chosenBy in refl)) f
+      by-ready true r (Call d n a₀ a₁ a₂ a₃) e = call-case d n a₀ a₁ a₂ a₃ r e f
+      by-ready true r (Out d t y q s) e = out-case d t y q s r e nobody f (ltb d 64) refl
+
+-- a link: the first who hears is the partner
+hears-in : (w : List ℕ) (l d : ℕ) (e : Comp) (h : Head) → headAt w (e .place) ≡ h → (readyAt l e && hears d h) ≡ true → (d₂ t k p q : ℕ) × (h ≡ In d₂ t k p q) × (eqb d d₂ ≡ true)
+unfolding hears
+hears-in w l d e Stop q z = absurd (false≢true (and-inv (readyAt l e) _ z .1))
+hears-in w l d e (Go t y p) q z = absurd (false≢true (and-inv (readyAt l e) _ z .1))
+hears-in w l d e (Out d₂ t y p r) q z = absurd (false≢true (and-inv (readyAt l e) _ z .1))
+hears-in w l d e (In d₂ t k p r) q z = (d₂, t, k, p, r, refl, and-inv (readyAt l e) _ z .1)
+hears-in w l d e (Call d₂ n a₀ a₁ a₂ a₃) q z = absurd (false≢true (and-inv (readyAt l e) _ z .1))
+
+handed-unready : (w : List ℕ) (l : ℕ) (c e : Comp) (h x p k q : ℕ) → scriptOk w ≡ true → CompFine w c → unready l (handed c e h x p k q .after)
+unfolding handed
+handed-unready w l c e h x p k q g f = (left-unready w l (c .loc) (c .loc) p (c .vals) g (f .loc), (left-unready w l (c .loc) (c .loc) q (set (e .vals) k x) g (f .loc), tt))
+
+meet-free : (w : List ℕ) (l : ℕ) (c e : Comp) (d t y p q d₂ t₂ k p₂ q₂ : ℕ) → readyAt l c ≡ true → readyAt l e ≡ true → headAt w (c .place) ≡ Out d t y p q → headAt w (e .place) ≡ In d₂ t₂ k p₂ q₂ → eqb d d₂ ≡ true
+    → togetherAt w c e ≡ accepted (handed c e d (valueIn (c .vals) y) p k p₂)
+unfolding togetherAt meetAt
+meet-free w l c e d t y p q d₂ t₂ k p₂ q₂ r s a b z =
+    let f = ready-free l c r in
+    let g = ready-free l e s in
+    rw (f .0, g .0, a, b, z, eq-eqb (c .loc) (e .loc) (f .1 ∙ sym (g .1)))
+
+module _ (w : List ℕ) (good : scriptOk w ≡ true) (l p q : ℕ) (cs : List Comp) (c e : Comp) (v : Visit) (at-p : at cs p ≡ accepted c) (at-q : at cs q ≡ accepted e) (fine : CompFine w c) where
+  two-case : (d t y a b : ℕ) (qs : List ℕ) → readyAt l c ≡ true → headAt w (c .place) ≡ Out d t y a b → hearers w l d 0 cs ≡ q ∷ qs → Performed w (kindAt w l c (suc q)) c e v → Turned w l p q (kindAt w l c (suc q)) (suc q) cs c v
+  unfolding kindBy chosenBy sentOn hears
+  two-case d t y a b qs r h k f =
+      let s = seek-first w l d 0 cs q qs k in
+      let z : s .0 ≡ q = omega (arith, s .2) in
+      let u : seek (λ x. readyAt l x && hears d (headAt w (x .place))) cs ≡ accepted q = s .1 ∙ ap accepted z in
+      let m = seek-at (λ x. readyAt l x && hears d (headAt w (x .place))) cs q e u at-q in
+      let i = hears-in w l d e (headAt w (e .place)) refl m in
+      let o : kindAt w l c (suc q) ≡ 3 = kind-ready w l c (suc q) _ r h ∙ rw (ne-eqb (suc q) 0 (λ z. omega arith)) in
+      let g = f .pair o in
+      let j = meet-free w l c e d t y a b (i .0) (i .1) (i .2) (i .3) (i .4) r (and-inv (readyAt l e) _ m .0) h (i .5) (i .6) in
+      subst (λ z. Turned w l p q z (suc q) cs c v) (sym o)
+      (fires-two w l p q d cs c e v (g .0) _ at-p at-q (choice-ready w l p c cs _ r h ∙ rw u) j (g .1) (handed-unready w l c e d (valueIn (c .vals) y) a (i .2) (i .3) good fine)
+      (sends-ready w l c _ r h) (λ x. rw h) (λ x. rw (i .5) (ap (eqb x) (sym (eqb-true d (i .0) (i .6))))) (g .2) (g .3))
+
+  not-sent : (h : Head) → sentOn h ≡ 64 → readyAt l c ≡ true → headAt w (c .place) ≡ h → (sendsAt w l c ≡ 64 → _≡_ {A = ℕ} (suc q) 0) → ⊥
+  not-sent h z r e k = omega (arith, k (sends-ready w l c h r e ∙ z))
+
+  pub turned-some : (sendsAt w l c ≡ 64 → _≡_ {A = ℕ} (suc q) 0) → (qs : List ℕ) → hearers w l (sendsAt w l c) 0 cs ≡ q ∷ qs → Performed w (kindAt w l c (suc q)) c e v → Turned w l p q (kindAt w l c (suc q)) (suc q) cs c v
+  turned-some nope qs k f = by-ready (readyAt l c) refl (headAt w (c .place)) refl
+    where
+      by-ready : (b : Bool) → readyAt l c ≡ b → (h : Head) → headAt w (c .place) ≡ h → Turned w l p q (kindAt w l c (suc q)) (suc q) cs c v
+      by-ready false r h e = absurd (omega (arith, nope (unfold sendsAt in rw r)))
+      by-ready true r Stop e = absurd (not-sent Stop (unfold sentOn in refl) r e nope)
+      by-ready true r (Go t y a) e = absurd (not-sent (Go t y a) (unfold sentOn in refl) r e nope)
+      by-ready true r (In d t y a b) e = absurd (not-sent (In d t y a b) (unfold sentOn in refl) r e nope)
+      by-ready true r (Call d n a₀ a₁ a₂ a₃) e = absurd (not-sent (Call d n a₀ a₁ a₂ a₃) (unfold sentOn in refl) r e nope)
+      by-ready true r (Out d t y a b) e = two-case d t y a b qs r e (subst (λ z. hearers w l z 0 cs ≡ q ∷ qs) (sends-ready w l c _ r e ∙ (unfold sentOn in refl)) k) f

@@ -1,0 +1,59 @@
+-- What the answer of a step stands for: document 01, *The other calls* and *Questions, asked downward*.
+use Prim.Native.Nat.{ℕ}
+use mathlib.Core.List.{List, [], _∷_, _++_, map}
+use mathlib.Core.Path.{_≡_}
+use mathlib.Core.Bool.{true}
+use lib.Dec.{leb, ltb}
+use lib.ListN.{length, drop}
+use Rattle.terms.specs.Terms.{Component}
+use Rattle.terms.specs.Rules.{Answer, Action, _>>=_}
+use Rattle.terms.specs.Rules.Answer.{refused, accepted}
+use Rattle.terms.specs.Step.{Swept as SweptBy, fires, step}
+use Rattle.table.specs.declared.State.{State}
+use Rattle.table.specs.Words.{locsIn, locName}
+use Rattle.table.specs.Meaning.{defsOf, netOf}
+use Rattle.table.specs.Valid.{valid}
+use Rattle.calls_act.specs.Acted.{asked}
+use Rattle.calls_tick.specs.Ticked.{room}
+use Rattle.calls_step.specs.declared.Rec.{Rec}
+use Rattle.calls_step.specs.declared.Stepped.{Stepped}
+use Rattle.calls_step.specs.Sweep.{recOf}
+
+-- the actions of a step, and the components after its tick
+pub record Step : Type 0 where
+  pub actions : List Action
+  pub comps : List Component
+
+abbrev pub stepOf : List Action → List Component → Step
+stepOf xs cs = record { actions = xs; comps = cs }
+
+-- the step at the location numbered l, with room for so many records: questions 8, 15 and 13
+unfoldable pub stepRule : List ℕ → State → ℕ → ℕ → Answer Step
+stepRule w st l size =
+    asked 8 (ltb l (locsIn w))
+    (asked 15 (leb (length (fires (defsOf w) (locName w l) (netOf w st) .actions)) size)
+    (step (defsOf w) (locName w l) (netOf w st) >>= λ s. room (s .comps) >>= λ cs. accepted (stepOf (s .actions) cs)))
+
+-- question 17 first
+unfoldable pub stepAnswer : List ℕ → State → ℕ → ℕ → Answer Step
+stepAnswer w st l size = asked 17 (valid w st) (stepRule w st l size)
+
+-- a record as its three words
+abbrev pub wordsOf : Rec → List ℕ
+wordsOf r = r .kind ∷ r .p ∷ r .q ∷ []
+
+abbrev pub refusal : ℕ → State → Stepped
+refusal n st = record { code = n; count = 0; state = st }
+
+-- an accepted step: the code 0, the number of actions, the next components, question 17 still answered by yes, and the records in front of what was there
+pub record Took (w : List ℕ) (s : Step) (r : Stepped) (before after : List (List ℕ)) : Type 0 where
+  pub code : r .code ≡ 0
+  pub count : r .count ≡ length (s .actions)
+  pub comps : netOf w (r .state) ≡ s .comps
+  pub good : valid w (r .state) ≡ true
+  pub records : after ≡ map wordsOf (map recOf (s .actions)) ++ drop (length (s .actions)) before
+
+-- the code's answer r, and the lent records before and after, stand for the answer of the rules
+abbrev pub stepsAs : List ℕ → State → Answer Step → Stepped → List (List ℕ) → List (List ℕ) → Type 0
+stepsAs w st (refused n) r before after = (r ≡ refusal n st) × (after ≡ before)
+stepsAs w st (accepted s) r before after = Took w s r before after

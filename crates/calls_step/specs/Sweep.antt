@@ -1,0 +1,83 @@
+-- The actions of a step on the table, and the inputs that wait on each channel: what the contracts of `sweep` cite.
+-- proofs/Sweeps says that this is the step's sweep of the rules (Step of the crate terms).
+use Prim.Native.Nat.{ℕ, zero, suc, _-_, _<_}
+use mathlib.Core.List.{List, [], _∷_, _++_, map}
+use mathlib.Core.Bool.{Bool, true, false, cond, _&&_}
+use mathlib.Core.Path.{_≡_}
+use lib.Dec.{eqb}
+use lib.ListN.{length, getD}
+use Rattle.terms.specs.Rules.{Answer, Kind, Action, _>>=_, at, seek}
+use Rattle.terms.specs.Rules.Answer.{refused, accepted}
+use Rattle.terms.specs.Rules.Kind.{calls, moves}
+use Rattle.terms.specs.Rules.Action.{single, pair}
+use Rattle.table.specs.declared.Comp.{Comp}
+use Rattle.table.specs.declared.Head.{Head}
+use Rattle.table.specs.declared.Head.the-variants.{Stop, Go, Out, In, Call}
+use Rattle.table.specs.Words.{headAt}
+use Rattle.table.specs.Fire.{ActedAt, actOn, readyAt, hears}
+use Rattle.calls_step.specs.declared.Rec.{Rec}
+
+-- ── which action fires at a component that stands at p ──
+-- of a component ready at l with this timer and head
+unfoldable pub chosenBy : List ℕ → ℕ → ℕ → ℕ → List Comp → Head → Answer Action
+chosenBy w l p t cs Stop = refused 0
+chosenBy w l p t cs (Go u v q) = cond (eqb t 0) (accepted (single moves p)) (refused 0)
+chosenBy w l p t cs (Out h u v q r) = seek (λ e. readyAt l e && hears h (headAt w (e .place))) cs >>= λ q. accepted (pair p q)
+chosenBy w l p t cs (In h u k q r) = refused 0
+chosenBy w l p t cs (Call d n a₀ a₁ a₂ a₃) = accepted (single calls p)
+
+unfoldable pub choiceAt : List ℕ → ℕ → ℕ → Comp → List Comp → Answer Action
+choiceAt w l p c cs = cond (readyAt l c) (chosenBy w l p (c .timer) cs (headAt w (c .place))) (refused 0)
+
+-- ── the sweep ──
+pub record SweptAt : Type 0 where
+  pub actions : List Action
+  pub comps : List Comp
+
+abbrev pub idleAt : List Comp → SweptAt
+idleAt cs = record { actions = []; comps = cs }
+
+abbrev pub tookAt : Action → Answer ActedAt → List Comp → SweptAt
+tookAt a (refused n) cs = idleAt cs
+tookAt a (accepted r) cs = record { actions = a ∷ []; comps = r .comps }
+
+abbrev pub takenAt : List ℕ → Answer Action → List Comp → SweptAt
+takenAt w (refused n) cs = idleAt cs
+takenAt w (accepted a) cs = tookAt a (actOn w a cs) cs
+
+abbrev pub visitAt : List ℕ → ℕ → ℕ → Answer Comp → List Comp → SweptAt
+visitAt w l p (refused n) cs = idleAt cs
+visitAt w l p (accepted c) cs = takenAt w (choiceAt w l p c cs) cs
+
+abbrev pub followedAt : SweptAt → (List Comp → SweptAt) → SweptAt
+followedAt r k = record { actions = r .actions ++ k (r .comps) .actions; comps = k (r .comps) .comps }
+
+-- n positions upward from p
+unfoldable pub sweepAt : List ℕ → ℕ → ℕ → ℕ → List Comp → SweptAt
+sweepAt w l p zero cs = idleAt cs
+sweepAt w l p (suc n) cs = followedAt (visitAt w l p (at cs p) cs) (sweepAt w l (suc p) n)
+
+-- ── the inputs that wait on a channel ──
+-- the positions, from k on, of the components ready at l that hear h
+unfoldable pub hearers : List ℕ → ℕ → ℕ → ℕ → List Comp → List ℕ
+hearers w l h k [] = []
+hearers w l h k (c ∷ cs) = cond (readyAt l c && hears h (headAt w (c .place))) (k ∷ hearers w l h (suc k) cs) (hearers w l h (suc k) cs)
+
+-- x is 0, or the first position and one; the table of next ones leads from each to the one after it
+abbrev pub Chain : List ℕ → ℕ → List ℕ → Type 0
+Chain nexts x [] = x ≡ 0
+Chain nexts x (q ∷ qs) = (x ≡ suc q) × Chain nexts (getD nexts q 0) qs
+
+-- for every channel the chain of those who hear it; 64 is no channel
+pub record Queued (w : List ℕ) (l k : ℕ) (cs : List Comp) (heads nexts : List ℕ) : Type 0 where
+  pub chain : (h : ℕ) → h < 64 → Chain nexts (getD heads h 0) (hearers w l h k cs)
+  pub none : getD heads 64 0 ≡ 0
+  pub size : length heads ≡ 65
+  pub room : length nexts ≡ 256
+
+-- ── records ──
+-- a record has the kind and the positions; q is 0 for kinds 1 and 2
+abbrev pub recOf : Action → Rec
+recOf (single calls p) = record { kind = 1; p = p; q = 0 }
+recOf (single moves p) = record { kind = 2; p = p; q = 0 }
+recOf (pair p q) = record { kind = 3; p = p; q = q }

@@ -1,0 +1,95 @@
+-- One position of a step's sweep, in numbers: what the contracts of `sweep` cite.
+use Prim.Native.Nat.{ℕ, zero, suc, _-_, _≤_}
+use mathlib.Core.List.{List, [], _∷_, map}
+use mathlib.Core.Bool.{Bool, true, false, cond}
+use mathlib.Core.Path.{_≡_}
+use lib.Dec.{eqb, ltb}
+use lib.ListN.{length, take}
+use Rattle.terms.specs.Rules.Kind.{calls, moves}
+use Rattle.table.specs.declared.Comp.{Comp}
+use Rattle.table.specs.declared.State.{State}
+use Rattle.table.specs.declared.Head.{Head}
+use Rattle.table.specs.declared.Head.the-variants.{Stop, Go, Out, In, Call}
+use Rattle.table.specs.Words.{headAt}
+use Rattle.table.specs.Meaning.{compsOf}
+use Rattle.table.specs.Fire.{aloneAt, togetherAt, readyAt}
+use Rattle.calls_act.specs.declared.Fired.{Fired}
+use Rattle.calls_act.specs.declared.Met.{Met}
+use Rattle.calls_act.specs.Fired.{oneOf, twoOf}
+use Rattle.calls_step.specs.declared.Rec.{Rec}
+use Rattle.calls_step.specs.declared.Visit.{Visit}
+use Rattle.calls_step.specs.declared.Swept.{Swept}
+use Rattle.calls_step.specs.Sweep.{SweptAt, sweepAt, recOf}
+
+-- the channel of an input; 64 for none
+unfoldable pub heardOn : Head → ℕ
+heardOn Stop = 64
+heardOn (Go t v p) = 64
+heardOn (Out h t v p q) = 64
+heardOn (In h t k p q) = h
+heardOn (Call d n a₀ a₁ a₂ a₃) = 64
+
+-- the channel of an output; 64 for none
+unfoldable pub sentOn : Head → ℕ
+sentOn Stop = 64
+sentOn (Go t v p) = 64
+sentOn (Out h t v p q) = h
+sentOn (In h t k p q) = 64
+sentOn (Call d n a₀ a₁ a₂ a₃) = 64
+
+-- of a component that is ready at l
+unfoldable pub hearsAt : List ℕ → ℕ → Comp → ℕ
+hearsAt w l c = cond (readyAt l c) (heardOn (headAt w (c .place))) 64
+
+unfoldable pub sendsAt : List ℕ → ℕ → Comp → ℕ
+sendsAt w l c = cond (readyAt l c) (sentOn (headAt w (c .place))) 64
+
+-- the link to the position i, for a channel; 64 is none
+abbrev pub link : ℕ → ℕ → ℕ
+link h i = cond (ltb h 64) (suc i) 0
+
+-- the kind of the action that fires, 0 for none, where x is the link to the lowest that hears
+unfoldable pub kindBy : ℕ → ℕ → Head → ℕ
+kindBy x t Stop = 0
+kindBy x t (Go u v p) = cond (eqb t 0) 2 0
+kindBy x t (Out h u v p q) = cond (eqb x 0) 0 3
+kindBy x t (In h u k p q) = 0
+kindBy x t (Call d n a₀ a₁ a₂ a₃) = 1
+
+unfoldable pub kindAt : List ℕ → ℕ → Comp → ℕ → ℕ
+kindAt w l c x = cond (readyAt l c) (kindBy x (c .timer) (headAt w (c .place))) 0
+
+-- what becomes of the component c at the position and of e, its partner or itself
+pub record Performed (w : List ℕ) (k : ℕ) (c e : Comp) (r : Visit) : Type 0 where
+  pub none : k ≡ 0 → (r .x ≡ c) × (r .y ≡ e)
+  pub call : k ≡ 1 → (f : Fired) × (oneOf f ≡ aloneAt w calls c) × (r .x ≡ f .comp) × (r .y ≡ f .comp)
+  pub move : k ≡ 2 → (f : Fired) × (oneOf f ≡ aloneAt w moves c) × (r .x ≡ f .comp) × (r .y ≡ f .comp)
+  pub pair : k ≡ 3 → (m : Met) × (twoOf m ≡ togetherAt w c e) × (r .x ≡ m .sender) × (r .y ≡ m .receiver)
+
+-- the position of the partner, or the own one
+abbrev pub otherOf : ℕ → ℕ → ℕ
+otherOf p zero = p
+otherOf p (suc q) = q
+
+-- the link after the first of a chain is taken
+abbrev pub poppedOf : ℕ → ℕ → ℕ
+poppedOf zero nx = 0
+poppedOf (suc q) nx = nx
+
+-- the record of an action of kind k; 1 if there is one
+abbrev pub recBy : ℕ → ℕ → ℕ → Rec
+recBy k p q = record { kind = k; p = p; q = cond (eqb k 3) q 0 }
+
+abbrev pub someOf : ℕ → ℕ
+someOf zero = 0
+someOf (suc k) = 1
+
+-- the sweep over all positions: its records, how many, and the components it leaves
+pub record SweepsAs (w : List ℕ) (l : ℕ) (st : State) (r : Swept) : Type 0 where
+  pub records : take (r .count) (r .acts) ≡ map recOf (sweepAt w l 0 (st .n) (compsOf st) .actions)
+  pub number : r .count ≡ length (sweepAt w l 0 (st .n) (compsOf st) .actions)
+  pub few : r .count ≤ st .n
+  pub comps : compsOf (r .state) ≡ sweepAt w l 0 (st .n) (compsOf st) .comps
+  pub size : r .state .n ≡ st .n
+  pub slots : length (st .c) ≡ 256
+  pub slotted : length (r .state .c) ≡ 256

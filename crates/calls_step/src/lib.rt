@@ -1,0 +1,47 @@
+// Layer 3, calls: the step at a location.
+//
+//   specs/Sweep   the actions of a step on the table, and who waits on each channel
+//   specs/Visit   one position of the sweep, in numbers
+//   specs/Stepped what the answer of a step stands for
+//   sweep         the actions of a step
+//   step          the step at a location of a valid table
+pub mod step;
+pub mod sweep;
+
+use table::Comp;
+use table::State;
+
+// An action record: kind and positions; q is 0 for kinds 1 and 2.
+#[repr(C)]
+pub struct Rec {
+    pub kind: u32,
+    pub p: u32,
+    pub q: u32,
+}
+
+// For each channel the link to the lowest position that hears it, and from each position the link to the next. A link is 0, or a position and one.
+pub struct Queue {
+    pub heads: [u32; 65],
+    pub nexts: [u32; 256],
+}
+
+// What becomes of the component at a position, and of its partner.
+pub struct Visit {
+    pub x: Comp,
+    pub y: Comp,
+}
+
+// The actions of a step, how many, and the state that they leave.
+pub struct Swept {
+    pub state: State,
+    pub acts: [Rec; 256],
+    pub count: usize,
+}
+
+// The answer of a step: code 0 with the number of actions and the next state, or the number of the question answered by no with the state as it was.
+#[repr(C)]
+pub struct Stepped {
+    pub code: u32,
+    pub count: usize,
+    pub state: State,
+}

@@ -1,0 +1,235 @@
+// The actions of a step: through the positions upward once. Who hears a channel is found beforehand, as a chain of positions for each channel.
+ghost use mathlib.Core.Path.{_≡_};
+ghost use mathlib.Core.Bool.{true};
+ghost use Prim.Native.Nat.{_<_, _≤_};
+ghost use Rattle.table.specs.Meaning.{compsOf};
+ghost use Rattle.table.specs.Valid.{scriptOk, compOk, valid};
+ghost use Rattle.calls_step.specs.Sweep.{Queued};
+ghost use Rattle.calls_step.specs.Visit.{heardOn, sentOn, hearsAt, sendsAt, link, kindBy, kindAt, Performed, otherOf, poppedOf, recBy, someOf, SweepsAs};
+use super::Queue;
+use super::Rec;
+use super::Swept;
+use super::Visit;
+use calls_act::fire;
+use calls_tick::forced;
+use table::Comp;
+use table::Head;
+use table::State;
+use table::words;
+
+fn heard_on(h: Head) -> u32
+    ensures { λ r. ⌜ r ≡ heardOn h ⌝ }
+{
+    match h {
+        Head::In(d, _, _, _, _) => d,
+        Head::Stop => 64,
+        Head::Go(_, _, _) => 64,
+        Head::Out(_, _, _, _, _) => 64,
+        Head::Call(_, _, _, _, _, _) => 64,
+    }
+}
+
+fn sent_on(h: Head) -> u32
+    ensures { λ r. ⌜ r ≡ sentOn h ⌝ }
+{
+    match h {
+        Head::Out(d, _, _, _, _) => d,
+        Head::Stop => 64,
+        Head::Go(_, _, _) => 64,
+        Head::In(_, _, _, _, _) => 64,
+        Head::Call(_, _, _, _, _, _) => 64,
+    }
+}
+
+fn hears_at(w: &[u32; 99592], l: u32, c: Comp) -> u32
+    requires { ⌜ (scriptOk (now w) ≡ true) × (compOk (now w) c ≡ true) ⌝ }
+    ensures { λ r. ⌜ r ≡ hearsAt (now (w .entry)) l c ⌝ }
+{
+    if forced::ready_at(l, c) {
+        let h = words::head_at(w, words::wide(c.place));
+        return heard_on(h);
+    }
+    64
+}
+
+fn sends_at(w: &[u32; 99592], l: u32, c: Comp) -> u32
+    requires { ⌜ (scriptOk (now w) ≡ true) × (compOk (now w) c ≡ true) ⌝ }
+    ensures { λ r. ⌜ r ≡ sendsAt (now (w .entry)) l c ⌝ }
+{
+    if forced::ready_at(l, c) {
+        let h = words::head_at(w, words::wide(c.place));
+        return sent_on(h);
+    }
+    64
+}
+
+fn link_to(h: usize, i: usize) -> u32
+    requires { ⌜ i < 256 ⌝ }
+    ensures { λ r. ⌜ r ≡ link h i ⌝ }
+{
+    if h < 64 {
+        return (i + 1) as u32;
+    }
+    0
+}
+
+fn kind_by(x: u32, t: u32, h: Head) -> u32
+    ensures { λ r. ⌜ r ≡ kindBy x t h ⌝ }
+{
+    match h {
+        Head::Stop => 0,
+        Head::Go(_, _, _) => {
+            if t == 0 {
+                return 2;
+            }
+            0
+        }
+        Head::Out(_, _, _, _, _) => {
+            if x == 0 {
+                return 0;
+            }
+            3
+        }
+        Head::In(_, _, _, _, _) => 0,
+        Head::Call(_, _, _, _, _, _) => 1,
+    }
+}
+
+fn kind_at(w: &[u32; 99592], l: u32, c: Comp, x: u32) -> u32
+    requires { ⌜ (scriptOk (now w) ≡ true) × (compOk (now w) c ≡ true) ⌝ }
+    ensures { λ r. ⌜ r ≡ kindAt (now (w .entry)) l c x ⌝ }
+{
+    if forced::ready_at(l, c) {
+        let h = words::head_at(w, words::wide(c.place));
+        return kind_by(x, c.timer, h);
+    }
+    0
+}
+
+fn perform(w: &[u32; 99592], k: u32, c: Comp, e: Comp) -> Visit
+    requires { ⌜ (scriptOk (now w) ≡ true) × (compOk (now w) c ≡ true) × (compOk (now w) e ≡ true) ⌝ }
+    ensures { λ r. ⌜ Performed (now (w .entry)) k c e r ⌝ }
+{
+    if k == 1 {
+        let f = fire::fire_call(w, c);
+        let d = f.comp;
+        return Visit { x: d, y: d };
+    }
+    if k == 2 {
+        let f = fire::fire_move(w, c);
+        let d = f.comp;
+        return Visit { x: d, y: d };
+    }
+    if k == 3 {
+        let m = fire::fire_pair(w, c, e);
+        let a = m.sender;
+        let b = m.receiver;
+        return Visit { x: a, y: b };
+    }
+    Visit { x: c, y: e }
+}
+
+fn other_of(p: usize, x: u32) -> usize
+    ensures { λ r. ⌜ r ≡ otherOf p x ⌝ }
+{
+    if x == 0 {
+        return p;
+    }
+    words::wide(x - 1)
+}
+
+fn popped_of(x: u32, nx: u32) -> u32
+    ensures { λ r. ⌜ r ≡ poppedOf x nx ⌝ }
+{
+    if x == 0 {
+        return 0;
+    }
+    nx
+}
+
+fn rec_by(k: u32, p: usize, q: usize) -> Rec
+    requires { ⌜ (p < 256) × (q < 256) ⌝ }
+    ensures { λ r. ⌜ r ≡ recBy k p q ⌝ }
+{
+    if k == 3 {
+        return Rec {
+            kind: k,
+            p: p as u32,
+            q: q as u32,
+        };
+    }
+    Rec {
+        kind: k,
+        p: p as u32,
+        q: 0,
+    }
+}
+
+fn some_of(k: u32) -> usize
+    ensures { λ r. ⌜ r ≡ someOf k ⌝ }
+{
+    if k == 0 {
+        return 0;
+    }
+    1
+}
+
+fn queue_of(w: &[u32; 99592], st: State, l: u32) -> Queue
+    requires { ⌜ valid (now w) st ≡ true ⌝ }
+    ensures { λ r. ⌜ Queued (now (w .entry)) l 0 (compsOf st) (r .heads) (r .nexts) ⌝ }
+{
+    let mut out = Queue {
+        heads: [0u32; 65],
+        nexts: [0u32; 256],
+    };
+    let mut j = st.n;
+    while 0 < j {
+        let i = j - 1;
+        let c = st.c[i];
+        let h = words::wide(hears_at(w, l, c));
+        let old = out.heads[h];
+        out.nexts[i] = old;
+        out.heads[h] = link_to(h, i);
+        j = i;
+    }
+    out
+}
+
+pub fn sweep(w: &[u32; 99592], st: State, l: u32) -> Swept
+    requires { ⌜ valid (now w) st ≡ true ⌝ }
+    ensures { λ r. ⌜ SweepsAs (now (w .entry)) l st r ⌝ }
+{
+    let n = st.n;
+    let mut queue = queue_of(w, st, l);
+    let mut state = st;
+    let mut acts = [Rec {
+        kind: 0,
+        p: 0,
+        q: 0,
+    }; 256];
+    let mut count: usize = 0;
+    let mut p: usize = 0;
+    while p < n {
+        let c = state.c[p];
+        let s = words::wide(sends_at(w, l, c));
+        let x = queue.heads[s];
+        let q = other_of(p, x);
+        let e = state.c[q];
+        let k = kind_at(w, l, c, x);
+        let v = perform(w, k, c, e);
+        let a = v.x;
+        let b = v.y;
+        state.c[p] = a;
+        state.c[q] = b;
+        acts[count] = rec_by(k, p, q);
+        count += some_of(k);
+        let nx = queue.nexts[q];
+        queue.heads[s] = popped_of(x, nx);
+        p += 1;
+    }
+    Swept {
+        state: state,
+        acts: acts,
+        count: count,
+    }
+}
