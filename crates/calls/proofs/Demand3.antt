@@ -29,11 +29,11 @@ use Rattle.calls_tick.specs.Ticked.{room, tickRule, tickAnswer}
 use Rattle.calls.specs.Run.{answerTo, does, Run, actionFor, callOf, fedOf}
 use Rattle.calls.specs.Run.Run.{over, then}
 
-asked-inv : {A : Type 0} (n : ℕ) (b : Bool) (x : Answer A) (a : A) → asked n b x ≡ accepted a → (b ≡ true) × (x ≡ accepted a)
+pub asked-inv : {A : Type 0} (n : ℕ) (b : Bool) (x : Answer A) (a : A) → asked n b x ≡ accepted a → (b ≡ true) × (x ≡ accepted a)
 asked-inv n true x a e = (refl, e)
 asked-inv n false x a e = clash e
 
-room-inv : (cs ds : List Component) → room cs ≡ accepted ds → cs ≡ ds
+pub room-inv : (cs ds : List Component) → room cs ≡ accepted ds → cs ≡ ds
 unfolding room
 room-inv cs ds e = took (asked-inv 13 (leb (length cs) 256) (accepted cs) ds e .1)
 
