@@ -1,0 +1,158 @@
+//! The proved engine's library: its declarations, as in `include/timo.h`, and
+//! a safe interface to them. The calls take any content; nothing has to be
+//! tested beforehand.
+
+/// Words of a script.
+pub const WORDS: usize = 99_592;
+
+/// The mark of a component that has none.
+pub const UNMARKED: u32 = 64;
+
+/// A component: location, mark, place of its part, timer, and a location for
+/// each slot.
+#[repr(C)]
+#[derive(Clone, Copy, Debug, PartialEq, Eq)]
+pub struct Comp {
+    pub loc: u32,
+    pub mark: u32,
+    pub place: u32,
+    pub timer: u32,
+    pub vals: [u32; 8],
+}
+
+/// The components; the first `n` are in use.
+#[repr(C)]
+#[derive(Clone, Copy, Debug, PartialEq, Eq)]
+pub struct State {
+    pub c: [Comp; 256],
+    pub n: usize,
+}
+
+/// A label in numbers.
+#[repr(C)]
+#[derive(Clone, Copy, Debug)]
+pub struct Label {
+    pub kind: u32,
+    pub a: u32,
+    pub b: u32,
+    pub at: u32,
+}
+
+#[repr(C)]
+struct Acted {
+    code: u32,
+    label: Label,
+    state: State,
+}
+
+#[repr(C)]
+struct Ticked {
+    code: u32,
+    state: State,
+}
+
+#[repr(C)]
+struct Stepped {
+    code: u32,
+    count: usize,
+    state: State,
+}
+
+/// The forced report.
+#[repr(C)]
+#[derive(Clone, Copy, Debug, PartialEq, Eq)]
+pub struct Report {
+    pub code: u32,
+    pub set: u64,
+    pub count: u32,
+    pub lowest: u32,
+}
+
+#[repr(C)]
+struct Written {
+    code: u32,
+    len: usize,
+}
+
+extern "C" {
+    fn timo_valid(w: *const u32, st: State) -> bool;
+    fn timo_action(w: *const u32, st: State, kind: u32, p: usize, q: usize) -> Acted;
+    fn timo_tick(w: *const u32, st: State, l: u32) -> Ticked;
+    fn timo_step(w: *const u32, st: State, l: u32, records: *mut [u32; 3], n: usize) -> Stepped;
+    fn timo_forced(w: *const u32, st: State) -> Report;
+    fn timo_write(w: *const u32, st: State, buf: *mut u8, n: usize) -> Written;
+}
+
+/// A script and a state, of any content. A refused call leaves the state as
+/// the library returned it, so that a caller sees whether it changed.
+#[derive(Clone)]
+pub struct Table {
+    pub words: Box<[u32; WORDS]>,
+    pub state: State,
+}
+
+impl Table {
+    pub fn is_valid(&self) -> bool {
+        // SAFETY: the pointer is to WORDS words, which the call only reads.
+        unsafe { timo_valid(self.words.as_ptr(), self.state) }
+    }
+
+    /// A single action; its label, or the number of its refusal.
+    pub fn action(&mut self, kind: u32, p: usize, q: usize) -> Result<Label, u32> {
+        // SAFETY: as for `is_valid`.
+        let acted = unsafe { timo_action(self.words.as_ptr(), self.state, kind, p, q) };
+        self.state = acted.state;
+        answer(acted.code, acted.label)
+    }
+
+    pub fn tick(&mut self, location: u32) -> Result<(), u32> {
+        // SAFETY: as for `is_valid`.
+        let ticked = unsafe { timo_tick(self.words.as_ptr(), self.state, location) };
+        self.state = ticked.state;
+        answer(ticked.code, ())
+    }
+
+    /// The step; the number of records written.
+    pub fn step(&mut self, location: u32, lent: &mut [[u32; 3]]) -> Result<usize, u32> {
+        // SAFETY: as for `is_valid`; `lent` is not reached otherwise meanwhile.
+        let stepped = unsafe {
+            timo_step(
+                self.words.as_ptr(),
+                self.state,
+                location,
+                lent.as_mut_ptr(),
+                lent.len(),
+            )
+        };
+        self.state = stepped.state;
+        answer(stepped.code, stepped.count)
+    }
+
+    pub fn forced(&self) -> Result<Report, u32> {
+        // SAFETY: as for `is_valid`.
+        let report = unsafe { timo_forced(self.words.as_ptr(), self.state) };
+        answer(report.code, report)
+    }
+
+    /// Writing; the length of the text.
+    pub fn write(&self, lent: &mut [u8]) -> Result<usize, u32> {
+        // SAFETY: as for `step`.
+        let written = unsafe {
+            timo_write(
+                self.words.as_ptr(),
+                self.state,
+                lent.as_mut_ptr(),
+                lent.len(),
+            )
+        };
+        answer(written.code, written.len)
+    }
+}
+
+fn answer<T>(code: u32, result: T) -> Result<T, u32> {
+    if code == 0 {
+        Ok(result)
+    } else {
+        Err(code)
+    }
+}

@@ -1,0 +1,81 @@
+-- Words after a run of stores: those stored, and the others as they were. By induction on the run.
+use Prim.Native.Nat.{ℕ, zero, suc, _+_, _-_, _*_, _≤_, _<_}
+use native.Mathlib.Omega.{arith}
+use mathlib.Core.List.{List, [], _∷_, _++_}
+use mathlib.Core.Path.{_≡_, refl, ap, sym, _∙_}
+use lib.ListN.{length, getD, set, length-set}
+use lib.Seq.{sets, length-sets, getD-set-same, getD-set-other}
+use Rattle.table.specs.Words.{word, nameAt}
+use Rattle.text_build.specs.Growth.{Frame}
+
+pub set-out : (l : List ℕ) (i j a : ℕ) → (j ≡ i → ⊥) → word (set l i a) j ≡ word l j
+set-out l i j a h = getD-set-other l i j a 0 h
+
+pub sets-under : (vs l : List ℕ) (i j : ℕ) → j < i → word (sets l i vs) j ≡ word l j
+sets-under [] l i j h = refl
+sets-under (a ∷ vs) l i j h = sets-under vs (set l i a) (suc i) j (omega arith) ∙ set-out l i j a (λ e. omega arith)
+
+pub sets-past : (vs l : List ℕ) (i j : ℕ) → i + length vs ≤ j → word (sets l i vs) j ≡ word l j
+sets-past [] l i j h = refl
+sets-past (a ∷ vs) l i j h = sets-past vs (set l i a) (suc i) j (omega arith) ∙ set-out l i j a (λ e. omega arith)
+
+pub sets-in : (vs l : List ℕ) (i k : ℕ) → k < length vs → i + length vs ≤ length l → word (sets l i vs) (i + k) ≡ getD vs k 0
+sets-in [] l i k h b = absurd (omega arith)
+sets-in (a ∷ vs) l i zero h b =
+    let e : i + 0 ≡ i = omega arith in
+    rw e (sets-under vs (set l i a) (suc i) i (omega arith) ∙ getD-set-same l i a 0 (omega arith))
+sets-in (a ∷ vs) l i (suc k) h b =
+    let e : i + suc k ≡ suc i + k = omega arith in
+    rw e (sets-in vs (set l i a) (suc i) k (omega arith) (rw (length-set l i a) (omega arith)))
+
+-- ── frames ──
+pub frame-none : (w : List ℕ) (low i : ℕ) → Frame w w low i
+frame-none w low i = record { long = refl; parts = refl; defs = refl; between = λ o h k. refl; under = λ o h k. refl; above = λ o h. refl }
+
+-- one write after the other
+pub frame-then : {w v u : List ℕ} {low₁ i₁ low₂ i₂ : ℕ} (low i : ℕ) → Frame w v low₁ i₁ → Frame v u low₂ i₂ → low ≤ low₁ → low ≤ low₂ → i₁ ≤ i → i₂ ≤ i → Frame w u low i
+frame-then low i f g a b c d = record {
+  long = g .long ∙ f .long;
+  parts = g .parts ∙ f .parts;
+  defs = g .defs ∙ f .defs;
+  between = λ o h k. g .between o h k ∙ f .between o h k;
+  under = λ o h k. g .under o h (omega arith) ∙ f .under o h (omega arith);
+  above = λ o h. g .above o (omega arith) ∙ f .above o (omega arith);
+}
+
+-- some words of the row at i
+pub frame-row : (w : List ℕ) (i k : ℕ) (vs : List ℕ) → k + length vs ≤ 24 → Frame w (sets w (1_288 + i * 24 + k) vs) i i
+frame-row w i k vs h = record {
+  long = length-sets w (1_288 + i * 24 + k) vs;
+  parts = sets-under vs w (1_288 + i * 24 + k) 0 (omega arith);
+  defs = sets-under vs w (1_288 + i * 24 + k) 3 (omega arith);
+  between = λ o a b. sets-under vs w (1_288 + i * 24 + k) o (omega arith);
+  under = λ o a b. sets-under vs w (1_288 + i * 24 + k) o (omega arith);
+  above = λ o a. sets-past vs w (1_288 + i * 24 + k) o (omega arith);
+}
+
+-- words of the tables of names, of their counts, and of the mark of a name too many
+pub frame-names : (w : List ℕ) (o : ℕ) (vs : List ℕ) (low i : ℕ) → 776 ≤ o → o + length vs ≤ 1_288 → Frame w (sets w o vs) low i
+frame-names w o vs low i a b = record {
+  long = length-sets w o vs;
+  parts = sets-under vs w o 0 (omega arith);
+  defs = sets-under vs w o 3 (omega arith);
+  between = λ x h k. sets-under vs w o x (omega arith);
+  under = λ x h k. sets-past vs w o x (omega arith);
+  above = λ x h. sets-past vs w o x (omega arith);
+}
+
+pub frame-count : (w : List ℕ) (at a : ℕ) (low i : ℕ) → at < 8 → (at ≡ 0 → ⊥) → (at ≡ 3 → ⊥) → Frame w (set w at a) low i
+frame-count w at a low i h p q = record {
+  long = length-set w at a;
+  parts = set-out w at 0 a (λ e. p (sym e));
+  defs = set-out w at 3 a (λ e. q (sym e));
+  between = λ x k l. set-out w at x a (λ e. omega arith);
+  under = λ x k l. set-out w at x a (λ e. omega arith);
+  above = λ x k. set-out w at x a (λ e. omega arith);
+}
+
+-- one run after the other is one run
+pub sets-append : (xs ys l : List ℕ) (i n : ℕ) → i + length xs ≡ n → sets (sets l i xs) n ys ≡ sets l i (xs ++ ys)
+sets-append [] ys l i n e = let q : n ≡ i = omega arith in ap (λ k. sets l k ys) q
+sets-append (x ∷ xs) ys l i n e = sets-append xs ys (set l i x) (suc i) n (omega arith)

@@ -1,0 +1,75 @@
+// The engine as a library for programs in other languages: the outward calls under names of their own, as include/timo.h declares them.
+// Each has the contract of the call that it hands on. (The proposal is not among them yet: see docs/DECISIONS.md.)
+ghost use mathlib.Core.Path.{_≡_};
+ghost use lib.ListN.{length};
+ghost use Rattle.table.specs.Valid.{valid};
+ghost use Rattle.calls_act.specs.Acted.{actionAnswer, actsAs};
+ghost use Rattle.calls_tick.specs.Ticked.{tickAnswer, ticksAs};
+ghost use Rattle.calls_step.specs.Stepped.{stepAnswer, stepsAs};
+ghost use Rattle.calls_forced.specs.Report.{forcedReport};
+ghost use Rattle.text_write.specs.Answer.{Answers, writeAnswer};
+use calls::action;
+use calls::forced_report;
+use calls::step_at;
+use calls::tick_at;
+use calls_act::Acted;
+use calls_forced::Report;
+use calls_step::Stepped;
+use calls_tick::Ticked;
+use table::State;
+use table::valid::is_valid;
+use text_write::Written;
+use text_write::write;
+
+// Question 17: does the table stand for a network?
+#[no_mangle]
+pub extern "C" fn timo_valid(w: &[u32; 99592], st: State) -> bool
+    ensures { λ r. ⌜ r ≡ valid (now (w .entry)) st ⌝ }
+{
+    is_valid(w, st)
+}
+
+// A single action: questions 17, 8, 9, 10, 11.
+#[no_mangle]
+pub extern "C" fn timo_action(w: &[u32; 99592], st: State, kind: u32, p: usize, q: usize) -> Acted
+    ensures { λ r. ⌜ actsAs (now (w .entry)) st (actionAnswer (now (w .entry)) st kind p q) r ⌝ }
+{
+    action(w, st, kind, p, q)
+}
+
+// The tick at a location: questions 17, 8, 12, 13.
+#[no_mangle]
+pub extern "C" fn timo_tick(w: &[u32; 99592], st: State, l: u32) -> Ticked
+    ensures { λ r. ⌜ ticksAs (now (w .entry)) st (tickAnswer (now (w .entry)) st l) r ⌝ }
+{
+    tick_at(w, st, l)
+}
+
+// The step at a location: questions 17, 8, 15, 13.
+#[no_mangle]
+pub extern "C" fn timo_step(
+    w: &[u32; 99592],
+    st: State,
+    l: u32,
+    records: &mut [[u32; 3]],
+) -> Stepped
+    ensures { λ r. ⌜ stepsAs (now (w .entry)) st (stepAnswer (now (w .entry)) st l (length (now (records .entry)))) r (now (records .entry)) (now (records .exit)) ⌝ }
+{
+    step_at(w, st, l, records)
+}
+
+// The forced report: question 17.
+#[no_mangle]
+pub extern "C" fn timo_forced(w: &[u32; 99592], st: State) -> Report
+    ensures { λ r. ⌜ r ≡ forcedReport (now (w .entry)) st ⌝ }
+{
+    forced_report(w, st)
+}
+
+// Writing: questions 17, 14, 15.
+#[no_mangle]
+pub extern "C" fn timo_write(w: &[u32; 99592], st: State, buf: &mut [u8]) -> Written
+    ensures { λ r. ⌜ Answers (writeAnswer (now (w .entry)) st (length (now (buf .entry)))) (now (buf .entry)) r (now (buf .exit)) ⌝ }
+{
+    write(w, st, buf)
+}
