@@ -41,6 +41,11 @@ struct timo_label {
     uint32_t kind, a, b, at;
 };
 
+/* An action of a proposal; for kinds 1 and 2 q is not looked at. */
+struct timo_record {
+    uint32_t kind, p, q;
+};
+
 struct timo_acted {
     uint32_t code;
     struct timo_label label;
@@ -84,6 +89,11 @@ struct timo_ticked timo_tick(const uint32_t script[TIMO_WORDS], struct timo_stat
  * lent, then the tick. Records past the count are unchanged. Refusals: 17, 8,
  * 15, 13. */
 struct timo_stepped timo_step(const uint32_t script[TIMO_WORDS], struct timo_state state, uint32_t l, uint32_t (*records)[3], size_t n);
+
+/* A proposal at location l: the n records in order, then the tick, all or
+ * none. Refusals: 17, 8 for the location, for each record 8, 9, 10, 11, 16,
+ * then 12, 13. */
+struct timo_ticked timo_propose(const uint32_t script[TIMO_WORDS], struct timo_state state, uint32_t l, const struct timo_record *records, size_t n);
 
 /* The locations where the tick is not allowed. Refusal: 17. */
 struct timo_report timo_forced(const uint32_t script[TIMO_WORDS], struct timo_state state);

@@ -6,7 +6,7 @@ use timo_reference::term::Network;
 use timo_reference::writing;
 
 use crate::table;
-use crate::timo::{Label, Table};
+use crate::timo::{self, Label, Table};
 
 const BLANK: [u32; 3] = [77; 3];
 const BLANK_BYTE: u8 = b'#';
@@ -130,39 +130,22 @@ impl Pair {
         self.settle(ours.is_ok(), &before)
     }
 
-    /// The library has no proposal yet: its actions and its tick stand for it,
-    /// all or none.
     fn proposal(&mut self, location: u32, records: &[Record]) -> Agreed {
         let before = self.table.state;
-        let ours = self.proposed(location, records);
-        if ours.is_err() {
-            self.table.state = before;
-        }
+        let ours_records: Vec<timo::Record> = records
+            .iter()
+            .map(|r| timo::Record {
+                kind: r.kind,
+                p: r.p,
+                q: r.q,
+            })
+            .collect();
+        let ours = self.table.propose(location, &ours_records);
         let theirs = self.engine.proposal(&self.network, location, records);
-        let theirs = theirs.map(|(network, labels)| {
-            self.network = network;
-            labels.iter().map(|label| label.to_string()).collect()
-        });
+        let theirs = theirs.map(|(network, _)| self.network = network);
         let theirs = theirs.map_err(|refusal| u32::from(refusal.number()));
         equal("proposal", &ours, &theirs)?;
         self.settle(ours.is_ok(), &before)
-    }
-
-    fn proposed(&mut self, location: u32, records: &[Record]) -> Result<Vec<String>, u32> {
-        if location >= self.table.words[1] {
-            return Err(8);
-        }
-        let mut labels = Vec::new();
-        for record in records {
-            let (p, q) = (record.p as usize, record.q as usize);
-            let label = self.table.action(record.kind, p, q)?;
-            if label.at != location {
-                return Err(16);
-            }
-            labels.push(self.label(label));
-        }
-        self.table.tick(location)?;
-        Ok(labels)
     }
 
     fn forced(&self) -> Agreed {
@@ -208,7 +191,7 @@ impl Pair {
 
     /// Counts the answer; a refusal has left the state as it was, and what an
     /// accepted call returned passes question 17.
-    fn settle(&mut self, accepted: bool, before: &crate::timo::State) -> Agreed {
+    fn settle(&mut self, accepted: bool, before: &timo::State) -> Agreed {
         if accepted {
             self.tally.accepted += 1;
             return self.valid();

@@ -38,6 +38,15 @@ pub struct Label {
     pub at: u32,
 }
 
+/// An action of a proposal.
+#[repr(C)]
+#[derive(Clone, Copy, Debug)]
+pub struct Record {
+    pub kind: u32,
+    pub p: u32,
+    pub q: u32,
+}
+
 #[repr(C)]
 struct Acted {
     code: u32,
@@ -79,6 +88,7 @@ extern "C" {
     fn timo_action(w: *const u32, st: State, kind: u32, p: usize, q: usize) -> Acted;
     fn timo_tick(w: *const u32, st: State, l: u32) -> Ticked;
     fn timo_step(w: *const u32, st: State, l: u32, records: *mut [u32; 3], n: usize) -> Stepped;
+    fn timo_propose(w: *const u32, st: State, l: u32, records: *const Record, n: usize) -> Ticked;
     fn timo_forced(w: *const u32, st: State) -> Report;
     fn timo_write(w: *const u32, st: State, buf: *mut u8, n: usize) -> Written;
 }
@@ -126,6 +136,22 @@ impl Table {
         };
         self.state = stepped.state;
         answer(stepped.code, stepped.count)
+    }
+
+    /// The records in order and then the tick, all or none.
+    pub fn propose(&mut self, location: u32, records: &[Record]) -> Result<(), u32> {
+        // SAFETY: as for `is_valid`, and the records are only read.
+        let ticked = unsafe {
+            timo_propose(
+                self.words.as_ptr(),
+                self.state,
+                location,
+                records.as_ptr(),
+                records.len(),
+            )
+        };
+        self.state = ticked.state;
+        answer(ticked.code, ())
     }
 
     pub fn forced(&self) -> Result<Report, u32> {

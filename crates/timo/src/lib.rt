@@ -1,11 +1,12 @@
 // The engine as a library for programs in other languages: the outward calls under names of their own, as include/timo.h declares them.
-// Each has the contract of the call that it hands on. (The proposal is not among them yet: see docs/DECISIONS.md.)
+// Each has the contract of the call that it hands on.
 ghost use mathlib.Core.Path.{_≡_};
 ghost use lib.ListN.{length};
 ghost use Rattle.table.specs.Valid.{valid};
 ghost use Rattle.calls_act.specs.Acted.{actionAnswer, actsAs};
 ghost use Rattle.calls_tick.specs.Ticked.{tickAnswer, ticksAs};
 ghost use Rattle.calls_step.specs.Stepped.{stepAnswer, stepsAs};
+ghost use Rattle.calls_propose.specs.Proposed.{proposeAnswer};
 ghost use Rattle.calls_forced.specs.Report.{forcedReport};
 ghost use Rattle.text_write.specs.Answer.{Answers, writeAnswer};
 use calls::action;
@@ -14,6 +15,8 @@ use calls::step_at;
 use calls::tick_at;
 use calls_act::Acted;
 use calls_forced::Report;
+use calls_propose::Record;
+use calls_propose::outward::propose;
 use calls_step::Stepped;
 use calls_tick::Ticked;
 use table::State;
@@ -56,6 +59,14 @@ pub extern "C" fn timo_step(
     ensures { λ r. ⌜ stepsAs (now (w .entry)) st (stepAnswer (now (w .entry)) st l (length (now (records .entry)))) r (now (records .entry)) (now (records .exit)) ⌝ }
 {
     step_at(w, st, l, records)
+}
+
+// A proposal: questions 17, 8 for the location, 8 to 11 and 16 for each record, 12, 13.
+#[no_mangle]
+pub extern "C" fn timo_propose(w: &[u32; 99592], st: State, l: u32, records: &[Record]) -> Ticked
+    ensures { λ r. ⌜ ticksAs (now (w .entry)) st (proposeAnswer (now (w .entry)) st l (now (records .entry))) r ⌝ }
+{
+    propose(w, st, l, records)
 }
 
 // The forced report: question 17.

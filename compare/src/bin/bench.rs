@@ -1,0 +1,148 @@
+//! `bench [SCRIPT..]`: steps and writing by the proved engine's library and by
+//! the reference engine, side by side in one run, on built-in workloads that
+//! grow and on the scripts named. Nothing is tested here.
+
+use std::env;
+use std::fs;
+use std::time::{Duration, Instant};
+
+use compare::table;
+use compare::timo::Table;
+use timo_reference::calls::{Engine, Record};
+use timo_reference::term::Network;
+
+/// How long a measurement goes on at least.
+const LEAST: Duration = Duration::from_millis(200);
+const ROUNDS: usize = 4;
+
+fn main() {
+    println!("| workload | components | step, proved µs | step, reference µs | ratio | bytes | write, proved µs | write, reference µs | ratio |");
+    println!("|---|---|---|---|---|---|---|---|---|");
+    for side in [2, 4, 8] {
+        line(
+            &format!("grid {side} by {side}"),
+            &grid(side, side * side / 2),
+        );
+    }
+    for pairs in [16, 32, 64, 128] {
+        line(
+            &format!("{pairs} pairs that fire"),
+            &facing(pairs, "c", "c"),
+        );
+    }
+    for pairs in [16, 32, 64, 128] {
+        line(
+            &format!("{pairs} pairs that do not"),
+            &facing(pairs, "c", "d"),
+        );
+    }
+    for path in env::args().skip(1) {
+        match fs::read_to_string(&path) {
+            Ok(script) => line(&path, &script),
+            Err(error) => eprintln!("bench: {path}: {error}"),
+        }
+    }
+}
+
+/// Doors between neighbours of a square grid, and rovers spread over it.
+fn grid(side: usize, rovers: usize) -> String {
+    let name = |row: usize, column: usize| format!("L{}{}", row + 1, column + 1);
+    let mut components = Vec::new();
+    for row in 0..side {
+        for column in 0..side {
+            let mut door = |to: String| components.push(format!("{}[D({to})]", name(row, column)));
+            if row > 0 {
+                door(name(row - 1, column));
+            }
+            if column > 0 {
+                door(name(row, column - 1));
+            }
+            if column + 1 < side {
+                door(name(row, column + 1));
+            }
+            if row + 1 < side {
+                door(name(row + 1, column));
+            }
+        }
+    }
+    for rover in 0..rovers {
+        let place = rover * 37 % (side * side);
+        components.push(format!("{}[rover]", name(place / side, place % side)));
+    }
+    format!(
+        "D(l) = out(m,2,l,D(l),D(l)) .\nrover = in(m,0,x,go(0,x,rover),rover) .\n{} .\n",
+        components.join(" | ")
+    )
+}
+
+/// Outputs on one channel and inputs on another or the same.
+fn facing(pairs: usize, sent: &str, heard: &str) -> String {
+    let output = format!("A[out({sent},9,A,stop,stop)]");
+    let input = format!("A[in({heard},9,x,stop,stop)]");
+    let mut components = vec![output; pairs];
+    components.extend(vec![input; pairs]);
+    format!("{} .\n", components.join(" | "))
+}
+
+fn line(workload: &str, script: &str) {
+    let network = match Engine::default().read(script.as_bytes()) {
+        Ok(network) => network,
+        Err(refusal) => return println!("| {workload} | {refusal} | | | | | | | |"),
+    };
+    let table = table::of(&network);
+    let steps = ROUNDS * network.script.locations.len();
+    let proved = micros(|| rounds_proved(&table)) / steps as f64;
+    let reference = micros(|| rounds_reference(&network)) / steps as f64;
+    let mut lent = vec![0; 65_536];
+    let bytes = table.write(&mut lent).unwrap_or(0);
+    let write_proved = micros(|| table.write(&mut lent).unwrap_or(0));
+    let write_reference = micros(|| Engine::default().write(&network, &mut lent).unwrap_or(0));
+    println!(
+        "| {workload} | {} | {proved:.2} | {reference:.2} | {:.2} | {bytes} | {write_proved:.2} | {write_reference:.2} | {:.2} |",
+        network.components.len(),
+        proved / reference,
+        write_proved / write_reference
+    );
+}
+
+/// Rounds of steps over all locations; how many actions fired.
+fn rounds_proved(table: &Table) -> usize {
+    let mut table = table.clone();
+    let mut lent = vec![[0; 3]; 256];
+    let mut fired = 0;
+    for _ in 0..ROUNDS {
+        for location in 0..table.words[1] {
+            fired += table.step(location, &mut lent).unwrap_or(0);
+        }
+    }
+    fired
+}
+
+fn rounds_reference(network: &Network) -> usize {
+    let mut network = network.clone();
+    let mut lent = vec![Record::new(0, 0, 0); 256];
+    let mut fired = 0;
+    for _ in 0..ROUNDS {
+        for location in 0..network.script.locations.len() as u32 {
+            if let Ok(stepped) = Engine::default().step(&network, location, &mut lent) {
+                fired += stepped.labels.len();
+                network = stepped.network;
+            }
+        }
+    }
+    fired
+}
+
+/// The time of one run, by many.
+fn micros(run: impl FnMut() -> usize) -> f64 {
+    let mut run = run;
+    let start = Instant::now();
+    let mut times = 0;
+    let mut seen = 0;
+    while start.elapsed() < LEAST {
+        seen = std::hint::black_box(run());
+        times += 1;
+    }
+    std::hint::black_box(seen);
+    start.elapsed().as_secs_f64() * 1e6 / f64::from(times)
+}
