@@ -6,7 +6,7 @@ use timo_reference::term::Network;
 use timo_reference::writing;
 
 use crate::table;
-use crate::timo::{self, Label, Table};
+use crate::timo::{self, Table};
 
 const BLANK: [u32; 3] = [77; 3];
 const BLANK_BYTE: u8 = b'#';
@@ -92,7 +92,7 @@ impl Pair {
         let ours = self
             .table
             .action(record.kind, record.p as usize, record.q as usize)
-            .map(|label| self.label(label));
+            .map(|label| table::label(self.table.words.as_slice(), label));
         let theirs = self.engine.action(&self.network, record);
         let theirs = theirs.map(|(network, label)| {
             self.network = network;
@@ -172,21 +172,6 @@ impl Pair {
             &text(&ours_lent),
             &text(&theirs_lent),
         )
-    }
-
-    fn label(&self, label: Label) -> String {
-        let words = self.table.words.as_slice();
-        let at = table::location(words, label.at);
-        match label.kind {
-            1 => format!("{}@{at}", table::identifier(words, label.a)),
-            2 => format!("{}@{at}", table::location(words, label.a)),
-            3 => format!(
-                "{}<{}>@{at}",
-                table::channel(words, label.a),
-                table::location(words, label.b)
-            ),
-            kind => format!("kind {kind}"),
-        }
     }
 
     /// Counts the answer; a refusal has left the state as it was, and what an

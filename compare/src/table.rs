@@ -6,7 +6,7 @@ use std::collections::HashMap;
 
 use timo_reference::term::{Component, Network, Part, Process, Script, Timer, Value};
 
-use crate::timo::{Comp, State, Table, UNMARKED, WORDS};
+use crate::timo::{Comp, Label, State, Table, UNMARKED, WORDS};
 
 const INF: u32 = 1_000_001;
 const DEFINITIONS: usize = 8;
@@ -254,6 +254,21 @@ pub fn channel(words: &[u32], c: u32) -> String {
 /// The identifier of a definition by number.
 pub fn identifier(words: &[u32], d: u32) -> String {
     name_at(words, DEFINITIONS + ROW * d as usize + 2)
+}
+
+/// A label in letters.
+pub fn label(words: &[u32], label: Label) -> String {
+    let at = location(words, label.at);
+    match label.kind {
+        1 => format!("{}@{at}", identifier(words, label.a)),
+        2 => format!("{}@{at}", location(words, label.a)),
+        3 => format!(
+            "{}<{}>@{at}",
+            channel(words, label.a),
+            location(words, label.b)
+        ),
+        kind => format!("kind {kind}"),
+    }
 }
 
 /// The components that a valid table stands for.
