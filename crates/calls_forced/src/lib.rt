@@ -5,9 +5,9 @@
 //   ears            the channels that are heard, at all locations in one pass
 //   press           the locations where a component presses, in one pass
 //   forced          the report of a valid table
-pub mod ears;
+mod ears;
 pub mod forced;
-pub mod press;
+mod press;
 
 // The answer: code 0, with bit l of the set for location l, how many there are and the lowest, 64 for none.
 #[repr(C)]

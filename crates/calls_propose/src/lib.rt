@@ -4,9 +4,9 @@
 //   next             question 8 of the location, one action of the list, and the tick
 //   propose          a proposal at a location of a valid table
 //   outward          the call: question 17, and the proposal
-pub mod next;
+mod next;
 pub mod outward;
-pub mod propose;
+mod propose;
 
 // An action: its kind, and the positions of its components. Kinds 1 and 2 have one component, and q is not looked at.
 #[repr(C)]

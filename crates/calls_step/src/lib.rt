@@ -6,7 +6,7 @@
 //   sweep         the actions of a step
 //   step          the step at a location of a valid table
 pub mod step;
-pub mod sweep;
+mod sweep;
 
 use table::Comp;
 use table::State;

@@ -101,7 +101,7 @@ fn pressed_by(w: &[u32; 99592], l: u32, ears: Ears, c: Comp) -> bool
     false
 }
 
-pub fn forced_at(w: &[u32; 99592], st: State, l: u32) -> bool
+pub(crate) fn forced_at(w: &[u32; 99592], st: State, l: u32) -> bool
     requires { ⌜ valid (now w) st ≡ true ⌝ }
     ensures { λ r. ⌜ r ≡ forcedAt (now (w .entry)) l (compsOf st) ⌝ }
 {

@@ -31,7 +31,7 @@ fn timer_in(h: Head) -> u32
 }
 
 // The part at a place as a component of its own.
-pub fn fresh_at(w: &[u32; 99592], l: u32, vals: [u32; 8], place: u32) -> Comp
+pub(crate) fn fresh_at(w: &[u32; 99592], l: u32, vals: [u32; 8], place: u32) -> Comp
     requires { ⌜ place < 4096 ⌝ }
     ensures { λ r. ⌜ r ≡ fresh (now (w .entry)) l vals place ⌝ }
 {
