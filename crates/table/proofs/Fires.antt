@@ -55,7 +55,7 @@ pub names-length : (w : List ℕ) (i : ℕ) → length (namesAt w i) ≡ length 
 unfolding namesAt
 names-length w i = length-map (scopeAt w i) (nameAt w)
 
-getD-map : {A B : Type 0} (f : A → B) (xs : List A) (k : ℕ) (a : A) (b : B) → k < length xs → getD (map f xs) k b ≡ f (getD xs k a)
+pub getD-map : {A B : Type 0} (f : A → B) (xs : List A) (k : ℕ) (a : A) (b : B) → k < length xs → getD (map f xs) k b ≡ f (getD xs k a)
 getD-map f [] k a b h = absurd (omega arith)
 getD-map f (x ∷ xs) zero a b h = refl
 getD-map f (x ∷ xs) (suc k) a b h = getD-map f xs k a b (omega arith)

@@ -358,7 +358,7 @@ fn held_again(w: &[u32; 99592], o: usize, s: usize, n: usize, i: usize) -> bool
 }
 
 // Is each of these names held once?
-fn all_apart(w: &[u32; 99592], o: usize, s: usize, n: usize) -> bool
+pub fn all_apart(w: &[u32; 99592], o: usize, s: usize, n: usize) -> bool
     requires { ⌜ (o ≤ 2000) × (s ≤ 24) × (n ≤ 64) ⌝ }
     ensures { λ r. ⌜ r ≡ distinct (listFrom 0 n (rowName (now (w .entry)) o s)) ⌝ }
 {

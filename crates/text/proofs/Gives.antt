@@ -42,7 +42,7 @@ unfolding split
 some-split l (one a) cs = tt
 some-split l (a ∥ p) cs = tt
 
-some-comps : (ls : List Located) → NonEmpty ls → NonEmpty (flatMap components ls)
+pub some-comps : (ls : List Located) → NonEmpty ls → NonEmpty (flatMap components ls)
 unfolding flatMap components
 some-comps [] s = s
 some-comps (at l p ∷ ls) s = some-split l p (flatMap components ls)
@@ -120,7 +120,7 @@ well-unmarked (comp l (by m) p ∷ cs) w = absurd (w .0)
 pub read-unmarked : (s : List ℕ) (n : Network) → read s ≡ accepted n → every unmarked (n .comps) ≡ true
 read-unmarked s n e = well-unmarked (n .comps) (read-gives s n e .writable .comps-well)
 
-filled : (cs : List Component) → NonEmpty cs → 0 < length cs
+pub filled : (cs : List Component) → NonEmpty cs → 0 < length cs
 filled [] h = absurd h
 filled (c ∷ cs) h = omega arith
 

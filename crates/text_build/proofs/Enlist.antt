@@ -92,7 +92,7 @@ names-same w v o n e =
     (λ j h. rw (e (o + j * 4) (omega arith) (omega arith), e (o + j * 4 + 1) (omega arith) (omega arith), e (o + j * 4 + 2) (omega arith) (omega arith), e (o + j * 4 + 3) (omega arith) (omega arith)))
 
 -- a name just written
-name-written : (w : List ℕ) (o : ℕ) (k : Key) → o + 4 ≤ length w → nameAt (sets w o (keyWords k)) o ≡ keyName k
+pub name-written : (w : List ℕ) (o : ℕ) (k : Key) → o + 4 ≤ length w → nameAt (sets w o (keyWords k)) o ≡ keyName k
 unfolding nameAt
 name-written w o k h =
     let e : o + 0 ≡ o = omega arith in

@@ -51,7 +51,7 @@ here-names (out c t x p q) w v d ys r = rw (append-nil (flatMap locOf (valuesOf 
 here-names (inp c t y p q) w v d ys r = r
 here-names (call x vs) w v d ys r = rw (append-nil (flatMap locOf vs)) r
 
-opened-names : (a : Part) (w : List ℕ) (i d : ℕ) (sc : Scope) (ys : List Name) → Making w → Eight sc → WellPart a → word (opened w i sc a) 4 ≡ 0
+pub opened-names : (a : Part) (w : List ℕ) (i d : ℕ) (sc : Scope) (ys : List Name) → Making w → Eight sc → WellPart a → word (opened w i sc a) 4 ≡ 0
     → Names w (opened w i sc a) (record { depth = d; scope = ys; part = a } ∷ [])
 unfolding opened
 opened-names a w i d sc ys m e f z =
@@ -71,7 +71,7 @@ module _ (w v : List ℕ) (m : Making v) (i : ℕ) (xs : List Place) where
 mutual
   unfolding putPart put size sizeP partPlaces processPlaces
 
-  part-first : (a : Part) (i d : ℕ) (sc : Scope) (w : List ℕ) (ys : List Name) → Making w → Eight sc → Settled i (offsets sc) → WellPart a → size a ≤ suc i → i < 4_096
+  pub part-first : (a : Part) (i d : ℕ) (sc : Scope) (w : List ℕ) (ys : List Name) → Making w → Eight sc → Settled i (offsets sc) → WellPart a → size a ≤ suc i → i < 4_096
       → word (putPart a i sc w) 4 ≡ 0 → Names w (putPart a i sc w) (partPlaces a d ys)
   part-first stop i d sc w ys m e s f n h z = opened-names stop w i d sc ys m e f z
   part-first (go t v p) i d sc w ys m e s f n h z =
@@ -105,7 +105,7 @@ mutual
       let zp = put-back q (secondPlace i p) sc _ zq in
       let o = put-back p (firstPlace i) inner _ zp in
       let g = open-grew (inp c t y p q) w i sc m e f h o .making in
-      let e′ = inner-eight w m i sc e y (f .2) zs in
+      let e′ = inner-eight w i sc y e in
       let l : Settled (firstPlace i) (offsets inner) = rw (inner-offsets w m i sc e y (f .2) zs) (settled-entering w i (offsets sc) y (omega arith) s) in
       let l′ = settled-lower i (secondPlace i p) (offsets sc) (omega arith) s in
       let r = puts p (firstPlace i) (suc d) inner _ g e′ l (f .3) (omega arith) (omega arith) zp in

@@ -58,7 +58,7 @@ grown-then f g = record {
   ids = λ d. g .ids d ∙ f .ids d;
 }
 
-into-longer : (xs : List Name) (x : Name) → length xs ≤ length (into xs x)
+pub into-longer : (xs : List Name) (x : Name) → length xs ≤ length (into xs x)
 into-longer xs x = go (member x xs)
   where
     go : (b : Bool) → length xs ≤ length (cond b xs (xs ++ (x ∷ [])))

@@ -33,7 +33,7 @@ index-at (y ∷ ys) x h = go (sameName y x) refl h (λ k. index-at ys x k)
     go true e k r = name-eq y x e
     go false e k r = r (omega arith)
 
-same-turned : (u v : Name) → sameName u v ≡ sameName v u
+pub same-turned : (u v : Name) → sameName u v ≡ sameName v u
 same-turned u v = go (sameName u v) refl (sameName v u) refl
   where
     go : (a : Bool) → sameName u v ≡ a → (b : Bool) → sameName v u ≡ b → a ≡ b

@@ -17,15 +17,16 @@ use Rattle.terms.specs.Same.{every}
 use Rattle.terms.proofs.Names.{and-inv, and-in}
 use Rattle.text.specs.Tokens.{isSmall}
 use Rattle.text.specs.WellFormed.{WellPart}
-use Rattle.table.specs.Words.{word, field, letters, nameAt, ownAt, boundAt}
+use Rattle.table.specs.Words.{word, field, letters, nameAt, defName, ownAt, boundAt}
+use Rattle.table.specs.Meaning.{listFrom}
 use Rattle.table.specs.Tests.{keyName}
 use Rattle.table.specs.Valid.{index}
 use Rattle.text_build.specs.declared.Scope.{Scope}
 use Rattle.text_build.specs.Keys.{keyOf}
-use Rattle.text_build.specs.Tables.{keyWords}
+use Rattle.text_build.specs.Tables.{keyWords, heldIn}
 use Rattle.text_build.specs.Rows.{Row, locsOf, chansOf, idsOf, scopeNames, timerWord, valueWord, argWord, firstPlace, secondPlace, headOf, chanKnown}
 use Rattle.text_build.specs.Growth.{valueListed, partListed, Grown, Frame, Making}
-use Rattle.text_build.specs.Put.{offsets, slotOf, chanNumber, enterChan, valueNumber, enterValue, argNumbers, enterValues, enterPart, rowWords, rowOf, none₄, first₄}
+use Rattle.text_build.specs.Put.{offsets, slotOf, chanNumber, enterChan, idNumber, valueNumber, enterValue, argNumbers, enterValues, enterPart, rowWords, rowOf, none₄, first₄}
 use Rattle.text_build.proofs.Grows.{Grew, grew-then, chan-known-is}
 use Rattle.text_build.proofs.RowWords.{RowIs, Eight, full, headBy, row-holds, tail₀, tail₁, tail₂, tail₃}
 use Rattle.text_build.proofs.Entering.{Settled, settled-same, small-spelt, id-spelt, ValueIn, value-in, chan-entered, ValuesIn, values-in, value-back, values-back, chan-back, grew-none, listed-on}
@@ -71,6 +72,11 @@ pub slot-is : (w : List ℕ) (sc : Scope) (y : Name) → isSmall y ≡ true → 
 unfolding slotOf
 slot-is w sc y e = ap (index (scopeNames w (offsets sc))) (small-spelt y e)
 
+-- all identifiers are looked through, as there are at most 32
+id-held : (w : List ℕ) → Making w → (d : Name) → idNumber w d ≡ index (idsOf w) (keyName (keyOf d))
+unfolding idNumber idsOf heldIn
+id-held w m d = let h = m .defs in ap (λ n. index (listFrom 0 n (defName w)) (keyName (keyOf d))) (omega arith)
+
 module _ (w : List ℕ) (m : Making w) where
   pub part-in : (a : Part) → WellPart a → word (enterPart w a) 4 ≡ 0 → PartIn w (enterPart w a) a
   unfolding enterPart partListed
@@ -115,17 +121,17 @@ module _ (w : List ℕ) (m : Making w) where
         rw (← j, ← x) (row-holds u i 3 (chanNumber w c) (timerWord t) (slotOf w sc y) (firstPlace i) (secondPlace i p) n l sc _ _ _ _ r m₈ refl)
     part-row (call d vs) e z g f r =
         let x = values-in vs w m (e .1) z in
-        let k : index (idsOf w) (keyName (keyOf d)) ≡ index (idsOf u) d = ap (index (idsOf w)) (id-spelt d (e .0)) ∙ sym (g .ids d ∙ x .grew 0 0 .grown .ids d) in
+        let k : idNumber w d ≡ index (idsOf u) d = id-held w m d ∙ ap (index (idsOf w)) (id-spelt d (e .0)) ∙ sym (g .ids d ∙ x .grew 0 0 .grown .ids d) in
         let y : argNumbers w sc vs ≡ map (valueWord u (scopeNames u (offsets sc))) vs =
         x .numbers i sc s ∙ ap (λ ys. map (valueWord (enterValues w vs) ys) vs) (sym (settled-same _ u low i (offsets sc) f s)) ∙ sym (values-same _ u g _ vs (x .listed)) in
-        rw (← k, ← y) (row-holds u i 4 (index (idsOf w) (keyName (keyOf d))) 0 (min (length vs) 5) 0 0 n l sc _ _ _ _ r m₈ refl)
+        rw (← k, ← y) (row-holds u i 4 (idNumber w d) 0 (min (length vs) 5) 0 0 n l sc _ _ _ _ r m₈ refl)
 
-    -- the name that an input binds
-    pub own-name : (c : Name) (t : Timer) (y : Name) (p q : Process) → WellPart (inp c t y p q)
-        → RowIs u i (finished (rowOf w i sc (inp c t y p q)) (secondPlace i p) n l)
+    -- the name that an input binds, its Q being at j
+    pub own-name : (c : Name) (t : Timer) (y : Name) (p q : Process) (j : ℕ) → WellPart (inp c t y p q)
+        → RowIs u i (finished (rowOf w i sc (inp c t y p q)) j n l)
         → boundAt u i ≡ y
     unfolding rowOf rowWords boundAt nameAt ownAt
-    own-name c t y p q e r =
+    own-name c t y p q j e r =
         let k = keyOf y in
         let q₀ : 1_305 + i * 24 ≡ 1_288 + i * 24 + 17 = omega arith in
         let q₁ : 1_305 + i * 24 + 1 ≡ 1_288 + i * 24 + 18 = omega arith in
@@ -136,9 +142,9 @@ module _ (w : List ℕ) (m : Making w) where
           q₂,
           q₃,
           q₀,
-          tail₀ u i 3 (chanNumber w c) (timerWord t) (slotOf w sc y) (firstPlace i) (secondPlace i p) n l sc (k .a) (k .b) (k .c) (k .d) r m₈,
-          tail₁ u i 3 (chanNumber w c) (timerWord t) (slotOf w sc y) (firstPlace i) (secondPlace i p) n l sc (k .a) (k .b) (k .c) (k .d) r m₈,
-          tail₂ u i 3 (chanNumber w c) (timerWord t) (slotOf w sc y) (firstPlace i) (secondPlace i p) n l sc (k .a) (k .b) (k .c) (k .d) r m₈,
-          tail₃ u i 3 (chanNumber w c) (timerWord t) (slotOf w sc y) (firstPlace i) (secondPlace i p) n l sc (k .a) (k .b) (k .c) (k .d) r m₈,
+          tail₀ u i 3 (chanNumber w c) (timerWord t) (slotOf w sc y) (firstPlace i) j n l sc (k .a) (k .b) (k .c) (k .d) r m₈,
+          tail₁ u i 3 (chanNumber w c) (timerWord t) (slotOf w sc y) (firstPlace i) j n l sc (k .a) (k .b) (k .c) (k .d) r m₈,
+          tail₂ u i 3 (chanNumber w c) (timerWord t) (slotOf w sc y) (firstPlace i) j n l sc (k .a) (k .b) (k .c) (k .d) r m₈,
+          tail₃ u i 3 (chanNumber w c) (timerWord t) (slotOf w sc y) (firstPlace i) j n l sc (k .a) (k .b) (k .c) (k .d) r m₈,
         )
         (small-spelt y (e .2))

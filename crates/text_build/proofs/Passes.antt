@@ -37,7 +37,7 @@ InScript os = every (λ o. ltb o 99_589) os ≡ true
 
 module _ (w : List ℕ) where
   -- ── the first row of a process ──
-  stands-scope : (p : Process) (i : ℕ) (os : List ℕ) → Stands w p i os → scopeAt w i ≡ os
+  pub stands-scope : (p : Process) (i : ℕ) (os : List ℕ) → Stands w p i os → scopeAt w i ≡ os
   stands-scope (one a) i os b = b .0 .scope
   stands-scope (a ∥ p) i os b = b .0 .scope
 

@@ -38,7 +38,7 @@ use Rattle.text_build.proofs.Numbers.{names-entered}
 use Rattle.text_build.proofs.Kept.{entering-same, entered-same, below-kept, kept}
 
 -- ── the mark of a name too many is never taken back ──
-row-flag : (w : List ℕ) (i k : ℕ) (vs : List ℕ) → word (sets w (1_288 + i * 24 + k) vs) 4 ≡ word w 4
+pub row-flag : (w : List ℕ) (i k : ℕ) (vs : List ℕ) → word (sets w (1_288 + i * 24 + k) vs) 4 ≡ word w 4
 row-flag w i k vs = sets-under vs w (1_288 + i * 24 + k) 4 (omega arith)
 
 pub opened-back : (a : Part) (w : List ℕ) (i : ℕ) (sc : Scope) → word (opened w i sc a) 4 ≡ 0 → word (enterPart w a) 4 ≡ 0
@@ -79,6 +79,15 @@ mutual
   put-back (a ∥ p) i sc w e = putPart-back a i sc w (put-back p (i - size a) sc _ (linked-back _ i _ _ e))
 
 -- ── the scope of an input's P ──
+pub inner-eight : (w : List ℕ) (i : ℕ) (sc : Scope) (y : Name) → Eight sc → Eight (innerScope w i sc y)
+unfolding innerScope
+inner-eight w i sc y e = go (ltb (slotOf w sc y) (sc .n)) (ltb (sc .n) 8) refl
+  where
+    go : (a b : Bool) → ltb (sc .n) 8 ≡ b → Eight (cond a sc (cond b (record { n = sc .n + 1; at = set (sc .at) (sc .n) (ownAt i) }) sc))
+    go true b q = e
+    go false true q = record { few = omega (arith, ltb-true (sc .n) 8 q); slots = length-set (sc .at) (sc .n) (ownAt i) ∙ e .slots }
+    go false false q = e
+
 module _ (w : List ℕ) (m : Making w) (i : ℕ) (sc : Scope) (e : Eight sc) (y : Name) (s : isSmall y ≡ true) (z : word (scopeMark w sc y) 4 ≡ 0) where
   full-never : word (set w 4 1) 4 ≡ 0 → ⊥
   full-never q = let l = m .long in let g : word (set w 4 1) 4 ≡ 1 = getD-set-same w 4 1 0 (omega arith) in omega arith
@@ -91,15 +100,6 @@ module _ (w : List ℕ) (m : Making w) (i : ℕ) (sc : Scope) (e : Eight sc) (y 
       go true b q = refl
       go false true q = refl
       go false false q = absurd (full-never q)
-
-  pub inner-eight : Eight (innerScope w i sc y)
-  unfolding innerScope
-  inner-eight = go (ltb (slotOf w sc y) (sc .n)) (ltb (sc .n) 8) refl
-    where
-      go : (a b : Bool) → ltb (sc .n) 8 ≡ b → Eight (cond a sc (cond b (record { n = sc .n + 1; at = set (sc .at) (sc .n) (ownAt i) }) sc))
-      go true b q = e
-      go false true q = record { few = omega (arith, ltb-true (sc .n) 8 q); slots = length-set (sc .at) (sc .n) (ownAt i) ∙ e .slots }
-      go false false q = e
 
   pub inner-offsets : offsets (innerScope w i sc y) ≡ entering w i (offsets sc) y
   unfolding innerScope entering
@@ -132,7 +132,7 @@ settled-entering w i os y h s = go (ltb (index (scopeNames w os) y) (length os))
     go false = each-snoc (Clear (firstPlace i)) os (1_305 + i * 24) (settled-lower i (firstPlace i) os (omega arith) s) (higher (omega arith))
 
 -- ── names that are listed stay listed ──
-every-also : {A : Type 0} (f g : A → Bool) → ((x : A) → f x ≡ true → g x ≡ true) → (xs : List A) → every f xs ≡ true → every g xs ≡ true
+pub every-also : {A : Type 0} (f g : A → Bool) → ((x : A) → f x ≡ true → g x ≡ true) → (xs : List A) → every f xs ≡ true → every g xs ≡ true
 unfolding every
 every-also f g h [] e = refl
 every-also f g h (x ∷ xs) e = let r = and-inv (f x) _ e in and-in _ _ (h x (r .0)) (every-also f g h xs (r .1))
@@ -150,7 +150,7 @@ module _ (w v : List ℕ) (g : Grown w v) where
   unfolding placeListed
   place-on x e = part-on (x .part) e
 
-  fit-on : (p : Process) (d : ℕ) (ys zs : List Name) → zs ≡ ys → Fit (placeListed w) p d ys → Fit (placeListed v) p d zs
+  pub fit-on : (p : Process) (d : ℕ) (ys zs : List Name) → zs ≡ ys → Fit (placeListed w) p d ys → Fit (placeListed v) p d zs
   fit-on p d ys zs q e = rw q (every-also (placeListed w) (placeListed v) place-on (processPlaces p d ys) e)
 
   part-fit-on : (a : Part) (d : ℕ) (ys zs : List Name) → zs ≡ ys → PartFit (placeListed w) a d ys → PartFit (placeListed v) a d zs
@@ -158,28 +158,28 @@ module _ (w v : List ℕ) (g : Grown w v) where
 
 -- ── a test of every place, put together ──
 module _ (f : Place → Bool) (d : ℕ) (ys : List Name) where
-  leaf-fit : (a : Part) → partPlaces a d ys ≡ here f a d ys ∷ [] → f (here f a d ys) ≡ true → PartFit f a d ys
+  pub leaf-fit : (a : Part) → partPlaces a d ys ≡ here f a d ys ∷ [] → f (here f a d ys) ≡ true → PartFit f a d ys
   unfolding every
   leaf-fit a q e = rw q (and-in _ _ e refl)
 
-  go-fit : (t : Timer) (v : Value) (p : Process) → f (here f (go t v p) d ys) ≡ true → Fit f p (suc d) ys → PartFit f (go t v p) d ys
+  pub go-fit : (t : Timer) (v : Value) (p : Process) → f (here f (go t v p) d ys) ≡ true → Fit f p (suc d) ys → PartFit f (go t v p) d ys
   unfolding partPlaces every
   go-fit t v p e h = and-in _ _ e h
 
-  out-fit : (c : Name) (t : Timer) (v : Value) (p q : Process) → f (here f (out c t v p q) d ys) ≡ true → Fit f p (suc d) ys → Fit f q (suc d) ys → PartFit f (out c t v p q) d ys
+  pub out-fit : (c : Name) (t : Timer) (v : Value) (p q : Process) → f (here f (out c t v p q) d ys) ≡ true → Fit f p (suc d) ys → Fit f q (suc d) ys → PartFit f (out c t v p q) d ys
   unfolding partPlaces every
   out-fit c t v p q e h k = and-in _ _ e (every-append f (processPlaces p (suc d) ys) _ h k)
 
-  in-fit : (c : Name) (t : Timer) (y : Name) (p q : Process) → f (here f (inp c t y p q) d ys) ≡ true → Fit f p (suc d) (into ys y) → Fit f q (suc d) ys → PartFit f (inp c t y p q) d ys
+  pub in-fit : (c : Name) (t : Timer) (y : Name) (p q : Process) → f (here f (inp c t y p q) d ys) ≡ true → Fit f p (suc d) (into ys y) → Fit f q (suc d) ys → PartFit f (inp c t y p q) d ys
   unfolding partPlaces every
   in-fit c t y p q e h k = and-in _ _ e (every-append f (processPlaces p (suc d) (into ys y)) _ h k)
 
-  par-fit : (a : Part) (p : Process) → PartFit f a d ys → Fit f p d ys → Fit f (a ∥ p) d ys
+  pub par-fit : (a : Part) (p : Process) → PartFit f a d ys → Fit f p d ys → Fit f (a ∥ p) d ys
   unfolding processPlaces
   par-fit a p h k = every-append f (partPlaces a d ys) _ h k
 
 -- ── a row on its way ──
-unfinished : (a : Part) (w : List ℕ) (i : ℕ) (sc : Scope) → rowOf w i sc a ≡ finished (rowOf w i sc a) 0 0 0
+pub unfinished : (a : Part) (w : List ℕ) (i : ℕ) (sc : Scope) → rowOf w i sc a ≡ finished (rowOf w i sc a) 0 0 0
 unfolding rowOf rowWords
 unfinished stop w i sc = refl
 unfinished (go t v p) w i sc = refl
@@ -230,7 +230,7 @@ module _ (a : Part) (w : List ℕ) (i : ℕ) (sc : Scope) (m : Making w) (e : Ei
   pub open-grew : Grew w (opened w i sc a) i i
   open-grew = grew-then i i (names-in .grew i i) row-step (omega arith) (omega arith) (omega arith) (omega arith)
 
-  open-row : RowIs (opened w i sc a) i (rowOf w i sc a)
+  pub open-row : RowIs (opened w i sc a) i (rowOf w i sc a)
   unfolding opened
   open-row = row-new (enterPart w a) i (rowOf w i sc a) (row-length w i sc a e) (let l = names-in .grew i i .making .long in omega arith)
 
@@ -370,7 +370,7 @@ in-put c t x p q w v u i d sc m e s f n h z r b =
     rw (← with-second a w i sc (secondPlace i p))
     (row-after u i (rowOf w i sc a) 5 (secondPlace i p ∷ []) (row-kept v u _ (secondPlace i p) i (rowOf w i sc a) (b .grew .frame) (omega arith) (row-kept _ v _ (firstPlace i) i (rowOf w i sc a) (r .grew .frame) (omega arith) (open-row a w i sc m e f h z)))
     (row-length w i sc a e) (omega arith) (let lg = b .grew .making .long in omega arith)) in
-    let named = own-name w m _ i 0 0 0 sc e s c t x p q f rows in
+    let named = own-name w m _ i 0 0 0 sc e s c t x p q (secondPlace i p) f rows in
     record {
       below = (
         named,
@@ -465,7 +465,7 @@ mutual
       let zp = put-back q (secondPlace i p) sc _ zq in
       let o = put-back p (firstPlace i) inner _ zp in
       let io = inner-offsets w m i sc e y (f .2) zs in
-      let r = puts p (firstPlace i) (suc d) inner _ (open-grew (inp c t y p q) w i sc m e f h o .making) (inner-eight w m i sc e y (f .2) zs)
+      let r = puts p (firstPlace i) (suc d) inner _ (open-grew (inp c t y p q) w i sc m e f h o .making) (inner-eight w i sc y e)
       (rw io (settled-entering w i (offsets sc) y (omega arith) s)) (f .3) (omega arith) (omega arith) zp in
       rw mk
       (in-put c t y p q w _ _ i d sc m e s f n h o (rw io at r)

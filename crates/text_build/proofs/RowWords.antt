@@ -25,7 +25,8 @@ use Rattle.text_build.proofs.Writes.{sets-under, sets-past, sets-in}
 abbrev pub RowIs : List ℕ → ℕ → List ℕ → Type 0
 RowIs w i r = (k : ℕ) → k < 24 → field w i k ≡ getD r k 0
 
-side : {A : Type 0} (j k : ℕ) → (j < k → A) → (k ≤ j → A) → A
+-- j lies below k or not
+pub side : {A : Type 0} (j k : ℕ) → (j < k → A) → (k ≤ j → A) → A
 side {A = A} j k x y = go (ltb j k) refl
   where
     go : (b : Bool) → ltb j k ≡ b → A

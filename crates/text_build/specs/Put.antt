@@ -13,14 +13,15 @@ use Rattle.terms.specs.Terms.{Timer, Value, Part, Process}
 use Rattle.terms.specs.Terms.Value.{loc, var}
 use Rattle.terms.specs.Terms.Part.{stop, go, out, inp, call}
 use Rattle.terms.specs.Terms.Process.{one, _∥_}
-use Rattle.table.specs.Words.{ownAt}
+use Rattle.table.specs.Words.{defName, ownAt}
+use Rattle.table.specs.Meaning.{listFrom}
 use Rattle.table.specs.Tests.{keyName}
 use Rattle.table.specs.Valid.{index}
 use Rattle.table.proofs.Size.{size, sizeP}
 use Rattle.text_build.specs.declared.Scope.{Scope}
 use Rattle.text_build.specs.Keys.{keyOf}
 use Rattle.text_build.specs.Tables.{keyWords, heldIn, numberIn, enlist}
-use Rattle.text_build.specs.Rows.{idsOf, scopeNames, timerWord, firstPlace, secondPlace}
+use Rattle.text_build.specs.Rows.{scopeNames, timerWord, firstPlace, secondPlace}
 
 -- ── scopes ──
 abbrev pub offsets : Scope → List ℕ
@@ -42,6 +43,10 @@ chanNumber w c = numberIn w 1_032 (heldIn w 2) (keyName (keyOf c))
 
 unfoldable pub enterChan : List ℕ → Name → List ℕ
 enterChan w c = enlist w 1_032 2 (keyOf c)
+
+-- an identifier that is not there gets the number behind the last one
+unfoldable pub idNumber : List ℕ → Name → ℕ
+idNumber w d = index (listFrom 0 (heldIn w 3) (defName w)) (keyName (keyOf d))
 
 unfoldable pub valueNumber : List ℕ → Scope → Value → ℕ
 valueNumber w sc (loc l) = locNumber w l
@@ -83,7 +88,7 @@ rowOf w i sc stop = rowWords 0 0 0 0 0 sc none₄
 rowOf w i sc (go t v p) = rowWords 1 0 (timerWord t) (valueNumber w sc v) (firstPlace i) sc none₄
 rowOf w i sc (out c t v p q) = rowWords 2 (chanNumber w c) (timerWord t) (valueNumber (enterChan w c) sc v) (firstPlace i) sc none₄
 rowOf w i sc (inp c t y p q) = rowWords 3 (chanNumber w c) (timerWord t) (slotOf w sc y) (firstPlace i) sc (keyWords (keyOf y))
-rowOf w i sc (call d vs) = rowWords 4 (index (idsOf w) (keyName (keyOf d))) 0 (min (length vs) 5) 0 sc (first₄ (argNumbers w sc vs))
+rowOf w i sc (call d vs) = rowWords 4 (idNumber w d) 0 (min (length vs) 5) 0 sc (first₄ (argNumbers w sc vs))
 
 -- names, then the row
 unfoldable pub opened : List ℕ → ℕ → Scope → Part → List ℕ

@@ -31,10 +31,12 @@ ghost use mathlib.Core.Path.{_≡_};
 ghost use Prim.Native.Nat.{_+_, _*_, _≤_, _<_, min};
 ghost use lib.ListN.{length, getD};
 ghost use lib.Seq.{sets};
-ghost use Rattle.table.specs.Tests.{keyName};
+ghost use Rattle.table.specs.Meaning.{listFrom};
+ghost use Rattle.table.specs.Valid.{index};
+ghost use Rattle.table.specs.Tests.{keyName, rowName};
 ghost use Rattle.text_build.specs.Keys.{Byte, quadOf, keyOf};
 ghost use Rattle.text_build.specs.Put.{rowWords, setSecond, linked};
-ghost use Rattle.text_build.specs.Tables.{keyWords, heldIn, numberIn, Enlisted};
+ghost use Rattle.text_build.specs.Tables.{keyWords, heldIn, Enlisted};
 
 // ---- names ----
 // The byte at i; 0 past the end.
@@ -91,7 +93,7 @@ fn put_key(w: &mut [u32; 99592], o: usize, k: table::Key)
 }
 
 // How many names a table holds, by the word that counts them: at most 64.
-fn held_in(w: &[u32; 99592], at: usize) -> usize
+pub fn held_in(w: &[u32; 99592], at: usize) -> usize
     requires { ⌜ at < 4 ⌝ }
     ensures { λ r. ⌜ r ≡ heldIn (now (w .entry)) at ⌝ }
 {
@@ -102,14 +104,14 @@ fn held_in(w: &[u32; 99592], at: usize) -> usize
     64
 }
 
-// The number of the name k among the first n from the word o on; n if it is none of them.
-fn find(w: &[u32; 99592], o: usize, n: usize, k: table::Key) -> usize
-    requires { ⌜ (o < 2000) × (n ≤ 64) ⌝ }
-    ensures { λ r. ⌜ r ≡ numberIn (now (w .entry)) o n (keyName k) ⌝ }
+// The number of the name k among the first n from the word o on, d words apart; n if it is none of them.
+pub fn find(w: &[u32; 99592], o: usize, d: usize, n: usize, k: table::Key) -> usize
+    requires { ⌜ (o < 2000) × (d ≤ 24) × (n ≤ 64) ⌝ }
+    ensures { λ r. ⌜ r ≡ index (listFrom 0 n (rowName (now (w .entry)) o d)) (keyName k) ⌝ }
 {
     let mut j = 0;
     while j < n {
-        if table::words::same_key(table::words::key_at(w, o + j * 4), k) {
+        if table::words::is_named(w, o + j * d, k) {
             return j;
         }
         j += 1;
@@ -119,12 +121,12 @@ fn find(w: &[u32; 99592], o: usize, n: usize, k: table::Key) -> usize
 
 // The number of the name k in the table from the word o on, which the word `at` counts; entered behind the last if it is not there.
 // A 65th name is not entered: the word 4 says so (question 4).
-fn number(w: &mut [u32; 99592], o: usize, at: usize, k: table::Key) -> usize
+pub fn number(w: &mut [u32; 99592], o: usize, at: usize, k: table::Key) -> usize
     requires { ⌜ (o < 2000) × (at < 4) ⌝ }
     ensures { λ r. ⌜ Enlisted (now (w .entry)) (now (w .exit)) o at k r ⌝ }
 {
     let n = held_in(w, at);
-    let j = find(w, o, n, k);
+    let j = find(w, o, 4, n, k);
     if j < n {
         return j;
     }

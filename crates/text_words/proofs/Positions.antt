@@ -208,7 +208,7 @@ module _ (p : ℕ → Bool) (w : List ℕ) (i : ℕ) where
   every-end h = rw (drop-of-length-le w h)
 
 -- ── numbers ──
-number-least : (n : ℕ) (w : Name) → n ≤ numberFrom n w
+pub number-least : (n : ℕ) (w : Name) → n ≤ numberFrom n w
 unfolding numberFrom
 number-least n [] = omega arith
 number-least n (b ∷ w) = omega (arith, number-least (10 * n + (b - 48)) w)

@@ -174,14 +174,17 @@ small-first : (w : Name) → isSmall w ≡ true → firstIs isLower w ≡ true
 unfolding isSmall
 small-first w e = name-first isLower w e
 
-location-first : (w : Name) → isLocation w ≡ true → firstIs isCapital w ≡ true
+pub location-first : (w : Name) → isLocation w ≡ true → firstIs isCapital w ≡ true
 unfolding isLocation
 location-first w e = name-first isCapital w e
+
+pub small-not-capital : (w : Name) → isSmall w ≡ true → firstIs isCapital w ≡ false
+small-not-capital w e = first-apart lower-capital w (small-first w e)
 
 module _ (w : Name) where
   -- of a name that begins small
   small-no-location : isSmall w ≡ true → isLocation w ≡ false
-  small-no-location e = no-location w (first-apart lower-capital w (small-first w e))
+  small-no-location e = no-location w (small-not-capital w e)
 
   small-no-timer : isSmall w ≡ true → isTimer w ≡ false
   unfolding isTimer

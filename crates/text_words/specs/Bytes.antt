@@ -3,11 +3,11 @@ use Prim.Native.Nat.{ℕ, _-_, _≤_, _<_}
 use mathlib.Core.Bool.{Bool, true, false, cond}
 use mathlib.Core.List.{List, [], _∷_}
 use mathlib.Core.Path.{_≡_}
-use lib.Dec.{eqb}
+use lib.Dec.{eqb, leb}
 use lib.ListN.{length, take, drop}
 use Rattle.terms.specs.Names.{Name}
 use Rattle.text.specs.Characters.{classOf, isBlank, isAlnum, isDigit}
-use Rattle.text.specs.Tokens.{Token, lex}
+use Rattle.text.specs.Tokens.{Token, lex, number}
 use Rattle.text.specs.Grammar.{Rest, Reader, the}
 use Rattle.text.specs.Grammar.Rest.{ok, bad}
 
@@ -34,6 +34,11 @@ pub record Run (s : List ℕ) (at r : ℕ) : Type 0 where
   pub high : at < r → r ≤ length s
   pub rest : drop r s ≡ afterAlnum (drop at s)
   pub run : take (r - at) (drop at s) ≡ alnumOf (drop at s)
+
+-- r is the word's number, or both are above 1,000,000
+pub record Counted (w : Name) (r : ℕ) : Type 0 where
+  pub small : leb r 1_000_000 ≡ leb (number w) 1_000_000
+  pub exact : number w ≤ 1_000_000 → r ≡ number w
 
 -- read up to the position r, or, if it is 0, not there
 unfoldable pub ended : List ℕ → ℕ → Rest (Unit {0})

@@ -12,14 +12,13 @@
 ghost use mathlib.Core.Bool.{true};
 ghost use mathlib.Core.Path.{_≡_};
 ghost use Prim.Native.Nat.{ℕ, _≤_, _<_, _-_};
-ghost use lib.Dec.{leb};
 ghost use lib.ListN.{length, drop};
 ghost use Rattle.terms.specs.Names.{sameName};
 ghost use Rattle.terms.specs.Same.{every};
 ghost use Rattle.text.specs.Characters.{classOf, isBlank, isAlnum, isDigit, isLower, isCapital};
-ghost use Rattle.text.specs.Tokens.{lex, number, plain, firstIs};
+ghost use Rattle.text.specs.Tokens.{lex, plain, firstIs};
 ghost use Rattle.text.specs.Grammar.{the, named};
-ghost use Rattle.text_words.specs.Bytes.{afterBlanks, Run, IsSign, ended, skim, digitAt};
+ghost use Rattle.text_words.specs.Bytes.{afterBlanks, Run, Counted, IsSign, ended, skim, digitAt};
 ghost use Rattle.text_words.specs.Sorts.{classIs, sortOf, suitsOf, fits};
 
 // ---- bytes ----
@@ -161,7 +160,7 @@ pub fn digit_value(b: u8) -> u32
 
 // The number, or some number above 1,000,000 if it is above.
 pub fn number_of(w: &[u8]) -> u32
-    ensures { λ r. ⌜ leb r 1000000 ≡ leb (number (now (w .entry))) 1000000 ⌝ }
+    ensures { λ r. ⌜ Counted (now (w .entry)) r ⌝ }
 {
     let mut n: u32 = 0;
     let mut i = 0;

@@ -10,7 +10,7 @@
 // network  definitions, components, the whole text
 mod network;
 mod parts;
-mod put;
+pub mod put;
 
 ghost use mathlib.Core.Path.{_≡_};
 ghost use mathlib.Core.Bool.{true};

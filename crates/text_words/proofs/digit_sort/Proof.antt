@@ -24,11 +24,11 @@ number-of-requires c κs = search needs
 
 returns-3 : tie.Need-returns-3
 returns-3 c =
-    digit-ticks _ (c .before .before .before .before .before .before .before .pre) (sym (c .before .before .before .before .before .is-plain .ensures) ∙ not-false _ (c .before .before .before .before .if1 .left)) (sym (c .before .before .before .all-digits .ensures) ∙ not-false _ (c .before .before .if2 .left)) (sym (c .before .number-of .ensures) ∙ le-leb _ _ (c .if3 .taken))
+    digit-ticks _ (c .before .before .before .before .before .before .before .pre) (sym (c .before .before .before .before .before .is-plain .ensures) ∙ not-false _ (c .before .before .before .before .if1 .left)) (sym (c .before .before .before .all-digits .ensures) ∙ not-false _ (c .before .before .if2 .left)) (sym (c .before .number-of .ensures .small) ∙ le-leb _ _ (c .if3 .taken))
 
 returns-4 : tie.Need-returns-4
 returns-4 c =
-    digit-above _ (c .before .before .before .before .before .before .before .pre) (sym (c .before .before .before .before .before .is-plain .ensures) ∙ not-false _ (c .before .before .before .before .if1 .left)) (sym (c .before .before .before .all-digits .ensures) ∙ not-false _ (c .before .before .if2 .left)) (sym (c .before .number-of .ensures) ∙ lt-leb _ _ (c .if3 .left))
+    digit-above _ (c .before .before .before .before .before .before .before .pre) (sym (c .before .before .before .before .before .is-plain .ensures) ∙ not-false _ (c .before .before .before .before .if1 .left)) (sym (c .before .before .before .all-digits .ensures) ∙ not-false _ (c .before .before .if2 .left)) (sym (c .before .number-of .ensures .small) ∙ lt-leb _ _ (c .if3 .left))
 
 pub digit-sort-spec : {M : Type 1} → statement M
 digit-sort-spec =

@@ -1,5 +1,5 @@
 -- `number_of` never wraps, and is above 1,000,000 exactly if the number is.
--- The loop's invariant: the number so far, followed by the bytes from i on, is above 1,000,000 exactly if the word's number is.
+-- The loop's invariant: the number so far, followed by the bytes from i on, is the word's number.
 use Prim.Native.Nat.{ℕ, _+_, _-_, _*_, _≤_, _<_}
 use native.Mathlib.Omega.{arith}
 use mathlib.Core.Path.{_≡_, refl, sym, ap, _∙_}
@@ -7,12 +7,12 @@ use lib.Dec.{leb}
 use lib.ListN.{length, drop}
 use borrow.Author.Needs.{needs}
 use Rattle.text.specs.Tokens.{numberFrom, number}
-use Rattle.text_words.proofs.Positions.{number-over, number-on, number-end}
+use Rattle.text_words.proofs.Positions.{number-least, number-over, number-on, number-end}
 use Rattle.text_words.proofs.number_of.Statement.{statement}
 use Rattle.text_words.proofs.number_of.Tie as tie
 
 abbrev Inv-loop : tie.InvT-loop
-Inv-loop w n₀ i₀ n i = (n ≤ 20_000_000) × (leb (numberFrom n (drop i w)) 1_000_000 ≡ leb (number w) 1_000_000)
+Inv-loop w n₀ i₀ n i = (n ≤ 20_000_000) × (numberFrom n (drop i w) ≡ number w)
 
 abbrev μ-loop : tie.MeasureT-loop
 μ-loop w n₀ i₀ n i = length w - i
@@ -23,7 +23,11 @@ loop-holds c = (omega arith, refl)
 returns : tie.Need-returns Inv-loop μ-loop
 returns c =
     let l = c .before .before .loop in
-    number-over (l .n) _ (c .if1 .taken) ∙ l .inv .1
+    let h = c .if1 .taken in
+    record {
+      small = number-over (l .n) _ h ∙ ap (λ m. leb m 1_000_000) (l .inv .1);
+      exact = λ g. absurd (omega (arith, l .inv .1, number-least (l .n) (drop (l .i) (c .before .before .before .before .args .w .now))));
+    }
 
 mul-n : tie.Need-mul-n Inv-loop μ-loop
 mul-n c = search needs
@@ -47,12 +51,13 @@ loop-again : tie.Need-loop-again Inv-loop μ-loop
 loop-again c =
     let l = c .before .before .before .before .loop in
     let e = c .digit-value .ensures in
-    (omega (arith, c .digit-value .ensures, c .before .shared-slice-known2 .given (l .i)), ap (λ d. leb (numberFrom (10 * l .n + d) (drop (l .i + 1) (c .before .before .before .before .before .before .args .w .now))) 1_000_000) e ∙ ap (λ m. leb m 1_000_000) (number-on (l .n) _ (l .i) (c .before .before .before .loop-test .taken)) ∙ l .inv .1)
+    (omega (arith, c .digit-value .ensures, c .before .shared-slice-known2 .given (l .i)), ap (λ d. numberFrom (10 * l .n + d) (drop (l .i + 1) (c .before .before .before .before .before .before .args .w .now))) e ∙ number-on (l .n) _ (l .i) (c .before .before .before .loop-test .taken) ∙ l .inv .1)
 
 returns-2 : tie.Need-returns-2 Inv-loop μ-loop
 returns-2 c =
     let l = c .before .loop in
-    ap (λ m. leb m 1_000_000) (number-end (l .n) _ (l .i) (c .loop-test .left)) ∙ l .inv .1
+    let e = number-end (l .n) _ (l .i) (c .loop-test .left) ∙ l .inv .1 in
+    record { small = ap (λ m. leb m 1_000_000) e; exact = λ g. e }
 
 pub number-of-spec : {M : Type 1} → statement M
 number-of-spec =

@@ -1,0 +1,100 @@
+-- A line has at most 13,329 bytes, so that it stands whole in a buffer of that many.
+-- A name has at most 16 bytes, a label with its space 52, and a step at most one action for each of its at most 256 components.
+use Prim.Native.Nat.{ℕ, zero, suc, _+_, _*_, _≤_}
+use native.Mathlib.Omega.{arith}
+use mathlib.Core.List.{List, [], _∷_, flatMap}
+use mathlib.Core.Bool.{true}
+use mathlib.Core.Path.{_≡_, ap, sym, subst, _∙_}
+use lib.ListN.{length, take, length-map, length-append, length-take}
+use lib.Seq.{take-at}
+use borrow.Author.Tests.{leb-true}
+use Rattle.terms.specs.Names.{Name, bytes}
+use Rattle.terms.specs.Terms.{Component, Def}
+use Rattle.terms.specs.Rules.{Answer, Action, Acted, at, act}
+use Rattle.terms.specs.Rules.Answer.{refused, accepted}
+use Rattle.terms.specs.Step.{idle, tookPlace, taken, followed, visit, sweep, fires, choice}
+use Rattle.table.specs.declared.State.{State}
+use Rattle.table.specs.Words.{nameAt, locName, chanName, defName, word}
+use Rattle.table.specs.Meaning.{defsOf, means, compsOf, netOf}
+use Rattle.table.specs.Valid.{valid}
+use Rattle.table.specs.Fire.{Tag, ActedAt, labelOf, actOn}
+use Rattle.table.specs.Fire.Tag.{callTag, moveTag, sendTag}
+use Rattle.table.proofs.NamesForm.{short-enough}
+use Rattle.table.proofs.Fires.{mapA, actedOf, act-means}
+use Rattle.calls_act.proofs.Positions.{valid-parts}
+use Rattle.text_write.specs.Put.{Wrote}
+use Rattle.text_write.proofs.Puts.{after-room, over-whole}
+use Rattle.run_line.specs.Line.{labelText, spaced, lineText, stepLabels}
+use Rattle.run_line.specs.Records.{labelBy}
+use Rattle.run_line.proofs.Labels.{step-before}
+use Rattle.run_line.proofs.Lines.{spaced-append}
+
+-- ── names and labels ──
+name-short : (w : List ℕ) (o : ℕ) → length (nameAt w o) ≤ 16
+unfolding nameAt
+name-short w o = leb-true _ 16 (short-enough (record { a = word w o; b = word w (o + 1); c = word w (o + 2); d = word w (o + 3) }))
+
+label-short : (w : List ℕ) (t : Tag) → length (labelText (labelOf w t)) ≤ 51
+unfolding labelText labelOf locName chanName defName
+label-short w (callTag d l) = simp length-append (omega (arith, name-short w (10 + d * 24), name-short w (776 + l * 4)))
+label-short w (moveTag v l) = simp length-append (omega (arith, name-short w (776 + v * 4), name-short w (776 + l * 4)))
+label-short w (sendTag c v l) = simp length-append (omega (arith, name-short w (1_032 + c * 4), name-short w (776 + v * 4), name-short w (776 + l * 4)))
+
+-- ── the actions of a step: at most one at a position ──
+taken-few : (d : List Def) (x : Answer Action) (net : List Component) → length (taken d x net .actions) ≤ 1
+unfolding taken tookPlace idle
+taken-few d (refused n) net = omega arith
+taken-few d (accepted a) net = go (act d a net)
+  where
+    go : (x : Answer Acted) → length (tookPlace a x net .actions) ≤ 1
+    go (refused n) = omega arith
+    go (accepted r) = omega arith
+
+visit-few : (d : List Def) (l : Name) (p : ℕ) (x : Answer Component) (net : List Component) → length (visit d l p x net .actions) ≤ 1
+unfolding visit idle
+visit-few d l p (refused n) net = omega arith
+visit-few d l p (accepted c) net = taken-few d (choice d l p c net) net
+
+sweep-few : (d : List Def) (l : Name) (p n : ℕ) (net : List Component) → length (sweep d l p n net .actions) ≤ n
+unfolding sweep followed idle
+sweep-few d l p zero net = omega arith
+sweep-few d l p (suc n) net = simp length-append (omega (arith, visit-few d l p (at net p) net, sweep-few d l (suc p) n (visit d l p (at net p) net .comps)))
+
+-- document 01, *Step at l*: their number is never above that of the components
+pub fires-few : (d : List Def) (l : Name) (net : List Component) → length (fires d l net .actions) ≤ length net
+unfolding fires
+fires-few d l net = sweep-few d l 0 (length net) net
+
+-- ── the line ──
+module _ (w : List ℕ) (st : State) (v : valid w st ≡ true) where
+  one-short : (a : Action) → length (spaced (labelBy (act (defsOf w) a (netOf w st)))) ≤ 52
+  unfolding netOf spaced actedOf
+  one-short a = subst (λ x. length (spaced (labelBy x)) ≤ 52) (act-means w (valid-parts w st v .0) (compsOf st) (valid-parts w st v .1 .each) a) (go (actOn w a (compsOf st)))
+    where
+      go : (x : Answer ActedAt) → length (spaced (labelBy (mapA (actedOf w) x))) ≤ 52
+      go (refused n) = omega arith
+      go (accepted r) = simp length-append (omega (arith, label-short w (r .tag)))
+
+  all-short : (xs : List Action) → length (spaced (flatMap (λ a. labelBy (act (defsOf w) a (netOf w st))) xs)) ≤ 52 * length xs
+  unfolding flatMap
+  all-short [] = unfold spaced in omega arith
+  all-short (a ∷ xs) = rw spaced-append (simp length-append (omega (arith, one-short a, all-short xs)))
+
+  few : length (netOf w st) ≤ 256
+  unfolding netOf compsOf
+  few = omega (arith, length-map (take (st .n) (st .c)) (means w), length-take (st .n) (st .c), valid-parts w st v .1 .few)
+
+  pub line-short : (l : ℕ) → length (lineText (locName w l) (stepLabels w st l)) ≤ 13_329
+  unfolding lineText locName
+  line-short l =
+      let xs = fires (defsOf w) (locName w l) (netOf w st) .actions in
+      let s : length (spaced (stepLabels w st l)) ≤ 52 * length xs = rw (step-before (defsOf w) (locName w l) (netOf w st) .labels) (all-short xs) in
+      simp length-append (omega (arith, s, name-short w (776 + l * 4), fires-few (defsOf w) (locName w l) (netOf w st), few))
+
+  -- a line put at the start of such a buffer is its first r bytes
+  pub line-stands : (l : ℕ) (d e : List ℕ) (r : ℕ) → Wrote d 0 (lineText (locName w l) (stepLabels w st l)) e r → 13_329 ≤ length d → length d ≤ 9_223_372_036_854_775_808
+      → (r ≤ length d) × (take r e ≡ lineText (locName w l) (stepLabels w st l))
+  line-stands l d e r x h k =
+      let s = lineText (locName w l) (stepLabels w st l) in
+      let n : r ≡ length s = x .place ∙ after-room 0 s (omega (arith, line-short l)) ∙ omega arith in
+      (omega (arith, n, line-short l), ap (take r) (x .bytes ∙ over-whole d s (omega (arith, line-short l)) k) ∙ take-at s _ r (sym n))

@@ -1,0 +1,123 @@
+// Layer 4, the program: the line that is printed for a step.
+//
+//   specs/Line      the bytes of labels and of a line
+//   specs/Records   the records of a step, as the line is made of them
+//   specs/Examples  the lines of document 01's printout, computed
+//   proofs/Labels   an action of a step has the same label in the network before the step
+//   proofs/Lines    the line made of the records is the line of the step
+//   proofs/Fits     a line has at most 13,329 bytes
+ghost use mathlib.Core.Path.{_≡_};
+ghost use mathlib.Core.Bool.{true};
+ghost use mathlib.Core.List.{[], _∷_, _++_, flatMap};
+ghost use Prim.Native.Nat.{_≤_};
+ghost use lib.ListN.{length, take};
+ghost use Rattle.terms.specs.Names.{bytes};
+ghost use Rattle.terms.specs.Same.{every};
+ghost use Rattle.table.specs.Words.{nameAt, locName, chanName};
+ghost use Rattle.table.specs.Valid.{valid};
+ghost use Rattle.table.specs.Fire.{labelOf};
+ghost use Rattle.calls_act.specs.Fired.{tagOf};
+ghost use Rattle.text_write.specs.Put.{Wrote};
+ghost use Rattle.run_line.specs.Line.{labelText, spaced, lineText, stepLabels};
+ghost use Rattle.run_line.specs.Records.{labelIn, mayFire, Holds};
+use calls_act::Label;
+use calls_act::act::act_valid;
+use table::State;
+use table::words::wide;
+use text_write::put::put;
+use text_write::put::put_all;
+use text_write::put::put_name;
+
+// `x@l`, where the name x stands at the word o. The name of the location l stands at 776 + 4l, of the channel c at 1032 + 4c, of the definition d
+// at 10 + 24d.
+fn put_named(w: &[u32; 99592], o: usize, l: u32, buf: &mut [u8], at: usize) -> usize
+    ensures { λ r. ⌜ Wrote (now (buf .entry)) at (nameAt (now (w .entry)) o ++ (bytes "@" ++ locName (now (w .entry)) l)) (now (buf .exit)) r ⌝ }
+{
+    let a = put_name(w, o, buf, at);
+    let b = put(b'@', buf, a);
+    put_name(w, 776 + wide(l) * 4, buf, b)
+}
+
+// `c<v>@l`
+fn put_sent(w: &[u32; 99592], c: u32, v: u32, l: u32, buf: &mut [u8], at: usize) -> usize
+    ensures { λ r. ⌜ Wrote (now (buf .entry)) at (chanName (now (w .entry)) c ++ (bytes "<" ++ (locName (now (w .entry)) v ++ (bytes ">@" ++ locName (now (w .entry)) l)))) (now (buf .exit)) r ⌝ }
+{
+    let a = put_name(w, 1032 + wide(c) * 4, buf, at);
+    let b = put(b'<', buf, a);
+    let d = put_name(w, 776 + wide(v) * 4, buf, b);
+    let e = put_all(b">@", buf, d);
+    put_name(w, 776 + wide(l) * 4, buf, e)
+}
+
+// A label.
+fn put_label(w: &[u32; 99592], x: Label, buf: &mut [u8], at: usize) -> usize
+    ensures { λ r. ⌜ Wrote (now (buf .entry)) at (labelText (labelOf (now (w .entry)) (tagOf x))) (now (buf .exit)) r ⌝ }
+{
+    if x.kind == 1 {
+        return put_named(w, 10 + wide(x.a) * 24, x.at, buf, at);
+    }
+    if x.kind == 2 {
+        return put_named(w, 776 + wide(x.a) * 4, x.at, buf, at);
+    }
+    put_sent(w, x.a, x.b, x.at, buf, at)
+}
+
+// A space, and the label of an action that may fire.
+fn put_action(
+    w: &[u32; 99592],
+    st: State,
+    kind: u32,
+    p: u32,
+    q: u32,
+    buf: &mut [u8],
+    at: usize,
+) -> usize
+    requires { ⌜ (valid (now w) st ≡ true) × (mayFire (now w) st (kind ∷ p ∷ q ∷ []) ≡ true) ⌝ }
+    ensures { λ r. ⌜ Wrote (now (buf .entry)) at (spaced (labelIn (now (w .entry)) st (kind ∷ p ∷ q ∷ []))) (now (buf .exit)) r ⌝ }
+{
+    let r = act_valid(w, st, kind, wide(p), wide(q));
+    let x = r.label;
+    let a = put(b' ', buf, at);
+    put_label(w, x, buf, a)
+}
+
+// The labels of the actions of the first n records, which may all fire.
+fn put_actions(
+    w: &[u32; 99592],
+    st: State,
+    records: &[[u32; 3]],
+    n: usize,
+    buf: &mut [u8],
+    at: usize,
+) -> usize
+    requires { ⌜ (valid (now w) st ≡ true) × (n ≤ length (now records)) × (every (mayFire (now w) st) (take n (now records)) ≡ true) ⌝ }
+    ensures { λ r. ⌜ Wrote (now (buf .entry)) at (spaced (flatMap (labelIn (now (w .entry)) st) (take n (now (records .entry))))) (now (buf .exit)) r ⌝ }
+{
+    let mut a = at;
+    let mut j: usize = 0;
+    while j < n {
+        let e = records[j];
+        a = put_action(w, st, e[0], e[1], e[2], buf, a);
+        j += 1;
+    }
+    a
+}
+
+// The line of the step at the location l of the state st, whose actions are the first n records: from the place at on. Returns the place after it;
+// what lies past the buffer's end is counted and dropped.
+pub fn put_line(
+    w: &[u32; 99592],
+    st: State,
+    l: u32,
+    records: &[[u32; 3]],
+    n: usize,
+    buf: &mut [u8],
+    at: usize,
+) -> usize
+    requires { ⌜ Holds (now w) st l (now records) n ⌝ }
+    ensures { λ r. ⌜ Wrote (now (buf .entry)) at (lineText (locName (now (w .entry)) l) (stepLabels (now (w .entry)) st l)) (now (buf .exit)) r ⌝ }
+{
+    let a = put_name(w, 776 + wide(l) * 4, buf, at);
+    let b = put_actions(w, st, records, n, buf, a);
+    put(b'\n', buf, b)
+}

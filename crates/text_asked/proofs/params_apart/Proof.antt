@@ -1,0 +1,64 @@
+-- The parameters of a definition stand four words apart, at most four of them.
+-- By the number of parameters: four if the script says more.
+use native.Mathlib.Omega.{arith}
+use mathlib.Core.Path.{_≡_, ap, sym, _∙_}
+use borrow.Author.Needs.{needs}
+use Rattle.table.specs.Words.{arityOf}
+use Rattle.table.specs.Valid.{distinct}
+use Rattle.table.proofs.ValidDefs.{params-names}
+use Rattle.text_asked.proofs.Rows.{params-four}
+use Rattle.text_asked.proofs.params_apart.Statement.{statement}
+use Rattle.text_asked.proofs.params_apart.Tie as tie
+
+arity-of-requires : tie.Need-arity-of-requires
+arity-of-requires c κs = search needs
+
+wide-requires : tie.Need-wide-requires
+wide-requires c κs = search needs
+
+mul-all-apart : tie.Need-mul-all-apart
+mul-all-apart c = search needs
+
+add-all-apart : tie.Need-add-all-apart
+add-all-apart c = search needs
+
+all-apart-requires : tie.Need-all-apart-requires
+all-apart-requires c κs = search needs
+
+returns : tie.Need-returns
+returns c =
+    let s = c .before .before .before .before .args in
+    let w = s .w .now in
+    let a : c .before .before .wide .result ≡ arityOf w (s .d) = c .before .before .wide .ensures ∙ c .before .before .before .arity-of .ensures in
+    c .all-apart .ensures ∙ ap distinct (sym (params-four w (s .d) (omega (arith, a, c .before .if1 .taken))))
+
+mul-all-apart-2 : tie.Need-mul-all-apart-2
+mul-all-apart-2 c = search needs
+
+add-all-apart-2 : tie.Need-add-all-apart-2
+add-all-apart-2 c = search needs
+
+all-apart-requires-2 : tie.Need-all-apart-requires-2
+all-apart-requires-2 c κs = search needs
+
+returns-2 : tie.Need-returns-2
+returns-2 c =
+    let s = c .before .before .before .before .args in
+    let w = s .w .now in
+    let a : c .before .before .wide .result ≡ arityOf w (s .d) = c .before .before .wide .ensures ∙ c .before .before .before .arity-of .ensures in
+    c .all-apart2 .ensures ∙ ap distinct (sym (params-names w (s .d) (c .before .before .wide .result) a (omega arith)))
+
+pub params-apart-spec : {M : Type 1} → statement M
+params-apart-spec =
+    tie.close
+    (tie.spec
+    arity-of-requires
+    wide-requires
+    mul-all-apart
+    add-all-apart
+    all-apart-requires
+    returns
+    mul-all-apart-2
+    add-all-apart-2
+    all-apart-requires-2
+    returns-2)

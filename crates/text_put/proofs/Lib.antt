@@ -1,0 +1,4 @@
+pub mod Peeling
+pub mod Arguments
+pub mod Fronts
+pub mod Putting

@@ -1,0 +1,116 @@
+-- Tokens peeled off a text one after the other: a sign that is eaten, a word that is read.
+-- From what the code of words and signs gives, where the next token is known.
+use Prim.Native.Nat.{ℕ, _+_, _-_, _≤_, _<_}
+use native.Mathlib.Omega.{arith}
+use mathlib.Core.Bool.{Bool, true, false, cond, _||_, false≢true}
+use mathlib.Core.List.{List, [], _∷_}
+use mathlib.Core.Path.{_≡_, refl, sym, ap, _∙_}
+use borrow.Author.Tests.{eq-eqb}
+use lib.Dec.{eqb}
+use lib.ListN.{length, take, drop, getD}
+use Rattle.terms.specs.Names.{Name, bytes, sameName}
+use Rattle.terms.specs.Terms.{Timer}
+use Rattle.terms.specs.Terms.Timer.{ticks, inf}
+use Rattle.text.specs.Characters.{Class, within, classOf, isCapital}
+use Rattle.text.specs.Characters.Class.{capital, small, digit, bracket, blank, other}
+use Rattle.text.specs.Tokens.{Token, lex, firstIs, digits, number}
+use Rattle.text.specs.Tokens.Token.{word, sign}
+use Rattle.text.specs.Grammar.{Rest, the, aWord, next}
+use Rattle.text.specs.Grammar.Rest.{ok, bad}
+use Rattle.text.specs.Write.{timerT}
+use Rattle.text.specs.WellFormed.{WellTimer}
+use Rattle.text.proofs.Digits.{digits-number, digits-not-inf}
+use Rattle.text_words.specs.Bytes.{afterBlanks, Run, ended}
+use Rattle.text_words.proofs.Positions.{word-is, word-none}
+use Rattle.text_build.specs.Rows.{timerWord}
+use Rattle.text_parts.proofs.Rests.{clash, next-yes, next-no, ended-is, ended-zero}
+
+-- ── signs ──
+pub the-sign : (c : ℕ) (us : List Token) → the c (sign c ∷ us) ≡ ok tt us
+the-sign c us = rw (eq-eqb c c refl)
+
+module _ (s : List ℕ) (r : ℕ) {us : List Token} (e : ended s r ≡ ok tt us) where
+  pub ended-ok : lex (drop r s) ≡ us
+  unfolding ended
+  ended-ok = go (eqb r 0) e
+    where
+      go : (b : Bool) → cond b bad (ok (tt {0}) (lex (drop r s))) ≡ ok tt us → lex (drop r s) ≡ us
+      go true e = clash e
+      go false e = cc
+
+  pub ended-some : r ≡ 0 → ⊥
+  unfolding ended
+  ended-some z = clash (sym (ended-zero s r z) ∙ e)
+
+module _ (s : List ℕ) (r c : ℕ) {ts us : List Token} (g : ts ≡ sign c ∷ us) (e : ended s r ≡ the c ts) where
+  eaten : ended s r ≡ ok tt us
+  eaten = e ∙ ap (the c) g ∙ the-sign c us
+
+  -- the sign c is eaten
+  pub peel-sign : lex (drop r s) ≡ us
+  peel-sign = ended-ok s r eaten
+
+  pub peel-some : r ≡ 0 → ⊥
+  peel-some = ended-some s r eaten
+
+-- no sign is eaten exactly if another token comes
+module _ (s : List ℕ) (r c : ℕ) (ts : List Token) (e : ended s r ≡ the c ts) where
+  pub other-next : r ≡ 0 → next c ts ≡ false
+  other-next z = next-no c ts (sym e ∙ ended-zero s r z)
+
+  pub sign-next : (r ≡ 0 → ⊥) → next c ts ≡ true
+  sign-next n = next-yes c ts (sym e ∙ ended-is s r n)
+
+-- ── words ──
+module _ (s : List ℕ) (at a e : ℕ) (skipped : drop a s ≡ afterBlanks (drop at s)) (r : Run s a e) (x : Name) (us : List Token) (g : lex (drop at s) ≡ word x ∷ us) where
+  pub peel-name : a < e → take (e - a) (drop a s) ≡ x
+  peel-name h = let k : ok (take (e - a) (drop a s)) (lex (drop e s)) ≡ ok x us = sym (word-is s at a e skipped r h) ∙ ap aWord g in cc
+
+  pub peel-word : a < e → lex (drop e s) ≡ us
+  peel-word h = let k : ok (take (e - a) (drop a s)) (lex (drop e s)) ≡ ok x us = sym (word-is s at a e skipped r h) ∙ ap aWord g in cc
+
+  pub peel-none : {A : Type 0} → e ≤ a → A
+  peel-none h = clash (sym (word-none s at a e skipped r h) ∙ ap aWord g)
+
+-- ── capitals ──
+pub not-capital : (b : ℕ) → within 65 90 b ≡ false → isCapital (classOf b) ≡ false
+unfolding classOf
+not-capital b c = rw c (go (within 97 122 b) (within 48 57 b) (eqb b 40 || (eqb b 41 || (eqb b 91 || eqb b 93))) (eqb b 32 || eqb b 10))
+  where
+    go : (s d x y : Bool) → isCapital (cond s small (cond d digit (cond x bracket (cond y blank other)))) ≡ false
+    go true d x y = refl
+    go false true x y = refl
+    go false false true y = refl
+    go false false false true = refl
+    go false false false false = refl
+
+module _ (p : Class → Bool) where
+  pub first-none : (w : Name) → length w ≡ 0 → false ≡ firstIs p w
+  first-none [] e = refl
+  first-none (b ∷ w) e = absurd (omega arith)
+
+  pub first-of : (w : Name) → (length w ≡ 0 → ⊥) → (r : Bool) → r ≡ p (classOf (getD w 0 0)) → r ≡ firstIs p w
+  first-of [] n r e = absurd (n refl)
+  first-of (b ∷ w) n r e = e
+
+-- ── timers ──
+abbrev pub timerName : Timer → Name
+timerName (ticks n) = digits n
+timerName inf = bytes "inf"
+
+pub timer-word : (t : Timer) (us : List Token) → timerT t us ≡ word (timerName t) ∷ us
+timer-word (ticks n) us = refl
+timer-word inf us = refl
+
+pub timer-inf : (t : Timer) (us : List Token) (w : Name) → WellTimer t → word w ∷ us ≡ timerT t us → sameName w (bytes "inf") ≡ true → 1_000_001 ≡ timerWord t
+unfolding timerWord
+timer-inf (ticks n) us w f g e = let i : w ≡ digits n = cc in absurd (false≢true (sym (digits-not-inf n) ∙ ap (λ x. sameName x (bytes "inf")) (sym i) ∙ e))
+timer-inf inf us w f g e = refl
+
+pub timer-ticks : (t : Timer) (us : List Token) (w : Name) → WellTimer t → word w ∷ us ≡ timerT t us → sameName w (bytes "inf") ≡ false → (r : ℕ) → (number w ≤ 1_000_000 → r ≡ number w) → r ≡ timerWord t
+unfolding timerWord sameName
+timer-ticks (ticks n) us w f g e r k =
+    let i : w ≡ digits n = cc in
+    let j : number w ≡ n = ap number i ∙ digits-number n in
+    k (omega arith) ∙ j
+timer-ticks inf us w f g e r k = let i : w ≡ bytes "inf" = cc in absurd (false≢true (sym e ∙ ap (λ x. sameName x (bytes "inf")) i))

@@ -1,0 +1,101 @@
+-- The second pass of reading over a whole text: document 01, *Reading*. First the heads of all definitions, so that every call finds its definition;
+-- then their bodies, then the located processes, in text order: the first part of the text stands at the highest place.
+use Prim.Native.Nat.{ℕ, zero, suc, _+_, _-_, _*_}
+use mathlib.Core.List.{List, [], _∷_, _++_, map}
+use mathlib.Core.Bool.{Bool, true, false, cond}
+use lib.Dec.{ltb}
+use lib.ListN.{length, set, replicate}
+use lib.Seq.{sets}
+use Rattle.terms.specs.Names.{Name}
+use Rattle.terms.specs.Terms.{Part, Process, Def}
+use Rattle.terms.specs.Terms.Process.{one, _∥_}
+use Rattle.terms.specs.Terms.Def.{define}
+use Rattle.text.specs.Tree.{Located, Tree}
+use Rattle.text.specs.Tree.Located.{at}
+use Rattle.text.specs.Questions.{partCount, definitionCount}
+use Rattle.table.specs.declared.Comp.{Comp}
+use Rattle.table.specs.Words.{field, arityOf, nameAt}
+use Rattle.table.specs.Valid.{index}
+use Rattle.table.proofs.Size.{size, sizeP}
+use Rattle.text_build.specs.declared.Scope.{Scope}
+use Rattle.text_build.specs.Keys.{keyOf}
+use Rattle.text_build.specs.Tables.{keyWords}
+use Rattle.text_build.specs.Rows.{scopeNames}
+use Rattle.text_build.specs.Put.{offsets, locNumber, enterLoc, put}
+
+-- ── heads of definitions: number of parameters, place of the body, identifier, parameters ──
+-- the parameters us of the definition k, from the j-th on
+unfoldable pub putParams : List ℕ → ℕ → ℕ → List Name → List ℕ
+putParams w k j [] = w
+putParams w k j (u ∷ us) = putParams (sets w (14 + k * 24 + j * 4) (keyWords (keyOf u))) k (j + 1) us
+
+unfoldable pub putHead : List ℕ → ℕ → ℕ → Name → List Name → List ℕ
+putHead w k i x us = putParams (sets w (8 + k * 24) (length us ∷ i ∷ keyWords (keyOf x))) k 0 us
+
+-- definitions from number k on, the body of the first at i
+unfoldable pub heads : List Def → ℕ → ℕ → List ℕ → List ℕ
+heads [] k i w = w
+heads (define x us p ∷ ds) k i w = heads ds (k + 1) (i - sizeP p) (putHead w k i x us)
+
+-- ── bodies: the parameters are in scope, each name once ──
+abbrev pub noScope : Scope
+noScope = record { n = 0; at = 0 ∷ 0 ∷ 0 ∷ 0 ∷ 0 ∷ 0 ∷ 0 ∷ 0 ∷ [] }
+
+-- the name that stands at the word o goes behind the names in scope, unless it is among them
+unfoldable pub enterAt : List ℕ → Scope → ℕ → Scope
+enterAt w sc o =
+    cond (ltb (index (scopeNames w (offsets sc)) (nameAt w o)) (sc .n)) sc (record { n = sc .n + 1; at = set (sc .at) (sc .n) o })
+
+-- m parameters of the definition k from the j-th on
+unfoldable pub paramsFrom : List ℕ → ℕ → ℕ → ℕ → Scope → Scope
+paramsFrom w k j zero sc = sc
+paramsFrom w k j (suc m) sc = paramsFrom w k (j + 1) m (enterAt w sc (14 + k * 24 + j * 4))
+
+unfoldable pub paramScope : List ℕ → ℕ → Scope
+paramScope w k = paramsFrom w k 0 (arityOf w k) noScope
+
+unfoldable pub bodies : List Def → ℕ → ℕ → List ℕ → List ℕ
+bodies [] k i w = w
+bodies (define x us p ∷ ds) k i w = bodies ds (k + 1) (i - sizeP p) (put p i (paramScope w k) w)
+
+-- the place behind the bodies
+unfoldable pub afterBodies : List Def → ℕ → ℕ
+afterBodies [] i = i
+afterBodies (define x us p ∷ ds) i = afterBodies ds (i - sizeP p)
+
+-- ── located processes: the location in front of the bracket, then those inside; nothing is in scope ──
+unfoldable pub putLocated : List ℕ → ℕ → Name → Process → List ℕ
+putLocated w i l p = put p i noScope (enterLoc w l)
+
+unfoldable pub brackets : List Located → ℕ → List ℕ → List ℕ
+brackets [] i w = w
+brackets (at l p ∷ ls) i w = brackets ls (i - sizeP p) (putLocated w i l p)
+
+-- where the components stand: for each outermost part the number of its location and its place
+unfoldable pub partSpots : ℕ → Process → ℕ → List (List ℕ)
+partSpots l (one a) i = (l ∷ i ∷ []) ∷ []
+partSpots l (a ∥ p) i = (l ∷ i ∷ []) ∷ partSpots l p (i - size a)
+
+unfoldable pub spots : List Located → ℕ → List ℕ → List (List ℕ)
+spots [] i w = []
+spots (at l p ∷ ls) i w = partSpots (locNumber w l) p i ++ spots ls (i - sizeP p) (putLocated w i l p)
+
+-- ── the whole: how many parts and definitions, then the passes ──
+unfoldable pub started : Tree → List ℕ
+started t = set (set (replicate 99_592 0) 0 (partCount t)) 3 (definitionCount t)
+
+abbrev pub top : Tree → ℕ
+top t = partCount t - 1
+
+-- the script after the heads and bodies of the definitions
+unfoldable pub defined : Tree → List ℕ
+defined t = bodies (t .defs) 0 (top t) (heads (t .defs) 0 (top t) (started t))
+
+abbrev pub behind : Tree → ℕ
+behind t = afterBodies (t .defs) (top t)
+
+unfoldable pub scriptOf : Tree → List ℕ
+scriptOf t = brackets (t .located) (behind t) (defined t)
+
+unfoldable pub spotsOf : Tree → List (List ℕ)
+spotsOf t = spots (t .located) (behind t) (defined t)
