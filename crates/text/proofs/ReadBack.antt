@@ -88,7 +88,7 @@ value-back (var w) ts h = rw (small-not-location w h, h)
 name-back : (p : Name → Bool) (w : Name) (ts : List Token) → Is p w → named p (nameT w ts) ≡ ok w ts
 name-back p w ts h = rw h
 
-the-back : (c : ℕ) (ts : List Token) → the c (sign c ∷ ts) ≡ ok tt ts
+pub the-back : (c : ℕ) (ts : List Token) → the c (sign c ∷ ts) ≡ ok tt ts
 the-back c ts = rw (eqb-same c)
 
 -- ── lists ──
@@ -108,7 +108,7 @@ timer-longer inf ts = omega arith
 pub values : Back WellValue aValue valueT
 values = record { back = value-back; longer = value-longer }
 
-names : (p : Name → Bool) → Back (Is p) (named p) nameT
+pub names : (p : Name → Bool) → Back (Is p) (named p) nameT
 names p = record { back = name-back p; longer = λ a ts. omega arith }
 
 module _ {A : Type 0} {W : A → Type 0} {r : Reader A} {pr : Printer A} (c : ℕ) (b : Back W r pr) where
@@ -126,7 +126,7 @@ module _ {A : Type 0} {W : A → Type 0} {r : Reader A} {pr : Printer A} (c : �
   sepBy-back : (a : A) (xs : List A) (ts : List Token) → next c ts ≡ false → Each W (a ∷ xs) → sepBy c r (joinedT c pr a xs ts) ≡ ok (a ∷ xs) ts
   sepBy-back a xs ts n w = joined-back (length (joinedT c pr a xs ts)) a xs ts (omega (arith, joined-longer a xs ts)) n w
 
-list-back : {A : Type 0} {W : A → Type 0} {r : Reader A} {pr : Printer A} → Back W r pr → (xs : List A) (ts : List Token) → next opens ts ≡ false → Each W xs → listOf r (listT pr xs ts) ≡ ok xs ts
+pub list-back : {A : Type 0} {W : A → Type 0} {r : Reader A} {pr : Printer A} → Back W r pr → (xs : List A) (ts : List Token) → next opens ts ≡ false → Each W xs → listOf r (listT pr xs ts) ≡ ok xs ts
 list-back b [] ts n w = rw n
 list-back {r = r} {pr = pr} b (a ∷ xs) ts n w = rw (sepBy-back comma b a xs (sign closes ∷ ts) refl w)
 

@@ -82,7 +82,7 @@ pub struct Scope {
 
 // ---- tables of names ----
 // Writes a name from the word o on.
-fn put_key(w: &mut [u32; 99592], o: usize, k: table::Key)
+pub fn put_key(w: &mut [u32; 99592], o: usize, k: table::Key)
     requires { ⌜ o < 99589 ⌝ }
     ensures { λ r. ⌜ now (w .exit) ≡ sets (now (w .entry)) o (keyWords k) ⌝ }
 {

@@ -57,7 +57,7 @@ module _ (s : List ℕ) where
           go bad g = clash (sym g)
 
 -- ── questions 1 to 4 from the answer ──
-capped-within : (k n : ℕ) → leb (min n (suc k)) k ≡ leb n k
+pub capped-within : (k n : ℕ) → leb (min n (suc k)) k ≡ leb n k
 capped-within k n = go (leb n k) refl
   where
     go : (y : Bool) → leb n k ≡ y → leb (min n (suc k)) k ≡ y

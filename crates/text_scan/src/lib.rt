@@ -176,7 +176,7 @@ fn network_at(s: &[u8], at: usize) -> Totals
 }
 
 // Does a network come next?
-fn net_next(s: &[u8], at: usize) -> bool
+pub fn net_next(s: &[u8], at: usize) -> bool
     ensures { λ r. ⌜ r ≡ netNext (lex (drop at (now (s .entry)))) ⌝ }
 {
     let a = text_words::skip_blanks(s, at);

@@ -47,7 +47,7 @@ module _ (t : Tree) where
   abbrev empty : List ℕ
   empty = replicate 99_592 0
 
-  started-long : length (started t) ≡ 99_592
+  pub started-long : length (started t) ≡ 99_592
   unfolding started
   started-long = length-set (set empty 0 (partCount t)) 3 (definitionCount t) ∙ length-set empty 0 (partCount t) ∙ length-replicate {A = ℕ} 99_592 0
 

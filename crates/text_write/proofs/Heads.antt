@@ -44,15 +44,15 @@ pub place-small : {w vs : List ℕ} {i : ℕ} → Places w i vs → i < 4_096
 place-small {w} p = omega (arith, p .within, script-fine w (p .good) .parts)
 
 module _ (w : List ℕ) (i : ℕ) (vs : List ℕ) (at : Places w i vs) where
-  fine : PartFine w i
+  pub fine : PartFine w i
   fine = part-fine w (at .good) i (at .within)
 
-  record CallFine (d n a₀ a₁ a₂ a₃ : ℕ) : Type 0 where
-    held : d < defsIn w
-    many : n ≡ arityOf w d
-    each : every (refOk w (namesAt w i)) (take n (a₀ ∷ a₁ ∷ a₂ ∷ a₃ ∷ [])) ≡ true
+  pub record CallFine (d n a₀ a₁ a₂ a₃ : ℕ) : Type 0 where
+    pub held : d < defsIn w
+    pub many : n ≡ arityOf w d
+    pub each : every (refOk w (namesAt w i)) (take n (a₀ ∷ a₁ ∷ a₂ ∷ a₃ ∷ [])) ≡ true
 
-  call-fine : (d n a₀ a₁ a₂ a₃ : ℕ) → headOk w i (Call d n a₀ a₁ a₂ a₃) ≡ true → CallFine d n a₀ a₁ a₂ a₃
+  pub call-fine : (d n a₀ a₁ a₂ a₃ : ℕ) → headOk w i (Call d n a₀ a₁ a₂ a₃) ≡ true → CallFine d n a₀ a₁ a₂ a₃
   unfolding headOk
   call-fine d n a₀ a₁ a₂ a₃ o =
       let r = and-inv (ltb d (defsIn w)) _ o in
@@ -62,7 +62,7 @@ module _ (w : List ℕ) (i : ℕ) (vs : List ℕ) (at : Places w i vs) where
   next-fine : (n : ℕ) → nextAt w i ≡ n → nextOk w i n ≡ true
   next-fine n e = rw e at (fine .next)
 
-  after-fine : (j : ℕ) → nextAt w i ≡ suc j → Inner w i j (scopeAt w i)
+  pub after-fine : (j : ℕ) → nextAt w i ≡ suc j → Inner w i j (scopeAt w i)
   unfolding nextOk
   after-fine j e = inner w i j (scopeAt w i) (next-fine (suc j) e)
 
@@ -99,11 +99,11 @@ module _ (w : List ℕ) (i : ℕ) (vs : List ℕ) (at : Places w i vs) where
       omega (arith, r .many, def-fine w (at .good) d (r .held) .few)
 
   -- ── from the first process on ──
-  inner-seen : (p : ℕ) → Inner w i p (scopeAt w i) → subP (processAt w p) (someAt w i vs) ≡ processSeen w p vs
+  pub inner-seen : (p : ℕ) → Inner w i p (scopeAt w i) → subP (processAt w p) (someAt w i vs) ≡ processSeen w p vs
   unfolding processSeen
   inner-seen p r = ap (subP (processAt w p)) (sym (same-values w i p vs (r .scope)))
 
-  hidden-seen : (k p : ℕ) → index (namesAt w i) (boundAt w i) ≡ k → Inner w i p (entered w i k)
+  pub hidden-seen : (k p : ℕ) → index (namesAt w i) (boundAt w i) ≡ k → Inner w i p (entered w i k)
       → subP (processAt w p) (hide (boundAt w i) (someAt w i vs)) ≡ processSeen w p (set vs k 64)
   unfolding processSeen
   hidden-seen k p e r = ap (subP (processAt w p)) (hidden w i k p vs e (r .scope) (at .slots))
@@ -179,7 +179,7 @@ module _ (w : List ℕ) (i : ℕ) (vs : List ℕ) (at : Places w i vs) where
   own-kind e false false false true = refl
   own-kind e false false false false = refl
 
-  own-timer : (e : Env) → withTimer (ticksOf (field w i 2)) (sub (partAt w i) e) ≡ sub (partAt w i) e
+  pub own-timer : (e : Env) → withTimer (ticksOf (field w i 2)) (sub (partAt w i) e) ≡ sub (partAt w i) e
   unfolding partAt headAt
   own-timer e = own-kind e (eqb (field w i 0) 1) (eqb (field w i 0) 2) (eqb (field w i 0) 3) (eqb (field w i 0) 4)
 

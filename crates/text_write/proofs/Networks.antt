@@ -32,7 +32,7 @@ use Rattle.text_write.proofs.Spelled.{text-spelled, network-spelled}
 
 -- ── definitions ──
 -- no slot holds a value
-none-seen : (w : List ℕ) (i : ℕ) → processSeen w i (replicate 8 64) ≡ processAt w i
+pub none-seen : (w : List ℕ) (i : ℕ) → processSeen w i (replicate 8 64) ≡ processAt w i
 unfolding processSeen
 none-seen w i = ap (subP (processAt w i)) (none-shown w i) ∙ none-inP (processAt w i)
 
@@ -70,7 +70,7 @@ defs-all w = unfold defsOf in ap (λ m. defsText (listFrom 0 m (defOf w))) left
     left = omega arith
 
 -- ── one component ──
-every-less : (m : ℕ) (vs : List ℕ) → m ≤ 64 → every (λ v. ltb v m) vs ≡ true → every (λ v. ltb v 64) vs ≡ true
+pub every-less : (m : ℕ) (vs : List ℕ) → m ≤ 64 → every (λ v. ltb v m) vs ≡ true → every (λ v. ltb v 64) vs ≡ true
 unfolding every
 every-less m [] h e = refl
 every-less m (v ∷ vs) h e = let r = and-inv (ltb v m) _ e in rw (lt-ltb v 64 (omega (arith, ltb-true v m (r .0))), every-less m vs h (r .1))
@@ -116,15 +116,15 @@ mapped f xs n e = sym (length-map xs f) ∙ e
 
 -- ── the components in use, by position ──
 module _ (st : State) (h : st .n ≤ length (st .c)) where
-  comps-length : length (compsOf st) ≡ st .n
+  pub comps-length : length (compsOf st) ≡ st .n
   unfolding compsOf
   comps-length = length-take-le (st .n) (st .c) h
 
-  in-use : (d : Comp) (k : ℕ) → k < st .n → getD (compsOf st) k d ≡ getD (st .c) k d
+  pub in-use : (d : Comp) (k : ℕ) → k < st .n → getD (compsOf st) k d ≡ getD (st .c) k d
   unfolding compsOf
   in-use d k l = getD-take (st .n) (st .c) k d l
 
-  comp-at : (d : Comp) (k : ℕ) → k < st .n → drop k (compsOf st) ≡ getD (st .c) k d ∷ drop (k + 1) (compsOf st)
+  pub comp-at : (d : Comp) (k : ℕ) → k < st .n → drop k (compsOf st) ≡ getD (st .c) k d ∷ drop (k + 1) (compsOf st)
   comp-at d k l = drop-cons (compsOf st) k d (omega (arith, comps-length)) ∙ rw (add-one k, in-use d k l)
 
 -- a test of the components from position k on

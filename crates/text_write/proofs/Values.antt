@@ -141,7 +141,7 @@ scope-field w i k h = unfold scopeAt in getD-take _ _ k 0 few ∙ nth-field w i 
     few = unfold scopeAt in omega (arith, simp length-take at h)
 
 -- a name in scope, by the word that says where it stands
-name-field : (w : List ℕ) (i k : ℕ) → k < length (namesAt w i) → getD (namesAt w i) k [] ≡ nameAt w (field w i (9 + k))
+pub name-field : (w : List ℕ) (i k : ℕ) → k < length (namesAt w i) → getD (namesAt w i) k [] ≡ nameAt w (field w i (9 + k))
 unfolding namesAt
 name-field w i k h =
     let l : k < length (scopeAt w i) = omega (arith, length-map (scopeAt w i) (nameAt w)) in
@@ -155,18 +155,18 @@ module _ (w : List ℕ) (i : ℕ) (vs : List ℕ) (n : length vs ≡ 8) where
   pub location-written : (v : ℕ) → v < 64 → nameAt w (776 + v * 4) ≡ written v
   location-written v h = unfold locName valueOf valueText subV in rw (lt-ltb v 64 h)
 
-  record Slot (v : ℕ) : Type 0 where
-    few : v - 64 < length (namesAt w i)
-    first : index (namesAt w i) (getD (namesAt w i) (v - 64) []) ≡ v - 64
+  pub record Slot (v : ℕ) : Type 0 where
+    pub few : v - 64 < length (namesAt w i)
+    pub first : index (namesAt w i) (getD (namesAt w i) (v - 64) []) ≡ v - 64
 
-  slot : (v : ℕ) → 64 ≤ v → refOk w (namesAt w i) v ≡ true → Slot v
+  pub slot : (v : ℕ) → 64 ≤ v → refOk w (namesAt w i) v ≡ true → Slot v
   unfolding refOk slotOk
   slot v h e =
       let f : slotOk (namesAt w i) (v - 64) ≡ true = rw (le-ltb v 64 h) at e in
       let a = and-inv (ltb (v - 64) (length (namesAt w i))) _ f in
       record { few = ltb-true _ _ (a .0); first = eqb-true _ _ (a .1) }
 
-  slot-held : (v : ℕ) → Slot v → someAt w i vs (getD (namesAt w i) (v - 64) []) ≡ shown w (getD vs (v - 64) 0)
+  pub slot-held : (v : ℕ) → Slot v → someAt w i vs (getD (namesAt w i) (v - 64) []) ≡ shown w (getD vs (v - 64) 0)
   unfolding someAt
   slot-held v s =
       let l : length (namesAt w i) ≤ length (map (shown w) vs) = omega (arith, length-map vs (shown w), names-length w i, scope-length w i) in

@@ -8,6 +8,9 @@ ghost use Rattle.calls_tick.specs.Ticked.{tickAnswer, ticksAs};
 ghost use Rattle.calls_step.specs.Stepped.{stepAnswer, stepsAs};
 ghost use Rattle.calls_propose.specs.Proposed.{proposeAnswer};
 ghost use Rattle.calls_forced.specs.Report.{forcedReport};
+ghost use Rattle.calls_same.specs.Answer.{compared, sameAnswer};
+ghost use Rattle.text.specs.Questions.{read};
+ghost use Rattle.text_read.specs.Answer.{readsAs};
 ghost use Rattle.text_write.specs.Answer.{Answers, writeAnswer};
 use calls::action;
 use calls::forced_report;
@@ -17,12 +20,23 @@ use calls_act::Acted;
 use calls_forced::Report;
 use calls_propose::Record;
 use calls_propose::outward::propose;
+use calls_same::Compared;
+use calls_same::same;
 use calls_step::Stepped;
 use calls_tick::Ticked;
 use table::State;
 use table::valid::is_valid;
+use text_read::Reading;
 use text_write::Written;
 use text_write::write;
+
+// Reading: questions 1 to 7. A refusal leaves the lent script as it was.
+#[no_mangle]
+pub extern "C" fn timo_read(text: &[u8], w: &mut [u32; 99592]) -> Reading
+    ensures { λ r. ⌜ readsAs (read (now (text .entry))) (now (w .entry)) (now (w .exit)) r ⌝ }
+{
+    text_read::read(text, w)
+}
 
 // Question 17: does the table stand for a network?
 #[no_mangle]
@@ -83,4 +97,12 @@ pub extern "C" fn timo_write(w: &[u32; 99592], st: State, buf: &mut [u8]) -> Wri
     ensures { λ r. ⌜ Answers (writeAnswer (now (w .entry)) st (length (now (buf .entry)))) (now (buf .entry)) r (now (buf .exit)) ⌝ }
 {
     write(w, st, buf)
+}
+
+// Comparing: question 17 of both networks.
+#[no_mangle]
+pub extern "C" fn timo_same(w: &[u32; 99592], a: State, v: &[u32; 99592], b: State) -> Compared
+    ensures { λ r. ⌜ r ≡ compared (sameAnswer (now (w .entry)) a (now (v .entry)) b) ⌝ }
+{
+    same(w, a, v, b)
 }

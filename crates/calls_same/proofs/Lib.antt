@@ -1,0 +1,5 @@
+pub mod Decided
+pub mod Fronts
+pub mod Pieces
+pub mod Networks
+pub mod Matched

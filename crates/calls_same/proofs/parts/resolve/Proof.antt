@@ -1,0 +1,51 @@
+-- The location of the slot, or the word itself.
+-- By the tests in their order.
+use native.Mathlib.Omega.{arith}
+use Prim.Native.Nat.{_<_, _≤_, _-_}
+use mathlib.Core.Path.{ap, sym, _∙_}
+use lib.ListN.{getD}
+use borrow.Author.Tests.{lt-ltb, le-ltb}
+use Rattle.calls_same.specs.Pieces.{resolved}
+use borrow.Author.Needs.{needs}
+use Rattle.calls_same.proofs.parts.resolve.Statement.{statement}
+use Rattle.calls_same.proofs.parts.resolve.Tie as tie
+
+returns : tie.Need-returns
+unfolding resolved
+returns c = rw (lt-ltb (c .before .args .a) 64 (c .if1 .taken))
+
+wide-requires : tie.Need-wide-requires
+wide-requires c κs = search needs
+
+returns-2 : tie.Need-returns-2
+unfolding resolved
+returns-2 c =
+    let h : 7 < c .before .before .before .args .a - 64 = omega (arith, c .before .wide .ensures) in
+    rw (le-ltb (c .before .before .before .args .a) 64 (c .before .before .if1 .left), lt-ltb 7 (c .before .before .before .args .a - 64) h)
+
+mul-x : tie.Need-mul-x
+mul-x c = search needs
+
+element-copy-out-x : tie.Need-element-copy-out-x
+element-copy-out-x c = search needs
+
+returns-3 : tie.Need-returns-3
+unfolding resolved
+returns-3 c =
+    let a = c .before .before .before .before .before .args .a in
+    let x = ap (λ n. getD (c .before .before .before .before .before .args .vals .now) n 0) (c .before .before .before .wide .ensures) in
+    let h : a - 64 ≤ 7 = omega (arith, c .before .before .before .wide .ensures, c .before .before .if2 .left) in
+    x ∙ sym (rw (le-ltb a 64 (c .before .before .before .before .if1 .left), le-ltb 7 (a - 64) h, lt-ltb (getD (c .before .before .before .before .before .args .vals .now) (a - 64) 0) 64 (rw x at (c .if3 .taken))))
+
+returns-4 : tie.Need-returns-4
+unfolding resolved
+returns-4 c =
+    let a = c .before .before .before .before .before .args .a in
+    let x = ap (λ n. getD (c .before .before .before .before .before .args .vals .now) n 0) (c .before .before .before .wide .ensures) in
+    let h : a - 64 ≤ 7 = omega (arith, c .before .before .before .wide .ensures, c .before .before .if2 .left) in
+    sym (rw (le-ltb a 64 (c .before .before .before .before .if1 .left), le-ltb 7 (a - 64) h, le-ltb (getD (c .before .before .before .before .before .args .vals .now) (a - 64) 0) 64 (rw x at (c .if3 .left))))
+
+pub resolve-spec : {M : Type 1} → statement M
+resolve-spec =
+    tie.close
+    (tie.spec returns wide-requires returns-2 mul-x element-copy-out-x returns-3 returns-4)

@@ -1,0 +1,47 @@
+-- Each definition of either among those of the other, and the same components.
+-- By the tests in their order.
+use Rattle.table.specs.Meaning.{networkOf}
+use Rattle.table.proofs.ValidBool.{failed, passed}
+use Rattle.terms.specs.Same.{same}
+use Rattle.text_write.proofs.Networks.{valid-script}
+use borrow.Author.Needs.{needs}
+use Rattle.calls_same.proofs.same_networks.Statement.{statement}
+use Rattle.calls_same.proofs.same_networks.Tie as tie
+
+defs-within-requires : tie.Need-defs-within-requires
+defs-within-requires c κs =
+    let k = c .args in
+    (valid-script (k .w .now) (k .a) (c .pre .0), valid-script (k .v .now) (k .b) (c .pre .1))
+
+returns : tie.Need-returns
+unfolding same networkOf
+returns c = rw (failed (c .if1 .taken) (c .before .defs-within .ensures))
+
+defs-within-requires-2 : tie.Need-defs-within-requires-2
+defs-within-requires-2 c κs =
+    let k = c .before .before .args in
+    let p = valid-script (k .w .now) (k .a) (c .before .before .pre .0) in
+    let q = valid-script (k .v .now) (k .b) (c .before .before .pre .1) in
+    search needs
+
+returns-2 : tie.Need-returns-2
+unfolding same networkOf
+returns-2 c = rw (passed (c .before .before .if1 .left) (c .before .before .before .defs-within .ensures), failed (c .if2 .taken) (c .before .defs-within2 .ensures))
+
+same-comps-requires : tie.Need-same-comps-requires
+same-comps-requires c κs = c .before .before .before .before .pre
+
+returns-3 : tie.Need-returns-3
+unfolding same networkOf
+returns-3 c = rw (passed (c .before .before .before .if1 .left) (c .before .before .before .before .defs-within .ensures), passed (c .before .if2 .left) (c .before .before .defs-within2 .ensures)) (c .same-comps .ensures)
+
+pub same-networks-spec : {M : Type 1} → statement M
+same-networks-spec =
+    tie.close
+    (tie.spec
+    defs-within-requires
+    returns
+    defs-within-requires-2
+    returns-2
+    same-comps-requires
+    returns-3)

@@ -1,0 +1,4 @@
+pub mod Decides
+pub mod Pieces
+pub mod Unused
+pub mod Answer

@@ -1,0 +1,10 @@
+-- The components of the second network that no component of the first has been matched with.
+use mathlib.Core.List.{List, [], _∷_}
+use mathlib.Core.Bool.{Bool, true, false}
+
+-- what is not marked as used; what is past the marks is used
+unfoldable pub unused : {A : Type 0} → List Bool → List A → List A
+unused [] cs = []
+unused (u ∷ us) [] = []
+unused (true ∷ us) (c ∷ cs) = unused us cs
+unused (false ∷ us) (c ∷ cs) = c ∷ unused us cs

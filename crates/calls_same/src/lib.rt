@@ -1,0 +1,65 @@
+// Layer 3, the call `same`: are two networks in their table form the same?
+//
+// specs/Answer   what the call answers
+// specs/Decides  an answer whether two things are one
+// specs/Pieces   the pieces in which parts are compared
+// specs/Unused   the components not yet matched
+//
+// parts    names, timers, values, parts and processes
+// network  components, definitions
+mod network;
+mod parts;
+
+ghost use mathlib.Core.Path.{_≡_};
+ghost use mathlib.Core.Bool.{true};
+ghost use Rattle.terms.specs.Same.{same};
+ghost use Rattle.table.specs.Meaning.{networkOf};
+ghost use Rattle.table.specs.Valid.{valid};
+ghost use Rattle.calls_same.specs.Answer.{sameAnswer, compared};
+use network::defs_within;
+use network::same_comps;
+use table::State;
+use table::valid::is_valid;
+
+// What the call returns: 0 or the number of the question answered by no, and whether the networks are the same.
+#[repr(C)]
+pub struct Compared {
+    pub code: u32,
+    pub yes: bool,
+}
+
+// The call `same`, on the networks of two scripts or of one script twice: 17 of both, then the comparison.
+pub fn same(w: &[u32; 99592], a: State, v: &[u32; 99592], b: State) -> Compared
+    ensures { λ r. ⌜ r ≡ compared (sameAnswer (now (w .entry)) a (now (v .entry)) b) ⌝ }
+{
+    if !is_valid(w, a) {
+        return Compared {
+            code: 17,
+            yes: false,
+        };
+    }
+    if !is_valid(v, b) {
+        return Compared {
+            code: 17,
+            yes: false,
+        };
+    }
+    Compared {
+        code: 0,
+        yes: same_networks(w, a, v, b),
+    }
+}
+
+// Two networks that pass question 17: the same definitions as a set, and the same components in any order, each as often.
+fn same_networks(w: &[u32; 99592], a: State, v: &[u32; 99592], b: State) -> bool
+    requires { ⌜ (valid (now w) a ≡ true) × (valid (now v) b ≡ true) ⌝ }
+    ensures { λ r. ⌜ r ≡ same (networkOf (now (w .entry)) a) (networkOf (now (v .entry)) b) ⌝ }
+{
+    if !defs_within(w, v) {
+        return false;
+    }
+    if !defs_within(v, w) {
+        return false;
+    }
+    same_comps(w, a, v, b)
+}

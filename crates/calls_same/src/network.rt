@@ -1,0 +1,151 @@
+// Components and definitions of two tables.
+ghost use mathlib.Core.Path.{_≡_};
+ghost use mathlib.Core.Bool.{true};
+ghost use Prim.Native.Nat.{_<_};
+ghost use Rattle.terms.specs.Rules.{some};
+ghost use Rattle.terms.specs.Same.{equal, sameDef, within, reordered};
+ghost use Rattle.table.specs.Words.{defsIn, paramsOf};
+ghost use Rattle.table.specs.Meaning.{means, netOf, defOf, defsOf};
+ghost use Rattle.table.specs.Valid.{scriptOk, compOk, valid};
+ghost use Rattle.calls_same.specs.Decides.{Decides};
+ghost use Rattle.calls_same.specs.Pieces.{parted};
+use super::parts::same_name;
+use super::parts::same_part;
+use super::parts::same_process;
+use table::Comp;
+use table::State;
+use table::words::arity_of;
+use table::words::body_of;
+use table::words::wide;
+use table::words::word;
+
+// ── components ──
+// The owners or their absence, and the processes.
+fn same_held(w: &[u32; 99592], c: Comp, v: &[u32; 99592], d: Comp) -> bool
+    requires { ⌜ (scriptOk (now w) ≡ true) × (compOk (now w) c ≡ true) × (scriptOk (now v) ≡ true) × (compOk (now v) d ≡ true) ⌝ }
+    ensures { λ r. ⌜ Decides r (parted (now (w .entry)) c) (parted (now (v .entry)) d) ⌝ }
+{
+    let x = c.vals;
+    let y = d.vals;
+    if c.mark < 64 {
+        if 64 <= d.mark {
+            return false;
+        }
+        if !same_name(w, 776 + wide(c.mark) * 4, v, 776 + wide(d.mark) * 4) {
+            return false;
+        }
+        return same_process(w, wide(c.place), &x, v, wide(d.place), &y);
+    }
+    if d.mark < 64 {
+        return false;
+    }
+    same_part(w, wide(c.place), c.timer, &x, v, wide(d.place), d.timer, &y)
+}
+
+// The components c and d: location, owner, parts.
+fn same_comp(w: &[u32; 99592], c: Comp, v: &[u32; 99592], d: Comp) -> bool
+    requires { ⌜ (scriptOk (now w) ≡ true) × (compOk (now w) c ≡ true) × (scriptOk (now v) ≡ true) × (compOk (now v) d ≡ true) ⌝ }
+    ensures { λ r. ⌜ r ≡ equal (means (now (w .entry)) c) (means (now (v .entry)) d) ⌝ }
+{
+    if !same_name(w, 776 + wide(c.loc) * 4, v, 776 + wide(d.loc) * 4) {
+        return false;
+    }
+    same_held(w, c, v, d)
+}
+
+// The same components in any order, each as often: each of the first in order uses up the first equal one of the second.
+pub fn same_comps(w: &[u32; 99592], a: State, v: &[u32; 99592], b: State) -> bool
+    requires { ⌜ (valid (now w) a ≡ true) × (valid (now v) b ≡ true) ⌝ }
+    ensures { λ r. ⌜ r ≡ reordered (netOf (now (w .entry)) a) (netOf (now (v .entry)) b) ⌝ }
+{
+    let n = a.n;
+    if n != b.n {
+        return false;
+    }
+    let mut used = [false; 256];
+    let mut k = 0;
+    'each: while k < n {
+        let c = a.c[k];
+        let mut p = 0;
+        while p < n {
+            if !used[p] {
+                let d = b.c[p];
+                if same_comp(w, c, v, d) {
+                    used[p] = true;
+                    k += 1;
+                    continue 'each;
+                }
+            }
+            p += 1;
+        }
+        return false;
+    }
+    true
+}
+
+// ── definitions ──
+// The first n parameters of the definitions d and e.
+fn same_params(w: &[u32; 99592], d: usize, v: &[u32; 99592], e: usize) -> bool
+    requires { ⌜ (scriptOk (now w) ≡ true) × (d < defsIn (now w)) × (scriptOk (now v) ≡ true) × (e < defsIn (now v)) ⌝ }
+    ensures { λ r. ⌜ Decides r (paramsOf (now (w .entry)) d) (paramsOf (now (v .entry)) e) ⌝ }
+{
+    let n = wide(arity_of(w, d));
+    if n != wide(arity_of(v, e)) {
+        return false;
+    }
+    let mut k = 0;
+    while k < n {
+        if !same_name(w, 14 + d * 24 + k * 4, v, 14 + e * 24 + k * 4) {
+            return false;
+        }
+        k += 1;
+    }
+    true
+}
+
+// The definitions d and e: identifier, parameters, body.
+fn same_def(w: &[u32; 99592], d: usize, v: &[u32; 99592], e: usize) -> bool
+    requires { ⌜ (scriptOk (now w) ≡ true) × (d < defsIn (now w)) × (scriptOk (now v) ≡ true) × (e < defsIn (now v)) ⌝ }
+    ensures { λ r. ⌜ r ≡ sameDef (defOf (now (w .entry)) d) (defOf (now (v .entry)) e) ⌝ }
+{
+    if !same_name(w, 10 + d * 24, v, 10 + e * 24) {
+        return false;
+    }
+    if !same_params(w, d, v, e) {
+        return false;
+    }
+    let none = [64u32; 8];
+    same_process(w, wide(body_of(w, d)), &none, v, wide(body_of(v, e)), &none)
+}
+
+// Is the definition d of w among those of v?
+fn def_among(w: &[u32; 99592], d: usize, v: &[u32; 99592]) -> bool
+    requires { ⌜ (scriptOk (now w) ≡ true) × (d < defsIn (now w)) × (scriptOk (now v) ≡ true) ⌝ }
+    ensures { λ r. ⌜ r ≡ some (sameDef (defOf (now (w .entry)) d)) (defsOf (now (v .entry))) ⌝ }
+{
+    let n = wide(word(v, 3));
+    let mut e = 0;
+    while e < n {
+        if same_def(w, d, v, e) {
+            return true;
+        }
+        e += 1;
+    }
+    false
+}
+
+// Is each definition of w among those of v?
+pub fn defs_within(w: &[u32; 99592], v: &[u32; 99592]) -> bool
+    requires { ⌜ (scriptOk (now w) ≡ true) × (scriptOk (now v) ≡ true) ⌝ }
+    ensures { λ r. ⌜ r ≡ within (defsOf (now (w .entry))) (defsOf (now (v .entry))) ⌝ }
+{
+    let n = wide(word(w, 3));
+    let mut d = 0;
+    while d < n {
+        if !def_among(w, d, v) {
+            return false;
+        }
+        d += 1;
+    }
+    true
+}

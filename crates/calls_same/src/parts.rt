@@ -1,0 +1,338 @@
+// Names, timers, values, parts and processes of two tables. A part is compared up to its inner processes first; these and their parts are
+// compared in turn, with the place in the first table as the falling number. Nothing in a table is shared, so the time is linear.
+// The name of location l stands at word 776 + 4l, of channel c at 1032 + 4c, of definition d at 10 + 24d, and what the input at i binds
+// at 1305 + 24i. Values are eight numbers: below 64 the location that a slot holds, else the slot stands for its own name.
+ghost use mathlib.Core.Path.{_≡_};
+ghost use mathlib.Core.Bool.{true};
+ghost use Prim.Native.Nat.{_≤_, _<_};
+ghost use lib.ListN.{length, set};
+ghost use Rattle.terms.specs.Clock.{ticksOf};
+ghost use Rattle.table.specs.Words.{nameAt, chanName, namesAt, field};
+ghost use Rattle.table.specs.Valid.{refOk};
+ghost use Rattle.text_write.specs.Values.{Places, valueSeen, partSeen, processSeen};
+ghost use Rattle.calls_same.specs.Decides.{Decides};
+ghost use Rattle.calls_same.specs.Pieces.{opening, kindAt, resolved, named, ValueOk, ArgsOk, argsSeen, callSeen, goSeen, innerSeen};
+use table::words::field;
+use table::words::is_named;
+use table::words::key_at;
+use table::words::next_at;
+use table::words::wide;
+use table::words::word;
+
+// ── names, timers, values ──
+// Are the name at o in w and the name at p in v one?
+pub fn same_name(w: &[u32; 99592], o: usize, v: &[u32; 99592], p: usize) -> bool
+    ensures { λ r. ⌜ Decides r (nameAt (now (w .entry)) o) (nameAt (now (v .entry)) p) ⌝ }
+{
+    let x = key_at(w, o);
+    is_named(v, p, x)
+}
+
+// Every number above 1,000,000 is inf.
+fn same_timer(t: u32, u: u32) -> bool
+    ensures { λ r. ⌜ Decides r (ticksOf t) (ticksOf u) ⌝ }
+{
+    if 1000000 < t {
+        return 1000000 < u;
+    }
+    t == u
+}
+
+// The location that a value's slot holds, or the value's own word where it holds none.
+fn resolve(vals: &[u32; 8], a: u32) -> u32
+    requires { ⌜ length (now vals) ≡ 8 ⌝ }
+    ensures { λ r. ⌜ r ≡ resolved (now (vals .entry)) a ⌝ }
+{
+    if a < 64 {
+        return a;
+    }
+    let k = wide(a - 64);
+    if 7 < k {
+        return a;
+    }
+    let x = vals[k];
+    if x < 64 {
+        return x;
+    }
+    a
+}
+
+// Two resolved words at the parts i and j.
+fn same_named(w: &[u32; 99592], i: usize, a: u32, v: &[u32; 99592], j: usize, b: u32) -> bool
+    requires { ⌜ (i < 4096) × (j < 4096) ⌝ }
+    ensures { λ r. ⌜ Decides r (named (now (w .entry)) i a) (named (now (v .entry)) j b) ⌝ }
+{
+    let m = wide(a);
+    let n = wide(b);
+    if m < 64 {
+        if 64 <= n {
+            return false;
+        }
+        return same_name(w, 776 + m * 4, v, 776 + n * 4);
+    }
+    if n < 64 {
+        return false;
+    }
+    let o = wide(word(w, 1288 + i * 24 + (9 + (m - 64))));
+    let p = wide(word(v, 1288 + j * 24 + (9 + (n - 64))));
+    same_name(w, o, v, p)
+}
+
+// Two values at the parts i and j.
+fn same_value(
+    w: &[u32; 99592],
+    i: usize,
+    vals: &[u32; 8],
+    a: u32,
+    v: &[u32; 99592],
+    j: usize,
+    vals2: &[u32; 8],
+    b: u32,
+) -> bool
+    requires { ⌜ Places (now w) i (now vals) × Places (now v) j (now vals2) ⌝ }
+    requires { ⌜ (refOk (now w) (namesAt (now w) i) a ≡ true) × (refOk (now v) (namesAt (now v) j) b ≡ true) ⌝ }
+    ensures { λ r. ⌜ Decides r (valueSeen (now (w .entry)) i (now (vals .entry)) a) (valueSeen (now (v .entry)) j (now (vals2 .entry)) b) ⌝ }
+{
+    let x = resolve(vals, a);
+    let y = resolve(vals2, b);
+    same_named(w, i, x, v, j, y)
+}
+
+// ── parts up to their inner processes ──
+// The first n arguments of the calls at i and j.
+fn same_args(
+    w: &[u32; 99592],
+    i: usize,
+    vals: &[u32; 8],
+    v: &[u32; 99592],
+    j: usize,
+    vals2: &[u32; 8],
+    n: usize,
+) -> bool
+    requires { ⌜ Places (now w) i (now vals) × Places (now v) j (now vals2) ⌝ }
+    requires { ⌜ (n ≤ 4) × ArgsOk (now w) i n × ArgsOk (now v) j n ⌝ }
+    ensures { λ r. ⌜ Decides r (argsSeen (now (w .entry)) i (now (vals .entry)) n) (argsSeen (now (v .entry)) j (now (vals2 .entry)) n) ⌝ }
+{
+    let mut k = 0;
+    while k < n {
+        if !same_value(
+            w,
+            i,
+            vals,
+            field(w, i, 17 + k),
+            v,
+            j,
+            vals2,
+            field(v, j, 17 + k),
+        ) {
+            return false;
+        }
+        k += 1;
+    }
+    true
+}
+
+// The calls at i and j.
+fn same_call(
+    w: &[u32; 99592],
+    i: usize,
+    vals: &[u32; 8],
+    v: &[u32; 99592],
+    j: usize,
+    vals2: &[u32; 8],
+) -> bool
+    requires { ⌜ Places (now w) i (now vals) × Places (now v) j (now vals2) ⌝ }
+    requires { ⌜ (kindAt (now w) i ≡ 4) × (kindAt (now v) j ≡ 4) ⌝ }
+    ensures { λ r. ⌜ Decides r (callSeen (now (w .entry)) i (now (vals .entry))) (callSeen (now (v .entry)) j (now (vals2 .entry))) ⌝ }
+{
+    let n = field(w, i, 3);
+    if n != field(v, j, 3) {
+        return false;
+    }
+    let o = 10 + wide(field(w, i, 1)) * 24;
+    let p = 10 + wide(field(v, j, 1)) * 24;
+    if !same_name(w, o, v, p) {
+        return false;
+    }
+    same_args(w, i, vals, v, j, vals2, wide(n))
+}
+
+// The channels of the parts at i and j.
+fn same_channel(w: &[u32; 99592], i: usize, v: &[u32; 99592], j: usize) -> bool
+    requires { ⌜ (i < 4096) × (j < 4096) ⌝ }
+    ensures { λ r. ⌜ Decides r (chanName (now (w .entry)) (field (now (w .entry)) i 1)) (chanName (now (v .entry)) (field (now (v .entry)) j 1)) ⌝ }
+{
+    let o = 1032 + wide(field(w, i, 1)) * 4;
+    let p = 1032 + wide(field(v, j, 1)) * 4;
+    same_name(w, o, v, p)
+}
+
+// The timers t and u, and the values of the parts at i and j.
+fn same_timed(
+    w: &[u32; 99592],
+    i: usize,
+    t: u32,
+    vals: &[u32; 8],
+    v: &[u32; 99592],
+    j: usize,
+    u: u32,
+    vals2: &[u32; 8],
+) -> bool
+    requires { ⌜ Places (now w) i (now vals) × Places (now v) j (now vals2) ⌝ }
+    requires { ⌜ ValueOk (now w) i × ValueOk (now v) j ⌝ }
+    ensures { λ r. ⌜ Decides r (goSeen (now (w .entry)) i t (now (vals .entry))) (goSeen (now (v .entry)) j u (now (vals2 .entry))) ⌝ }
+{
+    if !same_timer(t, u) {
+        return false;
+    }
+    same_value(w, i, vals, field(w, i, 3), v, j, vals2, field(v, j, 3))
+}
+
+// The parts at i and j with the timers t and u, up to their inner processes.
+fn same_open(
+    w: &[u32; 99592],
+    i: usize,
+    t: u32,
+    vals: &[u32; 8],
+    v: &[u32; 99592],
+    j: usize,
+    u: u32,
+    vals2: &[u32; 8],
+) -> bool
+    requires { ⌜ Places (now w) i (now vals) × Places (now v) j (now vals2) ⌝ }
+    ensures { λ r. ⌜ Decides r (opening (partSeen (now (w .entry)) i t (now (vals .entry)))) (opening (partSeen (now (v .entry)) j u (now (vals2 .entry)))) ⌝ }
+{
+    let k = field(w, i, 0);
+    if k != field(v, j, 0) {
+        return false;
+    }
+    match k {
+        1 => same_timed(w, i, t, vals, v, j, u, vals2),
+        2 => {
+            if !same_timed(w, i, t, vals, v, j, u, vals2) {
+                return false;
+            }
+            same_channel(w, i, v, j)
+        }
+        3 => {
+            if !same_timer(t, u) {
+                return false;
+            }
+            if !same_channel(w, i, v, j) {
+                return false;
+            }
+            same_name(w, 1305 + i * 24, v, 1305 + j * 24)
+        }
+        4 => same_call(w, i, vals, v, j, vals2),
+        _ => true,
+    }
+}
+
+// ── parts and processes ──
+// Field k of the part at i, as a place or a slot.
+fn link(w: &[u32; 99592], i: usize, k: usize) -> usize
+    requires { ⌜ (i < 4096) × (k < 24) ⌝ }
+    ensures { λ r. ⌜ r ≡ field (now (w .entry)) i k ⌝ }
+{
+    wide(field(w, i, k))
+}
+
+// The values in the P of the input at i: the slot of its name holds none. In place, so that the recursion keeps no second copy.
+fn hide(w: &[u32; 99592], i: usize, vals: &mut [u32; 8])
+    requires { ⌜ (i < 4096) × (length (now vals) ≡ 8) ⌝ }
+    ensures { λ _. ⌜ now (vals .exit) ≡ set (now (vals .entry)) (field (now (w .entry)) i 3) 64 ⌝ }
+{
+    let k = link(w, i, 3);
+    if k < 8 {
+        vals[k] = 64;
+    }
+}
+
+// The inner processes of the parts at i and j, which are of one kind.
+fn same_inner(
+    w: &[u32; 99592],
+    i: usize,
+    vals: &[u32; 8],
+    v: &[u32; 99592],
+    j: usize,
+    vals2: &[u32; 8],
+) -> bool
+    requires { ⌜ Places (now w) i (now vals) × Places (now v) j (now vals2) × (kindAt (now w) i ≡ kindAt (now v) j) ⌝ }
+    ensures { λ r. ⌜ Decides r (innerSeen (now (w .entry)) i (now (vals .entry))) (innerSeen (now (v .entry)) j (now (vals2 .entry))) ⌝ }
+{
+    let k = field(w, i, 0);
+    match k {
+        1 => same_process(w, link(w, i, 4), vals, v, link(v, j, 4), vals2),
+        2 => {
+            if !same_process(w, link(w, i, 4), vals, v, link(v, j, 4), vals2) {
+                return false;
+            }
+            same_process(w, link(w, i, 5), vals, v, link(v, j, 5), vals2)
+        }
+        3 => {
+            let mut a = *vals;
+            let mut b = *vals2;
+            hide(w, i, &mut a);
+            hide(v, j, &mut b);
+            if !same_process(w, link(w, i, 4), &a, v, link(v, j, 4), &b) {
+                return false;
+            }
+            same_process(w, link(w, i, 5), vals, v, link(v, j, 5), vals2)
+        }
+        _ => true,
+    }
+}
+
+// The processes at i and j, part by part.
+pub fn same_process(
+    w: &[u32; 99592],
+    i: usize,
+    vals: &[u32; 8],
+    v: &[u32; 99592],
+    j: usize,
+    vals2: &[u32; 8],
+) -> bool
+    requires { ⌜ Places (now w) i (now vals) × Places (now v) j (now vals2) ⌝ }
+    ensures { λ r. ⌜ Decides r (processSeen (now (w .entry)) i (now (vals .entry))) (processSeen (now (v .entry)) j (now (vals2 .entry))) ⌝ }
+{
+    let mut a = i;
+    let mut b = j;
+    loop {
+        if !same_open(w, a, field(w, a, 2), vals, v, b, field(v, b, 2), vals2) {
+            return false;
+        }
+        if !same_inner(w, a, vals, v, b, vals2) {
+            return false;
+        }
+        let m = wide(next_at(w, a));
+        let n = wide(next_at(v, b));
+        if m == 0 {
+            return n == 0;
+        }
+        if n == 0 {
+            return false;
+        }
+        a = m - 1;
+        b = n - 1;
+    }
+}
+
+// The parts at i and j with the timers t and u.
+pub fn same_part(
+    w: &[u32; 99592],
+    i: usize,
+    t: u32,
+    vals: &[u32; 8],
+    v: &[u32; 99592],
+    j: usize,
+    u: u32,
+    vals2: &[u32; 8],
+) -> bool
+    requires { ⌜ Places (now w) i (now vals) × Places (now v) j (now vals2) ⌝ }
+    ensures { λ r. ⌜ Decides r (partSeen (now (w .entry)) i t (now (vals .entry))) (partSeen (now (v .entry)) j u (now (vals2 .entry))) ⌝ }
+{
+    if !same_open(w, i, t, vals, v, j, u, vals2) {
+        return false;
+    }
+    same_inner(w, i, vals, v, j, vals2)
+}

@@ -1,0 +1,353 @@
+-- The answer of `read` from the scan, the script and the questions asked of it.
+-- Question by question: the first that is answered by no gives the definition's refusal, and if none is, script and components stand for the network.
+use Prim.Native.Nat.{ℕ, zero, suc, _+_, _-_, _≤_, _<_, min}
+use native.Mathlib.Omega.{arith}
+use mathlib.Core.Bool.{Bool, true, false, cond, _&&_, false≢true}
+use mathlib.Core.List.{List, [], _∷_, map}
+use mathlib.Core.Path.{_≡_, refl, sym, ap, _∙_}
+use borrow.Author.Tests.{leb-true, eqb-true}
+use lib.Dec.{leb, eqb}
+use lib.ListN.{length, take, drop, set, replicate}
+use Rattle.terms.specs.Terms.{Def, Network}
+use Rattle.terms.specs.Terms.Def.{define}
+use Rattle.terms.specs.Rules.{Answer, _>>=_}
+use Rattle.terms.specs.Rules.Answer.{refused, accepted}
+use Rattle.terms.specs.Same.{every}
+use Rattle.terms.proofs.Names.{and-inv}
+use Rattle.text.specs.Tokens.{lex, dot, bar}
+use Rattle.text.specs.Tokens.Token.{sign}
+use Rattle.text.specs.Tree.{Located, Tree, networkOf}
+use Rattle.text.specs.Grammar.{Rest, text}
+use Rattle.text.specs.Grammar.Rest.{ok, bad}
+use Rattle.text.specs.Write.{networkT, joinedT, locatedT}
+use Rattle.text.specs.WellFormed.{Each, NonEmpty, WellLocated, WellTree}
+use Rattle.text.specs.Questions.{ask, _>>_, places, short, whole, form, shallow, fits, distinct, callsMet, bound, read, nesting, definitionCount, parameterCount, partCount, componentCount, channels, locations, scopeSize}
+use Rattle.text.proofs.Exact.{form-tokens}
+use Rattle.text_scan.specs.declared.Scanned.{Scanned}
+use Rattle.text_scan.specs.Answers.{unreadScan, scanned, scanOf}
+use Rattle.text_scan.proofs.Limits.{capped-within}
+use Rattle.table.specs.declared.State.{State}
+use Rattle.table.specs.Words.{word}
+use Rattle.table.specs.Meaning.{networkOf as tableNetwork}
+use Rattle.table.specs.Valid.{valid}
+use Rattle.table.proofs.Size.{sizeP}
+use Rattle.text_build.specs.Rows.{placeKnown}
+use Rattle.text_tree.specs.Pass.{heads, bodies, afterBodies, brackets, spots, started, top, defined, behind, scriptOf, spotsOf}
+use Rattle.text_tree.specs.Asked.{roomy, apart, callsHeld, allBound, compOf}
+use Rattle.text_tree.proofs.Whole.{Whole}
+use Rattle.text_tree.proofs.Heads.{heads-under, heads-stand}
+use Rattle.text_tree.proofs.Reading.{Within, few-params, started-long, whole as stands}
+use Rattle.text_tree.proofs.Fitting.{roomy-is}
+use Rattle.text_tree.proofs.Network.{network-is, valid-is, count-is}
+use Rattle.text_tree.proofs.AskedApart.{apart-is}
+use Rattle.text_tree.proofs.AskedCalls.{calls-is}
+use Rattle.text_tree.proofs.AskedBound.{bound-is}
+use Rattle.text_tree.proofs.AskedKnown.{known}
+use Rattle.text_read.specs.declared.Passed.{Passed}
+use Rattle.text_read.specs.declared.Reading.{Reading}
+use Rattle.text_read.specs.Ready.{Ready, BodiesPut, bodiesBy, Filled, defined as definedBy}
+use Rattle.text_read.specs.Located.{NetworkAt, NetworkPut}
+use Rattle.text_read.specs.Spread.{Spread}
+use Rattle.text_read.specs.Answer.{StateIs, limits, asked, refusal, Took, readsAs}
+use Rattle.text_read.proofs.Spreading.{spread-all}
+use Rattle.text_read.proofs.Quiet.{Quiet, quiet-then, bodies-quiet, brackets-quiet, bodies-same}
+
+-- ── 1 to 4 by the scan ──
+-- the text has the form of a tree and keeps the limits that the scan knows
+pub record Passing (s : List ℕ) : Type 0 where
+  pub ready : Ready s
+  pub short-is : short s ≡ true
+  pub form-is : form s ≡ accepted (ready .tree)
+  pub shallow-is : shallow (ready .tree) ≡ true
+  pub parts-are : scanOf s .parts ≡ partCount (ready .tree)
+  pub defs-are : scanOf s .definitions ≡ definitionCount (ready .tree)
+
+fits-not : (a b c d x y z : Bool) → (a && (b && (c && d))) ≡ false → (a && b && c && x && y && d && z) ≡ false
+fits-not false b c d x y z e = refl
+fits-not true false c d x y z e = refl
+fits-not true true false d x y z e = refl
+fits-not true true true true x y z e = absurd (false≢true (sym e))
+fits-not true true true false true true z e = refl
+fits-not true true true false true false z e = refl
+fits-not true true true false false y z e = refl
+
+module _ (t : Tree) where
+  counts : Bool
+  counts = leb (definitionCount t) 32 && (leb (parameterCount t) 4 && (leb (partCount t) 4_096 && leb (componentCount t) 256))
+
+  counts-not : counts ≡ false → fits t ≡ false
+  unfolding counts fits
+  counts-not e = fits-not (leb (definitionCount t) 32) (leb (parameterCount t) 4) (leb (partCount t) 4_096) (leb (componentCount t) 256) (leb (length (channels t)) 64) (leb (length (locations t)) 64) (leb (scopeSize t) 8) e
+
+  counts-within : counts ≡ true → Within t
+  unfolding counts
+  counts-within e =
+      let a = and-inv (leb (definitionCount t) 32) _ e in
+      let b = and-inv (leb (parameterCount t) 4) _ (a .1) in
+      let c = and-inv (leb (partCount t) 4_096) _ (b .1) in
+      record { definitions = leb-true _ _ (a .0); parameters = leb-true _ _ (b .0); parts = leb-true _ _ (c .0); components = leb-true _ _ (c .1) }
+
+  limits-of : limits (scanned (accepted t)) ≡ cond (shallow t) (cond counts 0 4) 3
+  unfolding counts shallow
+  limits-of = rw (capped-within 32 (nesting t), capped-within 32 (definitionCount t), capped-within 4 (parameterCount t), capped-within 4_096 (partCount t), capped-within 256 (componentCount t))
+
+module _ (s : List ℕ) where
+  pub limited : (limits (scanOf s) ≡ 0 → ⊥) → read s ≡ refused (limits (scanOf s))
+  unfolding scanOf read form
+  limited n = go₁ (short s) (text (lex s)) n
+    where
+      tree : (t : Tree) → (limits (scanned (accepted t)) ≡ 0 → ⊥) → (a b : Bool) → shallow t ≡ a → counts t ≡ b
+          → (ask 3 (shallow t) >> (ask 4 (fits t) >> (ask 5 (distinct (t .defs)) >> (ask 6 (callsMet t) >> (ask 7 (bound t) >> accepted (networkOf t)))))) ≡ refused (limits (scanned (accepted t)))
+      tree t n false b e f = rw (limits-of t, e)
+      tree t n true false e f = rw (limits-of t, e, f, counts-not t f)
+      tree t n true true e f = absurd (n (rw (limits-of t, e, f)))
+
+      go₁ : (y : Bool) (x : Rest Tree) → (limits (cond y (scanned (whole x)) (unreadScan false)) ≡ 0 → ⊥)
+          → (ask 1 y >> (whole x >>= λ t. ask 3 (shallow t) >> (ask 4 (fits t) >> (ask 5 (distinct (t .defs)) >> (ask 6 (callsMet t) >> (ask 7 (bound t) >> accepted (networkOf t))))))) ≡ refused (limits (cond y (scanned (whole x)) (unreadScan false)))
+      go₁ false x n = refl
+      go₁ true bad n = refl
+      go₁ true (ok t us) n = tree t n (shallow t) (counts t) refl refl
+
+  pub passing : limits (scanOf s) ≡ 0 → Passing s
+  unfolding scanOf
+  passing z = go₁ (short s) (form s) refl refl z
+    where
+      tree : (t : Tree) → short s ≡ true → form s ≡ accepted t → limits (scanned (accepted t)) ≡ 0 → (a b : Bool) → shallow t ≡ a → counts t ≡ b → Passing s
+      tree t p g z false b e f = let h : _≡_ {A = ℕ} 3 0 = sym (rw e at (limits-of t)) ∙ z in absurd (omega arith)
+      tree t p g z true false e f = let h : _≡_ {A = ℕ} 4 0 = sym (rw (e, f) at (limits-of t)) ∙ z in absurd (omega arith)
+      tree t p g z true true e f =
+          let k = form-tokens s t g in
+          let i = counts-within t f in
+          let l = i .parts in
+          let m = i .definitions in
+          let q : scanOf s ≡ scanned (accepted t) = rw (p, g) in
+          record {
+            ready = record { tree = t; is = k .0; well = k .1; within = i };
+            short-is = p;
+            form-is = g;
+            shallow-is = e;
+            parts-are = ap (λ c. c .parts) q ∙ omega arith;
+            defs-are = ap (λ c. c .definitions) q ∙ omega arith;
+          }
+
+      go₁ : (y : Bool) (x : Answer Tree) → short s ≡ y → form s ≡ x → limits (cond y (scanned x) (unreadScan false)) ≡ 0 → Passing s
+      go₁ false x e g z = absurd (omega arith)
+      go₁ true (refused n) e g z = absurd (omega arith)
+      go₁ true (accepted t) e g z = tree t e g z (shallow t) (counts t) refl refl
+
+-- ── the network behind the definitions ──
+pub network-at : {s w v : List ℕ} {i : ℕ} (x : Ready s) (r : Passed) → BodiesPut s w v i r (x .tree) → NetworkAt s (r .end)
+unfolding networkT
+network-at {s} x r b = go₁ (x .tree .located) (b .left-is) (x .well .located-well) (x .well .some-located)
+  where
+    go₁ : (ls : List Located) → lex (drop (r .end) s) ≡ networkT ls → Each WellLocated ls → NonEmpty ls → NetworkAt s (r .end)
+    go₁ [] e w n = absurd n
+    go₁ (l ∷ ls) e w n = record { first = l; more = ls; is = e; well = w }
+
+behind-low : (ds : List Def) (i : ℕ) → afterBodies ds i ≤ i
+unfolding afterBodies
+behind-low [] i = omega arith
+behind-low (define x us p ∷ ds) i = let h = behind-low ds (i - sizeP p) in omega arith
+
+pub behind-small : {s w v : List ℕ} {i : ℕ} (x : Ready s) (r : Passed) → BodiesPut s w v i r (x .tree) → i < 4_096 → r .place < 4_096
+behind-small {i = i} x r b h = let e = b .place in let l = behind-low (x .tree .defs) i in omega arith
+
+pub network-of : {s w v v′ : List ℕ} {i : ℕ} (x : Ready s) (r : Passed) → BodiesPut s w v i r (x .tree) → {out after : List (List ℕ)} {n : ℕ} → ((y : NetworkAt s (r .end)) → NetworkPut v v′ (r .place) out after n (y .first ∷ y .more)) → NetworkPut v v′ (r .place) out after n (x .tree .located)
+unfolding networkT
+network-of {s} {v = v} {v′ = v′} x r b {out} {after} {n} h = go₁ (x .tree .located) (b .left-is) (x .well .located-well) (x .well .some-located)
+  where
+    go₁ : (ls : List Located) → lex (drop (r .end) s) ≡ networkT ls → Each WellLocated ls → NonEmpty ls → NetworkPut v v′ (r .place) out after n ls
+    go₁ [] e w m = absurd m
+    go₁ (l ∷ ls) e w m = h (record { first = l; more = ls; is = e; well = w })
+
+pub filled : {s w u v v′ : List ℕ} (parts defs i : ℕ) → i ≡ parts - 1 → (x : Ready s) → u ≡ heads (x .tree .defs) 0 i (set (set w 0 parts) 3 defs) → (r : Passed) → BodiesPut s u v i r (x .tree)
+    → {out after : List (List ℕ)} {n : ℕ} → NetworkPut v v′ (r .place) out after n (x .tree .located) → Filled w v′ parts defs out after n (x .tree)
+filled parts defs i e x g r b p = record {
+  script = p .script ∙ rw (b .place, b .after, g, e);
+  gathered = rw (b .place, b .after, g, e) at (p .gathered);
+}
+
+-- ── the script and the places that were written ──
+module _ {s : List ℕ} (x : Ready s) {w v : List ℕ} {parts n : ℕ} (zeros : w ≡ replicate 99_592 0) (p : parts ≡ partCount (x .tree)) (d : n ≡ definitionCount (x .tree)) {out after : List (List ℕ)} {r : ℕ} (f : Filled w v parts n out after r (x .tree)) where
+  started-is : set (set w 0 parts) 3 n ≡ started (x .tree)
+  unfolding started
+  started-is = ap (λ q. set (set q 0 parts) 3 n) zeros ∙ ap (λ q. set (set (replicate 99_592 0) 0 q) 3 n) p ∙ ap (λ q. set (set (replicate 99_592 0) 0 (partCount (x .tree))) 3 q) d
+
+  defined-is : definedBy w parts n (x .tree) ≡ defined (x .tree)
+  unfolding defined definitionCount parameterCount
+  defined-is =
+      let t = x .tree in
+      let few = few-params (t .defs) (x .within .parameters) in
+      let m = x .within .definitions in
+      ap (λ q. bodiesBy (t .defs) 0 (parts - 1) (heads (t .defs) 0 (parts - 1) q)) started-is
+      ∙ ap (λ q. bodiesBy (t .defs) 0 (q - 1) (heads (t .defs) 0 (q - 1) (started t))) p
+      ∙ bodies-same (t .defs) 0 (top t) (heads (t .defs) 0 (top t) (started t)) few (omega arith) (heads-stand (t .defs) (started t) 0 (top t) (started-long t) (omega arith) few (x .well .defs-well))
+
+  pub script-is : v ≡ scriptOf (x .tree)
+  unfolding scriptOf
+  script-is = f .script ∙ ap (λ q. brackets (x .tree .located) (afterBodies (x .tree .defs) (q - 1)) (definedBy w parts n (x .tree))) p ∙ ap (brackets (x .tree .located) (behind (x .tree))) defined-is
+
+  spots-are : Spread out after 0 r (spotsOf (x .tree))
+  unfolding spotsOf
+  spots-are = rw (ap (λ q. spots (x .tree .located) (afterBodies (x .tree .defs) (q - 1)) (definedBy w parts n (x .tree))) p ∙ ap (spots (x .tree .located) (behind (x .tree))) defined-is) at (f .gathered)
+
+  -- all places have space
+  module _ (wide : length out ≡ 256) where
+    all : (take r after ≡ spotsOf (x .tree)) × (r ≡ length (spotsOf (x .tree)))
+    all = let k = count-is (x .tree) in let m = x .within .components in spread-all (omega arith) spots-are
+
+    pub places-are : take r after ≡ spotsOf (x .tree)
+    places-are = all .0
+
+    pub places-few : r ≤ 256
+    places-few = let k = count-is (x .tree) in let m = x .within .components in let e = all .1 in omega arith
+
+    pub state-is : (st : State) → StateIs v (take r after) st → (st .n ≡ length (spotsOf (x .tree))) × (take (st .n) (st .c) ≡ map (compOf (scriptOf (x .tree))) (spotsOf (x .tree)))
+    state-is st g = (g .count ∙ ap length places-are, g .comps ∙ ap (map (compOf v)) places-are ∙ ap (λ q. map (compOf q) (spotsOf (x .tree))) script-is)
+
+-- the numbers of parts and definitions stay as they are
+script-quiet : (t : Tree) → Quiet (heads (t .defs) 0 (top t) (started t)) (scriptOf t)
+unfolding scriptOf defined
+script-quiet t = quiet-then (bodies-quiet (t .defs) 0 (top t) _) (brackets-quiet (t .located) (behind t) _)
+
+pub parts-kept : (t : Tree) → word (scriptOf t) 0 ≡ partCount t
+unfolding started
+parts-kept t = script-quiet t .same 0 (omega arith) (λ e. omega arith) (λ e. omega arith) (λ e. omega arith) ∙ heads-under (t .defs) (started t) 0 (top t) 0 (omega arith)
+
+pub defs-kept : (t : Tree) → word (scriptOf t) 3 ≡ definitionCount t
+unfolding started
+defs-kept t = script-quiet t .same 3 (omega arith) (λ e. omega arith) (λ e. omega arith) (λ e. omega arith) ∙ heads-under (t .defs) (started t) 0 (top t) 3 (omega arith)
+
+-- ── 4 to 7 by the script ──
+module _ {s : List ℕ} (x : Passing s) where
+  abbrev T : Tree
+  T = x .ready .tree
+
+  abbrev S : List ℕ
+  S = scriptOf T
+
+  read-is : read s ≡ (ask 4 (fits T) >> (ask 5 (distinct (T .defs)) >> (ask 6 (callsMet T) >> (ask 7 (bound T) >> accepted (networkOf T)))))
+  unfolding read
+  read-is = rw (x .short-is, x .form-is, x .shallow-is)
+
+  module _ (e : roomy S ≡ true) where
+    flag : word S 4 ≡ 0
+    unfolding roomy
+    flag = eqb-true _ _ e
+
+    abbrev W : Whole T S
+    W = stands T (x .ready .within) (x .ready .well) flag
+
+    fits-yes : fits T ≡ true
+    fits-yes = roomy-is T (x .ready .within) (x .ready .well) ∙ e
+
+    read-4 : read s ≡ (ask 5 (apart S) >> (ask 6 (callsMet T) >> (ask 7 (bound T) >> accepted (networkOf T))))
+    read-4 = read-is ∙ rw (fits-yes, apart-is T S W)
+
+    module _ (f : apart S ≡ true) where
+      distinct-yes : distinct (T .defs) ≡ true
+      distinct-yes = apart-is T S W ∙ f
+
+      read-5 : read s ≡ (ask 6 (callsHeld S) >> (ask 7 (bound T) >> accepted (networkOf T)))
+      read-5 = read-4 ∙ rw (f, calls-is T S W (x .ready .within .parameters) distinct-yes)
+
+      module _ (g : callsHeld S ≡ true) where
+        calls-yes : callsMet T ≡ true
+        calls-yes = calls-is T S W (x .ready .within .parameters) distinct-yes ∙ g
+
+        read-6 : read s ≡ (ask 7 (allBound S) >> accepted (networkOf T))
+        read-6 = read-5 ∙ rw (g, bound-is T S W (x .ready .within .parameters) calls-yes)
+
+        module _ (h : allBound S ≡ true) where
+          bound-yes : bound T ≡ true
+          bound-yes = bound-is T S W (x .ready .within .parameters) calls-yes ∙ h
+
+          read-7 : read s ≡ accepted (networkOf T)
+          read-7 = read-6 ∙ rw h
+
+          known-yes : every (placeKnown S) (places T) ≡ true
+          known-yes = known T S W (x .ready .within .parameters) distinct-yes (x .ready .well) calls-yes bound-yes
+
+          took : (st : State) → st .n ≡ length (spotsOf T) → take (st .n) (st .c) ≡ map (compOf S) (spotsOf T) → Took S (networkOf T) (record { code = 0; state = st })
+          took st n c = record {
+            code = refl;
+            network = network-is T (x .ready .within) (x .ready .well) flag distinct-yes known-yes st n c;
+            good = valid-is T (x .ready .within) (x .ready .well) flag distinct-yes known-yes st n c;
+          }
+
+  pub asked-no : (asked S ≡ 0 → ⊥) → read s ≡ refused (asked S)
+  asked-no n = go₁ (roomy S) (apart S) (callsHeld S) (allBound S) refl refl refl refl n
+    where
+      go₁ : (a b c d : Bool) → roomy S ≡ a → apart S ≡ b → callsHeld S ≡ c → allBound S ≡ d → (_≡_ {A = ℕ} (cond a (cond b (cond c (cond d 0 7) 6) 5) 4) 0 → ⊥) → read s ≡ refused (cond a (cond b (cond c (cond d 0 7) 6) 5) 4)
+      go₁ false b c d e f g h n = read-is ∙ rw (roomy-is T (x .ready .within) (x .ready .well) ∙ e)
+      go₁ true false c d e f g h n = read-4 e ∙ rw f
+      go₁ true true false d e f g h n = read-5 e f ∙ rw g
+      go₁ true true true false e f g h n = read-6 e f g ∙ rw h
+      go₁ true true true true e f g h n = absurd (n refl)
+
+  pub asked-yes : asked S ≡ 0 → (st : State) → st .n ≡ length (spotsOf T) → take (st .n) (st .c) ≡ map (compOf S) (spotsOf T) → (w : List ℕ) → readsAs (read s) w S (record { code = 0; state = st })
+  asked-yes z st n c w = go₁ (roomy S) (apart S) (callsHeld S) (allBound S) refl refl refl refl z
+    where
+      go₁ : (a b c d : Bool) → roomy S ≡ a → apart S ≡ b → callsHeld S ≡ c → allBound S ≡ d → _≡_ {A = ℕ} (cond a (cond b (cond c (cond d 0 7) 6) 5) 4) 0 → readsAs (read s) w S (record { code = 0; state = st })
+      go₁ false b c d e f g h z = absurd (omega arith)
+      go₁ true false c d e f g h z = absurd (omega arith)
+      go₁ true true false d e f g h z = absurd (omega arith)
+      go₁ true true true false e f g h z = absurd (omega arith)
+      go₁ true true true true e f g h z = rw (read-7 e f g h) (took e f g h st n c)
+
+-- ── the code's ways to its answer ──
+module _ (s : List ℕ) (c : Scanned) (e : c ≡ scanOf s) (q : ℕ) (l : q ≡ limits c) where
+  refused-is : (n : ℕ) (w : List ℕ) (r : Reading) → read s ≡ refused n → r ≡ refusal n → readsAs (read s) w w r
+  refused-is n w r f g = rw f (g, refl)
+
+  limits-is : q ≡ limits (scanOf s)
+  limits-is = l ∙ ap limits e
+
+  pub way-1 : (q ≡ 0 → ⊥) → (w : List ℕ) (r : Reading) → r ≡ refusal q → readsAs (read s) w w r
+  way-1 n w r g = refused-is (limits (scanOf s)) w r (limited s (λ z. n (limits-is ∙ z))) (g ∙ ap refusal limits-is)
+
+  module _ (z : q ≡ 0) where
+    pub pass : Passing s
+    pass = passing s (sym limits-is ∙ z)
+
+    parts-now : c .parts ≡ partCount (pass .ready .tree)
+    parts-now = ap (λ x. x .parts) e ∙ pass .parts-are
+
+    defs-now : c .definitions ≡ definitionCount (pass .ready .tree)
+    defs-now = ap (λ x. x .definitions) e ∙ pass .defs-are
+
+    pub may-fill : (c .parts ≤ 4_096) × (c .definitions ≤ 32) × Ready s
+    may-fill =
+        let a = parts-now in
+        let b = defs-now in
+        let f = pass .ready .within .parts in
+        let g = pass .ready .within .definitions in
+        (omega arith, omega arith, pass .ready)
+
+    module _ {w₀ v : List ℕ} (zeros : w₀ ≡ replicate 99_592 0) {out after : List (List ℕ)} {n : ℕ} (h : (x : Ready s) → Filled w₀ v (c .parts) (c .definitions) out after n (x .tree)) where
+      now-script : v ≡ scriptOf (pass .ready .tree)
+      now-script = script-is (pass .ready) zeros parts-now defs-now (h (pass .ready))
+
+      pub may-ask : (word v 0 ≤ 4_096) × (word v 3 ≤ 32)
+      may-ask =
+          let a = ap (λ x. word x 0) now-script ∙ parts-kept (pass .ready .tree) in
+          let b = ap (λ x. word x 3) now-script ∙ defs-kept (pass .ready .tree) in
+          let f = pass .ready .within .parts in
+          let g = pass .ready .within .definitions in
+          (omega arith, omega arith)
+
+      module _ (a : ℕ) (f : a ≡ asked v) where
+        asked-is : a ≡ asked (scriptOf (pass .ready .tree))
+        asked-is = f ∙ ap asked now-script
+
+        pub way-2 : (a ≡ 0 → ⊥) → (w : List ℕ) (r : Reading) → r ≡ refusal a → readsAs (read s) w w r
+        way-2 m w r g = refused-is (asked (scriptOf (pass .ready .tree))) w r (asked-no pass (λ y. m (asked-is ∙ y))) (g ∙ ap refusal asked-is)
+
+        module _ (wide : length out ≡ 256) where
+          pub may-make : n ≤ 256
+          may-make = places-few (pass .ready) zeros parts-now defs-now (h (pass .ready)) wide
+
+          pub way-3 : a ≡ 0 → (w u : List ℕ) → u ≡ v → (st : State) → StateIs v (take n after) st → readsAs (read s) w u (record { code = 0; state = st })
+          way-3 y w u g st k =
+              let p = state-is (pass .ready) zeros parts-now defs-now (h (pass .ready)) wide st k in
+              rw (g ∙ now-script) (asked-yes pass (sym asked-is ∙ y) st (p .0) (p .1) w)

@@ -1,0 +1,57 @@
+-- The counts, then the three passes one after the other.
+use native.Mathlib.Omega.{arith}
+use mathlib.Core.Path.{_≡_, refl, sym, ap, _∙_}
+use borrow.Author.Needs.{needs}
+use Rattle.text_read.proofs.Answering.{network-at, behind-small, network-of, filled}
+use Rattle.text_read.proofs.fill.Statement.{statement}
+use Rattle.text_read.proofs.fill.Tie as tie
+
+cast-w : tie.Need-cast-w
+cast-w c = search needs
+
+element-write-w : tie.Need-element-write-w
+element-write-w c = search needs
+
+cast-w-2 : tie.Need-cast-w-2
+cast-w-2 c = search needs
+
+element-write-w-2 : tie.Need-element-write-w-2
+element-write-w-2 c = search needs
+
+less-requires : tie.Need-less-requires
+less-requires c κs = search needs
+
+put-heads-requires : tie.Need-put-heads-requires
+put-heads-requires c κs = search needs
+
+put-bodies-requires : tie.Need-put-bodies-requires
+put-bodies-requires c κs = search needs
+
+put-network-requires : tie.Need-put-network-requires
+put-network-requires c κs =
+    let x = c .before .before .before .before .before .before .before .before .pre .2 in
+    let b = c .before .before .put-bodies .ensures x in
+    let e = c .before .before .before .before .before .before .less .ensures in
+    let h = c .before .before .before .before .before .before .before .before .pre .0 in
+    (behind-small x _ b (omega arith), network-at x _ b)
+
+same-length : tie.Need-same-length
+same-length c = search needs
+
+returns : tie.Need-returns
+returns c = λ x. filled _ _ _ (c .before .before .before .before .before .before .before .before .less .ensures) x (c .before .before .before .before .before .before .put-heads .ensures x) _ (c .before .before .before .before .put-bodies .ensures x) (network-of x _ (c .before .before .before .before .put-bodies .ensures x) (c .before .put-network .ensures))
+
+pub fill-spec : {M : Type 1} → statement M
+fill-spec =
+    tie.close
+    (tie.spec
+    cast-w
+    element-write-w
+    cast-w-2
+    element-write-w-2
+    less-requires
+    put-heads-requires
+    put-bodies-requires
+    put-network-requires
+    same-length
+    returns)

@@ -1,0 +1,15 @@
+-- The same component 256 times.
+use mathlib.Core.Path.{_≡_, refl, sym, ap, _∙_}
+use lib.ListN.{replicate}
+use borrow.Author.Needs.{needs}
+use Rattle.text_read.proofs.state.no_state.Statement.{statement}
+use Rattle.text_read.proofs.state.no_state.Tie as tie
+
+no-comp-requires : tie.Need-no-comp-requires
+no-comp-requires c κs = search needs
+
+returns : tie.Need-returns
+returns c = ap (λ x. record { c = replicate 256 x; n = 0 }) (c .no-comp .ensures)
+
+pub no-state-spec : {M : Type 1} → statement M
+no-state-spec = tie.close (tie.spec no-comp-requires returns)

@@ -1,0 +1,53 @@
+-- What the call `read` answers: document 01, *Reading* and questions 1 to 7. A refusal leaves the lent script as it was; what is accepted passes question 17.
+use Prim.Native.Nat.{ℕ}
+use mathlib.Core.List.{List, [], _∷_, map}
+use mathlib.Core.Bool.{Bool, true, false, cond, _&&_}
+use mathlib.Core.Path.{_≡_}
+use lib.Dec.{leb}
+use lib.ListN.{length, take, replicate}
+use Rattle.terms.specs.Terms.{Network}
+use Rattle.terms.specs.Rules.{Answer}
+use Rattle.terms.specs.Rules.Answer.{refused, accepted}
+use Rattle.text_scan.specs.declared.Scanned.{Scanned}
+use Rattle.table.specs.declared.Comp.{Comp}
+use Rattle.table.specs.declared.State.{State}
+use Rattle.table.specs.Meaning.{networkOf}
+use Rattle.table.specs.Valid.{valid}
+use Rattle.text_tree.specs.Asked.{roomy, apart, callsHeld, allBound, compOf}
+use Rattle.text_read.specs.declared.Reading.{Reading}
+
+-- ── components ──
+abbrev pub noComp : Comp
+noComp = record { loc = 0; mark = 0; place = 0; timer = 0; vals = replicate 8 0 }
+
+-- the components at the places xs, and no others
+pub record StateIs (w : List ℕ) (xs : List (List ℕ)) (st : State) : Type 0 where
+  pub count : st .n ≡ length xs
+  pub comps : take (st .n) (st .c) ≡ map (compOf w) xs
+
+-- ── questions: 0, or the number of the first that is answered by no ──
+-- 1 to 3, and 4 as far as the scan knows it
+abbrev pub limits : Scanned → ℕ
+limits c =
+    cond (c .short)
+    (cond (c .form)
+    (cond (leb (c .nesting) 32)
+    (cond (leb (c .definitions) 32 && (leb (c .parameters) 4 && (leb (c .parts) 4_096 && leb (c .components) 256))) 0 4) 3) 2) 1
+
+-- 4 as far as the scan does not know it, and 5 to 7, asked of the script
+abbrev pub asked : List ℕ → ℕ
+asked w = cond (roomy w) (cond (apart w) (cond (callsHeld w) (cond (allBound w) 0 7) 6) 5) 4
+
+-- ── the answer ──
+abbrev pub refusal : ℕ → Reading
+refusal n = record { code = n; state = record { c = replicate 256 noComp; n = 0 } }
+
+pub record Took (v : List ℕ) (m : Network) (r : Reading) : Type 0 where
+  pub code : r .code ≡ 0
+  pub network : networkOf v (r .state) ≡ m
+  pub good : valid v (r .state) ≡ true
+
+-- the code's answer r, and the lent script before and after, stand for the answer of the definition
+abbrev pub readsAs : Answer Network → List ℕ → List ℕ → Reading → Type 0
+readsAs (refused n) w v r = (r ≡ refusal n) × (v ≡ w)
+readsAs (accepted m) w v r = Took v m r

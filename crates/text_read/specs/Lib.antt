@@ -1,0 +1,4 @@
+pub mod Ready
+pub mod Spread
+pub mod Located
+pub mod Answer

@@ -1,0 +1,60 @@
+// The components of the network that was read.
+ghost use Prim.Native.Nat.{_≤_};
+ghost use mathlib.Core.List.{[], _∷_, map};
+ghost use mathlib.Core.Path.{_≡_};
+ghost use lib.ListN.{length, take, replicate};
+ghost use Rattle.text_tree.specs.Asked.{compOf};
+ghost use Rattle.text_read.specs.Answer.{noComp, StateIs};
+use table::Comp;
+use table::State;
+
+// No component.
+fn no_comp() -> Comp
+    ensures { λ r. ⌜ r ≡ noComp ⌝ }
+{
+    Comp {
+        loc: 0,
+        mark: 0,
+        place: 0,
+        timer: 0,
+        vals: [0; 8],
+    }
+}
+
+// The component at the place i and the location l: unmarked, with the timer of its part.
+fn comp_at(w: &[u32; 99592], l: u32, i: u32) -> Comp
+    ensures { λ r. ⌜ r ≡ compOf (now (w .entry)) (l ∷ i ∷ []) ⌝ }
+{
+    let t = table::words::word(w, 1288 + table::words::wide(i) * 24 + 2);
+    Comp {
+        loc: l,
+        mark: 64,
+        place: i,
+        timer: t,
+        vals: [0; 8],
+    }
+}
+
+// A network of no components.
+pub fn no_state() -> State
+    ensures { λ r. ⌜ r ≡ record { c = replicate 256 noComp; n = 0 } ⌝ }
+{
+    let x = no_comp();
+    State { c: [x; 256], n: 0 }
+}
+
+// The components at the first n places.
+pub fn state_of(w: &[u32; 99592], out: &[[u32; 2]], n: usize) -> State
+    requires { ⌜ (n ≤ 256) × (n ≤ length (now out)) ⌝ }
+    ensures { λ r. ⌜ StateIs (now (w .entry)) (take n (now (out .entry))) r ⌝ }
+{
+    let x = no_comp();
+    let mut st = State { c: [x; 256], n: n };
+    let mut j = 0;
+    while j < n {
+        let y = out[j];
+        st.c[j] = comp_at(w, y[0], y[1]);
+        j += 1;
+    }
+    st
+}
