@@ -80,7 +80,7 @@ module _ (w : List ℕ) (st : State) (v : valid w st ≡ true) where
   all-short [] = unfold spaced in omega arith
   all-short (a ∷ xs) = rw spaced-append (simp length-append (omega (arith, one-short a, all-short xs)))
 
-  few : length (netOf w st) ≤ 256
+  pub few : length (netOf w st) ≤ 256
   unfolding netOf compsOf
   few = omega (arith, length-map (take (st .n) (st .c)) (means w), length-take (st .n) (st .c), valid-parts w st v .1 .few)
 

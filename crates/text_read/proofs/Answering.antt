@@ -48,7 +48,7 @@ use Rattle.text_read.specs.declared.Reading.{Reading}
 use Rattle.text_read.specs.Ready.{Ready, BodiesPut, bodiesBy, Filled, defined as definedBy}
 use Rattle.text_read.specs.Located.{NetworkAt, NetworkPut}
 use Rattle.text_read.specs.Spread.{Spread}
-use Rattle.text_read.specs.Answer.{StateIs, limits, asked, refusal, Took, readsAs}
+use Rattle.text_read.specs.Answer.{StateIs, limits, asked, refusal, locationsIn, channelsIn, Took, readsAs}
 use Rattle.text_read.proofs.Spreading.{spread-all}
 use Rattle.text_read.proofs.Quiet.{Quiet, quiet-then, bodies-quiet, brackets-quiet, bodies-same}
 
@@ -268,11 +268,13 @@ module _ {s : List ℕ} (x : Passing s) where
           known-yes : every (placeKnown S) (places T) ≡ true
           known-yes = known T S W (x .ready .within .parameters) distinct-yes (x .ready .well) calls-yes bound-yes
 
-          took : (st : State) → st .n ≡ length (spotsOf T) → take (st .n) (st .c) ≡ map (compOf S) (spotsOf T) → Took S (networkOf T) (record { code = 0; state = st })
+          took : (st : State) → st .n ≡ length (spotsOf T) → take (st .n) (st .c) ≡ map (compOf S) (spotsOf T) → Took s S (networkOf T) (record { code = 0; state = st })
           took st n c = record {
             code = refl;
             network = network-is T (x .ready .within) (x .ready .well) flag distinct-yes known-yes st n c;
             good = valid-is T (x .ready .within) (x .ready .well) flag distinct-yes known-yes st n c;
+            locs = W .locs ∙ sym (ap locationsIn (x .form-is));
+            chans = W .chans ∙ sym (ap channelsIn (x .form-is));
           }
 
   pub asked-no : (asked S ≡ 0 → ⊥) → read s ≡ refused (asked S)
@@ -285,10 +287,10 @@ module _ {s : List ℕ} (x : Passing s) where
       go₁ true true true false e f g h n = read-6 e f g ∙ rw h
       go₁ true true true true e f g h n = absurd (n refl)
 
-  pub asked-yes : asked S ≡ 0 → (st : State) → st .n ≡ length (spotsOf T) → take (st .n) (st .c) ≡ map (compOf S) (spotsOf T) → (w : List ℕ) → readsAs (read s) w S (record { code = 0; state = st })
+  pub asked-yes : asked S ≡ 0 → (st : State) → st .n ≡ length (spotsOf T) → take (st .n) (st .c) ≡ map (compOf S) (spotsOf T) → (w : List ℕ) → readsAs s (read s) w S (record { code = 0; state = st })
   asked-yes z st n c w = go₁ (roomy S) (apart S) (callsHeld S) (allBound S) refl refl refl refl z
     where
-      go₁ : (a b c d : Bool) → roomy S ≡ a → apart S ≡ b → callsHeld S ≡ c → allBound S ≡ d → _≡_ {A = ℕ} (cond a (cond b (cond c (cond d 0 7) 6) 5) 4) 0 → readsAs (read s) w S (record { code = 0; state = st })
+      go₁ : (a b c d : Bool) → roomy S ≡ a → apart S ≡ b → callsHeld S ≡ c → allBound S ≡ d → _≡_ {A = ℕ} (cond a (cond b (cond c (cond d 0 7) 6) 5) 4) 0 → readsAs s (read s) w S (record { code = 0; state = st })
       go₁ false b c d e f g h z = absurd (omega arith)
       go₁ true false c d e f g h z = absurd (omega arith)
       go₁ true true false d e f g h z = absurd (omega arith)
@@ -297,13 +299,13 @@ module _ {s : List ℕ} (x : Passing s) where
 
 -- ── the code's ways to its answer ──
 module _ (s : List ℕ) (c : Scanned) (e : c ≡ scanOf s) (q : ℕ) (l : q ≡ limits c) where
-  refused-is : (n : ℕ) (w : List ℕ) (r : Reading) → read s ≡ refused n → r ≡ refusal n → readsAs (read s) w w r
+  refused-is : (n : ℕ) (w : List ℕ) (r : Reading) → read s ≡ refused n → r ≡ refusal n → readsAs s (read s) w w r
   refused-is n w r f g = rw f (g, refl)
 
   limits-is : q ≡ limits (scanOf s)
   limits-is = l ∙ ap limits e
 
-  pub way-1 : (q ≡ 0 → ⊥) → (w : List ℕ) (r : Reading) → r ≡ refusal q → readsAs (read s) w w r
+  pub way-1 : (q ≡ 0 → ⊥) → (w : List ℕ) (r : Reading) → r ≡ refusal q → readsAs s (read s) w w r
   way-1 n w r g = refused-is (limits (scanOf s)) w r (limited s (λ z. n (limits-is ∙ z))) (g ∙ ap refusal limits-is)
 
   module _ (z : q ≡ 0) where
@@ -340,14 +342,14 @@ module _ (s : List ℕ) (c : Scanned) (e : c ≡ scanOf s) (q : ℕ) (l : q ≡ 
         asked-is : a ≡ asked (scriptOf (pass .ready .tree))
         asked-is = f ∙ ap asked now-script
 
-        pub way-2 : (a ≡ 0 → ⊥) → (w : List ℕ) (r : Reading) → r ≡ refusal a → readsAs (read s) w w r
+        pub way-2 : (a ≡ 0 → ⊥) → (w : List ℕ) (r : Reading) → r ≡ refusal a → readsAs s (read s) w w r
         way-2 m w r g = refused-is (asked (scriptOf (pass .ready .tree))) w r (asked-no pass (λ y. m (asked-is ∙ y))) (g ∙ ap refusal asked-is)
 
         module _ (wide : length out ≡ 256) where
           pub may-make : n ≤ 256
           may-make = places-few (pass .ready) zeros parts-now defs-now (h (pass .ready)) wide
 
-          pub way-3 : a ≡ 0 → (w u : List ℕ) → u ≡ v → (st : State) → StateIs v (take n after) st → readsAs (read s) w u (record { code = 0; state = st })
+          pub way-3 : a ≡ 0 → (w u : List ℕ) → u ≡ v → (st : State) → StateIs v (take n after) st → readsAs s (read s) w u (record { code = 0; state = st })
           way-3 y w u g st k =
               let p = state-is (pass .ready) zeros parts-now defs-now (h (pass .ready)) wide st k in
               rw (g ∙ now-script) (asked-yes pass (sym asked-is ∙ y) st (p .0) (p .1) w)

@@ -5,14 +5,18 @@ use mathlib.Core.Bool.{Bool, true, false, cond, _&&_}
 use mathlib.Core.Path.{_≡_}
 use lib.Dec.{leb}
 use lib.ListN.{length, take, replicate}
+use Rattle.terms.specs.Names.{Name}
 use Rattle.terms.specs.Terms.{Network}
 use Rattle.terms.specs.Rules.{Answer}
 use Rattle.terms.specs.Rules.Answer.{refused, accepted}
+use Rattle.text.specs.Tree.{Tree}
+use Rattle.text.specs.Questions.{form, channels, locations, read}
 use Rattle.text_scan.specs.declared.Scanned.{Scanned}
 use Rattle.table.specs.declared.Comp.{Comp}
 use Rattle.table.specs.declared.State.{State}
 use Rattle.table.specs.Meaning.{networkOf}
 use Rattle.table.specs.Valid.{valid}
+use Rattle.text_build.specs.Rows.{locsOf, chansOf}
 use Rattle.text_tree.specs.Asked.{roomy, apart, callsHeld, allBound, compOf}
 use Rattle.text_read.specs.declared.Reading.{Reading}
 
@@ -42,12 +46,28 @@ asked w = cond (roomy w) (cond (apart w) (cond (callsHeld w) (cond (allBound w) 
 abbrev pub refusal : ℕ → Reading
 refusal n = record { code = n; state = record { c = replicate 256 noComp; n = 0 } }
 
-pub record Took (v : List ℕ) (m : Network) (r : Reading) : Type 0 where
+-- the locations and channels of a text that has a form, numbered by first place
+abbrev pub locationsIn : Answer Tree → List Name
+locationsIn (refused n) = []
+locationsIn (accepted t) = locations t
+
+abbrev pub channelsIn : Answer Tree → List Name
+channelsIn (refused n) = []
+channelsIn (accepted t) = channels t
+
+-- an accepted text s: the script v and the components stand for the network m, pass question 17, and have the text's numbers
+pub record Took (s v : List ℕ) (m : Network) (r : Reading) : Type 0 where
   pub code : r .code ≡ 0
   pub network : networkOf v (r .state) ≡ m
   pub good : valid v (r .state) ≡ true
+  pub locs : locsOf v ≡ locationsIn (form s)
+  pub chans : chansOf v ≡ channelsIn (form s)
 
--- the code's answer r, and the lent script before and after, stand for the answer of the definition
-abbrev pub readsAs : Answer Network → List ℕ → List ℕ → Reading → Type 0
-readsAs (refused n) w v r = (r ≡ refusal n) × (v ≡ w)
-readsAs (accepted m) w v r = Took v m r
+-- the code's answer r for the text s, and the lent script before and after, stand for the answer of the definition
+abbrev pub readsAs : List ℕ → Answer Network → List ℕ → List ℕ → Reading → Type 0
+readsAs s (refused n) w v r = (r ≡ refusal n) × (v ≡ w)
+readsAs s (accepted m) w v r = Took s v m r
+
+-- document 01, *Reading*
+abbrev pub ReadsAs : List ℕ → List ℕ → List ℕ → Reading → Type 0
+ReadsAs s w v r = readsAs s (read s) w v r

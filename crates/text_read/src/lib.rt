@@ -10,10 +10,9 @@
 // state        the components of the network
 ghost use mathlib.Core.Path.{_≡_};
 ghost use Prim.Native.Nat.{_≤_};
-ghost use Rattle.text.specs.Questions.{read};
 ghost use Rattle.table.specs.Words.{partsIn, defsIn};
 ghost use Rattle.text_read.specs.Ready.{Ready, Filled};
-ghost use Rattle.text_read.specs.Answer.{limits, asked, refusal, readsAs};
+ghost use Rattle.text_read.specs.Answer.{limits, asked, refusal, ReadsAs};
 use definitions::less;
 use definitions::put_bodies;
 use definitions::put_heads;
@@ -123,7 +122,7 @@ fn refuse(n: u32) -> Reading
 
 // The call `read`: questions 1 to 7, and the network in the lent script and the answer's components.
 pub fn read(text: &[u8], w: &mut [u32; 99592]) -> Reading
-    ensures { λ r. ⌜ readsAs (read (now (text .entry))) (now (w .entry)) (now (w .exit)) r ⌝ }
+    ensures { λ r. ⌜ ReadsAs (now (text .entry)) (now (w .entry)) (now (w .exit)) r ⌝ }
 {
     let c = text_scan::scan(text);
     let q = limits(c);

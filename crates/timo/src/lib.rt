@@ -9,8 +9,7 @@ ghost use Rattle.calls_step.specs.Stepped.{stepAnswer, stepsAs};
 ghost use Rattle.calls_propose.specs.Proposed.{proposeAnswer};
 ghost use Rattle.calls_forced.specs.Report.{forcedReport};
 ghost use Rattle.calls_same.specs.Answer.{compared, sameAnswer};
-ghost use Rattle.text.specs.Questions.{read};
-ghost use Rattle.text_read.specs.Answer.{readsAs};
+ghost use Rattle.text_read.specs.Answer.{ReadsAs};
 ghost use Rattle.text_write.specs.Answer.{Answers, writeAnswer};
 use calls::action;
 use calls::forced_report;
@@ -33,7 +32,7 @@ use text_write::write;
 // Reading: questions 1 to 7. A refusal leaves the lent script as it was.
 #[no_mangle]
 pub extern "C" fn timo_read(text: &[u8], w: &mut [u32; 99592]) -> Reading
-    ensures { λ r. ⌜ readsAs (read (now (text .entry))) (now (w .entry)) (now (w .exit)) r ⌝ }
+    ensures { λ r. ⌜ ReadsAs (now (text .entry)) (now (w .entry)) (now (w .exit)) r ⌝ }
 {
     text_read::read(text, w)
 }

@@ -1,0 +1,285 @@
+-- The ways of the code to the printout: a refusal, a step, the network, the rounds.
+use Prim.Native.Nat.{ℕ, zero, suc, _+_, _-_, _≤_, _<_}
+use native.Mathlib.Omega.{arith}
+use native.Mathlib.Numerals.{add-one}
+use mathlib.Core.Bool.{Bool, true, false, cond, false≢true}
+use mathlib.Core.List.{List, [], _∷_, _++_, append-assoc, append-nil}
+use mathlib.Core.Path.{_≡_, refl, sym, ap, _∙_}
+use borrow.Author.Tests.{le-leb, lt-ltb, leb-true, ltb-true}
+use lib.Dec.{leb, ltb}
+use lib.ListN.{length, take, drop, getD, length-map, drop-of-length-le}
+use lib.Seq.{take-at, drop-cons}
+use Rattle.terms.specs.Names.{Name, bytes}
+use Rattle.terms.specs.Terms.{Component, Def, Network}
+use Rattle.terms.specs.Rules.{Answer, Action, unmarked, _>>=_}
+use Rattle.terms.specs.Rules.Answer.{refused, accepted}
+use Rattle.terms.specs.Step.{Swept, fires, step}
+use Rattle.terms.specs.Same.{every}
+use Rattle.terms.proofs.Names.{and-inv}
+use Rattle.terms.proofs.Steps.{step-accepted}
+use Rattle.text.specs.Tokens.{lex}
+use Rattle.text.specs.Tree.{Tree, networkOf}
+use Rattle.text.specs.Grammar.{Rest, text}
+use Rattle.text.specs.Grammar.Rest.{ok, bad}
+use Rattle.text.specs.Questions.{ask, _>>_, short, whole, form, shallow, fits, distinct, callsMet, bound, read}
+use Rattle.text.specs.Write.{write}
+use Rattle.table.specs.declared.State.{State}
+use Rattle.table.specs.Words.{locsIn, locName}
+use Rattle.table.specs.Meaning.{listFrom, defsOf, compsOf, netOf, networkOf as tableNetwork}
+use Rattle.table.specs.Valid.{compOk, stateOk, valid}
+use Rattle.table.proofs.Tests.{length-listFrom, script-fine, comp-fine}
+use Rattle.text_build.specs.Rows.{locsOf}
+use Rattle.calls_act.specs.Acted.{noComp}
+use Rattle.calls_act.proofs.Positions.{valid-parts, comp-good}
+use Rattle.calls_act.specs.Acted.{asked}
+use Rattle.calls_tick.specs.Ticked.{room}
+use Rattle.calls_step.specs.declared.Stepped.{Stepped}
+use Rattle.calls_step.specs.Stepped.{stepOf, stepRule, stepAnswer, stepsAs}
+use Rattle.text_write.specs.declared.Written.{Written}
+use Rattle.text_write.specs.Put.{Wrote}
+use Rattle.text_write.specs.Answer.{textOf, noMark, writeAnswer, Answers}
+use Rattle.text_write.proofs.Puts.{same, then, Left, begun, last, left-as}
+use Rattle.text_write.proofs.Puts.{step as put-step}
+use Rattle.run_line.specs.Line.{lineText, stepLabels}
+use Rattle.run_line.proofs.Fits.{fires-few}
+use Rattle.text_read.specs.declared.Reading.{Reading}
+use Rattle.text_read.specs.Answer.{locationsIn, refusal, readsAs, ReadsAs}
+use Rattle.run_print.specs.declared.Turned.{Turned}
+use Rattle.run_print.specs.Print.{refusedText, Turn, turnOf, ending, followed, playing, four, printed, printout}
+use Rattle.run_print.specs.Turned.{Stopped, Went, TurnIs}
+
+-- ── a valid network has at least one location, and at most 64 ──
+pub locs-few : (w : List ℕ) (st : State) → valid w st ≡ true → locsIn w ≤ 64
+locs-few w st g = script-fine w (valid-parts w st g .0) .locs
+
+pub locs-some : (w : List ℕ) (st : State) → valid w st ≡ true → length (st .c) ≡ 256 → 0 < locsIn w
+locs-some w st g long =
+    let v = valid-parts w st g in
+    let c = comp-fine w (getD (st .c) 0 noComp) (comp-good w st g long 0 (v .1 .some)) in
+    let h = c .loc in
+    omega arith
+
+-- ── a step ──
+module _ (w : List ℕ) (st : State) (l : ℕ) (good : valid w st ≡ true) (inl : l < locsIn w) where
+  abbrev D : List Def
+  D = defsOf w
+
+  abbrev N : Name
+  N = locName w l
+
+  abbrev C : List Component
+  C = netOf w st
+
+  -- a step of so few components has space for its records, so it is refused only for want of components
+  module _ (few : length C ≤ 256) where
+    answer-is : stepAnswer w st l 256 ≡ (step D N C >>= λ s. room (s .comps) >>= λ cs. accepted (stepOf (s .actions) cs))
+    unfolding stepAnswer stepRule
+    answer-is = rw (good, lt-ltb l (locsIn w) inl, le-leb (length (fires D N C .actions)) 256 (omega (arith, fires-few D N C)))
+
+    module _ (r : Stepped) (before after : List (List ℕ)) (s : stepsAs w st (stepAnswer w st l 256) r before after) where
+      here : (x : Swept) → step D N C ≡ accepted x → stepsAs w st (room (x .comps) >>= λ cs. accepted (stepOf (x .actions) cs)) r before after
+      here x e = rw (answer-is ∙ ap (λ y. y >>= λ s. room (s .comps) >>= λ cs. accepted (stepOf (s .actions) cs)) e) at s
+
+      turn-at : (x : Swept) → step D N C ≡ accepted x → turnOf D N C ≡ (room (x .comps) >>= λ ds. accepted (record { line = lineText N (fires D N C .labels); comps = ds }))
+      unfolding turnOf
+      turn-at x e = ap (λ y. y >>= λ s. room (s .comps) >>= λ ds. accepted (record { line = lineText N (fires D N C .labels); comps = ds })) e
+
+      module _ {d e : List ℕ} {at a : ℕ} where
+        pub turn-stopped : (r .code ≡ 0 → ⊥) → Wrote d at (refusedText (r .code)) e a → TurnIs w (turnOf D N C) d at e (record { code = r .code; at = a; state = r .state })
+        unfolding room
+        turn-stopped n b = by-step _ (step-accepted D N C)
+          where
+            go : (y : Bool) (cs : List Component) (xs : List Action) (ln : List ℕ) → stepsAs w st (asked 13 y (accepted cs) >>= λ cs. accepted (stepOf xs cs)) r before after → TurnIs w (asked 13 y (accepted cs) >>= λ ds. accepted (record { line = ln; comps = ds })) d at e (record { code = r .code; at = a; state = r .state })
+            go true cs xs ln s = absurd (n (s .code))
+            go false cs xs ln s = record { code = n; wrote = same (ap refusedText (ap (λ x. x .code) (s .0))) b }
+
+            by-step : (x : Swept) → step D N C ≡ accepted x → TurnIs w (turnOf D N C) d at e (record { code = r .code; at = a; state = r .state })
+            by-step x f = rw (turn-at x f) (go (leb (length (x .comps)) 256) (x .comps) (x .actions) (lineText N (fires D N C .labels)) (here x f))
+
+        pub turn-went : r .code ≡ 0 → Wrote d at (lineText N (stepLabels w st l)) e a → TurnIs w (turnOf D N C) d at e (record { code = 0; at = a; state = r .state })
+        unfolding room
+        turn-went z b = by-step _ (step-accepted D N C)
+          where
+            go : (y : Bool) (cs : List Component) (xs : List Action) → stepsAs w st (asked 13 y (accepted cs) >>= λ cs. accepted (stepOf xs cs)) r before after → TurnIs w (asked 13 y (accepted cs) >>= λ ds. accepted (record { line = lineText N (stepLabels w st l); comps = ds })) d at e (record { code = 0; at = a; state = r .state })
+            go true cs xs s = record { code = refl; comps = s .comps; good = s .good; wrote = b }
+            go false cs xs s = let h : r .code ≡ 13 = ap (λ x. x .code) (s .0) in absurd (omega arith)
+
+            by-step : (x : Swept) → step D N C ≡ accepted x → TurnIs w (turnOf D N C) d at e (record { code = 0; at = a; state = r .state })
+            by-step x f = rw (turn-at x f) (go (leb (length (x .comps)) 256) (x .comps) (x .actions) (here x f))
+
+-- ── the network ──
+module _ (w : List ℕ) (st : State) (good : valid w st ≡ true) {t t′ : List ℕ} (long : length t ≡ 65_536) (r : Written) (x : Answers (writeAnswer w st (length t)) t r t′) where
+  abbrev Text : List ℕ
+  Text = textOf w st
+
+  by : (a b : Bool) → noMark w st ≡ a → leb (length Text) 65_536 ≡ b → writeAnswer w st (length t) ≡ cond a (cond b (accepted Text) (refused 15)) (refused 14)
+  unfolding writeAnswer
+  by a b e f = rw (good, e, long, f)
+
+  ending-by : (a b : Bool) → noMark w st ≡ a → leb (length Text) 65_536 ≡ b → ending (defsOf w) (netOf w st) ≡ cond a (cond b Text (refusedText 15)) (refusedText 14)
+  unfolding ending noMark textOf tableNetwork
+  ending-by a b e f = rw (e, f)
+
+  pub ending-refused : (r .code ≡ 0 → ⊥) → refusedText (r .code) ≡ ending (defsOf w) (netOf w st)
+  ending-refused n = go (noMark w st) (leb (length Text) 65_536) refl refl
+    where
+      go : (a b : Bool) → noMark w st ≡ a → leb (length Text) 65_536 ≡ b → refusedText (r .code) ≡ ending (defsOf w) (netOf w st)
+      go true true e f = absurd (n (rw (by true true e f) at (x .code)))
+      go true false e f = ap refusedText (rw (by true false e f) at (x .code)) ∙ sym (ending-by true false e f)
+      go false b e f = ap refusedText (rw (by false b e f) at (x .code)) ∙ sym (ending-by false b e f)
+
+  record Whole : Type 0 where
+    len : r .len ≡ length Text
+    fits : length Text ≤ 65_536
+    bytes : t′ ≡ Text ++ drop (length Text) t
+    text : Text ≡ ending (defsOf w) (netOf w st)
+
+  written : r .code ≡ 0 → Whole
+  written z = go (noMark w st) (leb (length Text) 65_536) refl refl
+    where
+      go : (a b : Bool) → noMark w st ≡ a → leb (length Text) 65_536 ≡ b → Whole
+      go true true e f = record { len = rw (by true true e f) at (x .len); fits = leb-true _ _ f; bytes = rw (by true true e f) at (x .bytes); text = sym (ending-by true true e f) }
+      go true false e f = let h : r .code ≡ 15 = rw (by true false e f) at (x .code) in absurd (omega arith)
+      go false b e f = let h : r .code ≡ 14 = rw (by false b e f) at (x .code) in absurd (omega arith)
+
+  pub ending-short : r .code ≡ 0 → r .len ≤ 65_536
+  ending-short z = let k = written z in let a = k .len in let b = k .fits in omega arith
+
+  pub ending-text : r .code ≡ 0 → take (r .len) t′ ≡ ending (defsOf w) (netOf w st)
+  ending-text z = let k = written z in ap (take (r .len)) (k .bytes) ∙ take-at Text _ (r .len) (sym (k .len)) ∙ k .text
+
+-- ── the rounds ──
+unfoldable pub copies : ℕ → List Name → List Name
+copies zero ls = []
+copies (suc m) ls = ls ++ copies m ls
+
+-- m rounds are left, with l locations of the first done
+unfoldable pub remaining : ℕ → ℕ → List Name → List Name
+remaining zero l ls = []
+remaining (suc m) l ls = drop l ls ++ copies m ls
+
+remaining-first : (m : ℕ) (ls : List Name) → copies m ls ≡ remaining m 0 ls
+unfolding copies remaining
+remaining-first zero ls = refl
+remaining-first (suc m) ls = refl
+
+all-rounds : (ls : List Name) → remaining 4 0 ls ≡ four ls
+unfolding copies remaining
+all-rounds ls = ap (λ x. ls ++ (ls ++ (ls ++ x))) (append-nil ls)
+
+remaining-next : (m l : ℕ) (ls : List Name) → l < length ls → remaining (suc m) l ls ≡ getD ls l [] ∷ remaining (suc m) (l + 1) ls
+unfolding remaining
+remaining-next m l ls h = ap (λ x. x ++ copies m ls) (drop-cons ls l [] h ∙ ap (λ n. getD ls l [] ∷ drop n ls) (sym (add-one l)))
+
+remaining-over : (m l : ℕ) (ls : List Name) → length ls ≤ l → remaining (suc m) l ls ≡ remaining m 0 ls
+unfolding remaining
+remaining-over m l ls h = ap (λ x. x ++ copies m ls) (drop-of-length-le ls h) ∙ remaining-first m ls
+
+named-at : {A : Type 0} (f : ℕ → A) (d : A) (k n i : ℕ) → i < n → getD (listFrom k n f) i d ≡ f (k + i)
+unfolding listFrom
+named-at f d k zero i h = absurd (omega arith)
+named-at f d k (suc n) zero h = ap f (omega arith)
+named-at f d k (suc n) (suc i) h = named-at f d (suc k) n i (omega arith) ∙ ap f (omega arith)
+
+module _ (w : List ℕ) where
+  locs-length : length (locsOf w) ≡ locsIn w
+  unfolding locsOf
+  locs-length = length-listFrom (locName w) 0 (locsIn w)
+
+  loc-at : (l : ℕ) → l < locsIn w → getD (locsOf w) l [] ≡ locName w l
+  unfolding locsOf
+  loc-at l h = named-at (locName w) [] 0 (locsIn w) l h ∙ ap (locName w) (omega arith)
+
+  -- what is left to write, in front of which the buffer holds what was printed
+  abbrev pub Playing : List ℕ → List ℕ → List ℕ → ℕ → State → ℕ → ℕ → Type 0
+  Playing d whole e at st round l = Left d 0 whole e at (playing (defsOf w) (remaining (4 - round) l (locsOf w)) (netOf w st))
+
+  pub play-first : (d : List ℕ) (st : State) → Playing d (playing (defsOf w) (four (locsOf w)) (netOf w st)) d 0 st 0 0
+  play-first d st = left-as (ap (λ ls. playing (defsOf w) ls (netOf w st)) (sym (all-rounds (locsOf w)))) begun
+
+  module _ {d whole e : List ℕ} {at : ℕ} (st : State) (round l : ℕ) (some : round < 4) (inl : l < locsIn w) (p : Playing d whole e at st round l) where
+    rounds-left : 4 - round ≡ suc (3 - round)
+    rounds-left = omega arith
+
+    now-left : Left d 0 whole e at (followed (turnOf (defsOf w) (locName w l) (netOf w st)) (playing (defsOf w) (remaining (4 - round) (l + 1) (locsOf w))))
+    unfolding playing
+    now-left =
+        left-as (ap (λ ls. playing (defsOf w) ls (netOf w st)) (ap (λ m. remaining m l (locsOf w)) rounds-left ∙ remaining-next (3 - round) l (locsOf w) (omega (arith, locs-length)) ∙ ap (λ x. x ∷ remaining (suc (3 - round)) (l + 1) (locsOf w)) (loc-at l inl) ∙ ap (λ m. locName w l ∷ remaining m (l + 1) (locsOf w)) (sym rounds-left))) p
+
+    module _ {e′ : List ℕ} (r : Turned) (t : TurnIs w (turnOf (defsOf w) (locName w l) (netOf w st)) e at e′ r) where
+      -- refused
+      pub play-stopped : (r .code ≡ 0 → ⊥) → Wrote d 0 whole e′ (r .at)
+      play-stopped n = go (turnOf (defsOf w) (locName w l) (netOf w st)) now-left t
+        where
+          go : (x : Answer Turn) → Left d 0 whole e at (followed x (playing (defsOf w) (remaining (4 - round) (l + 1) (locsOf w)))) → TurnIs w x e at e′ r → Wrote d 0 whole e′ (r .at)
+          go (refused m) k s = last k (s .wrote)
+          go (accepted u) k s = absurd (n (s .code))
+
+      module _ (z : r .code ≡ 0) where
+        pub play-on : (valid w (r .state) ≡ true) × Playing d whole e′ (r .at) (r .state) round (l + 1)
+        play-on = go (turnOf (defsOf w) (locName w l) (netOf w st)) now-left t
+          where
+            go : (x : Answer Turn) → Left d 0 whole e at (followed x (playing (defsOf w) (remaining (4 - round) (l + 1) (locsOf w)))) → TurnIs w x e at e′ r → (valid w (r .state) ≡ true) × Playing d whole e′ (r .at) (r .state) round (l + 1)
+            go (refused m) k s = absurd (s .code z)
+            go (accepted u) k s = (s .good, left-as (ap (playing (defsOf w) (remaining (4 - round) (l + 1) (locsOf w))) (sym (s .comps))) (put-step k (s .wrote)))
+
+        -- the round is over
+        pub play-next : l + 1 ≡ locsIn w → Playing d whole e′ (r .at) (r .state) (round + 1) 0
+        play-next h =
+            let m : 4 - (round + 1) ≡ 3 - round = omega arith in
+            left-as (ap (λ ls. playing (defsOf w) ls (netOf w (r .state))) (ap (λ m. remaining m (l + 1) (locsOf w)) rounds-left ∙ remaining-over (3 - round) (l + 1) (locsOf w) (omega (arith, locs-length)) ∙ ap (λ n. remaining n 0 (locsOf w)) (sym m))) (play-on .1)
+
+  -- all rounds are over
+  pub play-end : {d whole e e′ : List ℕ} {at r : ℕ} (st : State) (round l : ℕ) → 4 ≤ round → Playing d whole e at st round l → Wrote e at (ending (defsOf w) (netOf w st)) e′ r → Wrote d 0 whole e′ r
+  unfolding playing remaining
+  play-end st round l h p b = let m : 4 - round ≡ 0 = omega arith in last (left-as (ap (λ n. playing (defsOf w) (remaining n l (locsOf w)) (netOf w st)) m) p) b
+
+-- ── the whole ──
+-- no question has the number 0
+pub never-0 : (s : List ℕ) → read s ≡ refused 0 → ⊥
+unfolding read form
+never-0 s e = go (short s) (text (lex s)) e
+  where
+    clash : {n : ℕ} → _≡_ {A = Answer Network} (refused (suc n)) (refused 0) → ⊥
+    clash {n} e = let z : _≡_ {A = ℕ} (suc n) 0 = cc in omega arith
+
+    tree : (t : Tree) (a b c d f : Bool) → (ask 3 a >> (ask 4 b >> (ask 5 c >> (ask 6 d >> (ask 7 f >> accepted (networkOf t)))))) ≡ refused 0 → ⊥
+    tree t false b c d f e = clash e
+    tree t true false c d f e = clash e
+    tree t true true false d f e = clash e
+    tree t true true true false f e = clash e
+    tree t true true true true false e = clash e
+    tree t true true true true true e = let z : _≡_ {A = ℕ} 0 1 = cc in omega arith
+
+    go : (y : Bool) (x : Rest Tree) → (ask 1 y >> (whole x >>= λ t. ask 3 (shallow t) >> (ask 4 (fits t) >> (ask 5 (distinct (t .defs)) >> (ask 6 (callsMet t) >> (ask 7 (bound t) >> accepted (networkOf t))))))) ≡ refused 0 → ⊥
+    go false x e = clash e
+    go true bad e = clash e
+    go true (ok t us) e = tree t (shallow t) (fits t) (distinct (t .defs)) (callsMet t) (bound t) e
+
+module _ (s w v : List ℕ) (r : Reading) (x : ReadsAs s w v r) where
+  pub whole-refused : (r .code ≡ 0 → ⊥) → refusedText (r .code) ≡ printout s
+  unfolding printout
+  whole-refused n = go (read s) x
+    where
+      go : (y : Answer Network) → readsAs s y w v r → refusedText (r .code) ≡ printed (locationsIn (form s)) y
+      go (refused m) k = ap refusedText (ap (λ q. q .code) (k .0))
+      go (accepted m) k = absurd (n (k .code))
+
+  module _ (z : r .code ≡ 0) where
+    not-refused : (m : ℕ) → read s ≡ refused m → r ≡ refusal m → ⊥
+    not-refused m e k = let h : m ≡ 0 = sym (ap (λ q. q .code) k) ∙ z in never-0 s (e ∙ ap refused h)
+
+    pub whole-good : valid v (r .state) ≡ true
+    whole-good = go (read s) refl x
+      where
+        go : (y : Answer Network) → read s ≡ y → readsAs s y w v r → valid v (r .state) ≡ true
+        go (refused m) e k = absurd (not-refused m e (k .0))
+        go (accepted m) e k = k .good
+
+    pub whole-printed : playing (defsOf v) (four (locsOf v)) (netOf v (r .state)) ≡ printout s
+    unfolding printout tableNetwork
+    whole-printed = go (read s) refl x
+      where
+        go : (y : Answer Network) → read s ≡ y → readsAs s y w v r → playing (defsOf v) (four (locsOf v)) (netOf v (r .state)) ≡ printed (locationsIn (form s)) y
+        go (refused m) e k = absurd (not-refused m e (k .0))
+        go (accepted m) e k = rw (k .locs, ← k .network)

@@ -1,0 +1,41 @@
+-- The text is refused, or its network plays.
+use native.Mathlib.Omega.{arith}
+use mathlib.Core.Path.{_≡_, refl, sym, ap, _∙_}
+use borrow.Author.Needs.{needs}
+use Rattle.text_write.proofs.Puts.{same}
+use Rattle.run_print.proofs.Playing.{whole-refused, whole-good, whole-printed}
+use Rattle.run_print.proofs.printout.Statement.{statement}
+use Rattle.run_print.proofs.printout.Tie as tie
+
+read-requires : tie.Need-read-requires
+read-requires c κs = search needs
+
+put-refused-requires : tie.Need-put-refused-requires
+put-refused-requires c κs = search needs
+
+same-length : tie.Need-same-length
+same-length c = search needs
+
+returns : tie.Need-returns
+returns c = same (whole-refused _ _ _ _ (c .before .before .before .before .before .before .read .ensures) (c .before .before .before .before .if1 .taken)) (c .before .before .put-refused .ensures)
+
+play-requires : tie.Need-play-requires
+play-requires c κs = whole-good _ _ _ _ (c .before .before .before .before .before .read .ensures) (omega (arith, c .before .before .before .if1 .left))
+
+same-length-2 : tie.Need-same-length-2
+same-length-2 c = search needs
+
+returns-2 : tie.Need-returns-2
+returns-2 c = same (whole-printed _ _ _ _ (c .before .before .before .before .before .before .before .before .read .ensures) (omega (arith, c .before .before .before .before .before .before .if1 .left))) (c .before .before .play .ensures)
+
+pub printout-spec : {M : Type 1} → statement M
+printout-spec =
+    tie.close
+    (tie.spec
+    read-requires
+    put-refused-requires
+    same-length
+    returns
+    play-requires
+    same-length-2
+    returns-2)

@@ -1,0 +1,124 @@
+// Layer 4, the program: the whole printout of a text, as document 01 says of `timorun`, in a lent buffer.
+//
+// specs/Print     the printout
+// specs/Examples  document 01's own printout, computed
+// proofs/Playing  the ways of the code to it
+ghost use mathlib.Core.Bool.{true};
+ghost use mathlib.Core.Path.{_≡_};
+ghost use Prim.Native.Nat.{_≤_, _<_};
+ghost use lib.ListN.{length, take};
+ghost use Rattle.text_write.specs.Put.{Wrote};
+ghost use Rattle.table.specs.Words.{locsIn, locName};
+ghost use Rattle.table.specs.Meaning.{defsOf, netOf};
+ghost use Rattle.table.specs.Valid.{valid};
+ghost use Rattle.text_build.specs.Rows.{locsOf};
+ghost use Rattle.run_print.specs.Print.{refusedText, turnOf, ending, four, playing, printout};
+ghost use Rattle.run_print.specs.Turned.{TurnIs};
+use run_line::put_line;
+use table::State;
+use table::words::wide;
+use table::words::word;
+use text_write::put::put;
+use text_write::put::put_all;
+use text_write::put::put_number;
+
+// After a step: 0 or the number of its refusal, the place behind what was written, and the components.
+pub struct Turned {
+    pub code: u32,
+    pub at: usize,
+    pub state: State,
+}
+
+// `refused N`
+fn put_refused(n: u32, buf: &mut [u8], at: usize) -> usize
+    ensures { λ r. ⌜ Wrote (now (buf .entry)) at (refusedText n) (now (buf .exit)) r ⌝ }
+{
+    let a = put_all(b"refused ", buf, at);
+    let b = put_number(n, buf, a);
+    put(b'\n', buf, b)
+}
+
+// The step at the location l, and its line or its refusal.
+fn turn(w: &[u32; 99592], st: State, l: u32, buf: &mut [u8], at: usize) -> Turned
+    requires { ⌜ (valid (now w) st ≡ true) × (l < locsIn (now w)) ⌝ }
+    ensures { λ r. ⌜ TurnIs (now (w .entry)) (turnOf (defsOf (now (w .entry))) (locName (now (w .entry)) l) (netOf (now (w .entry)) st)) (now (buf .entry)) at (now (buf .exit)) r ⌝ }
+{
+    let mut records = [[0; 3]; 256];
+    let s = calls::step_at(w, st, l, &mut records);
+    let next = s.state;
+    if s.code != 0 {
+        let a = put_refused(s.code, buf, at);
+        return Turned {
+            code: s.code,
+            at: a,
+            state: next,
+        };
+    }
+    let b = put_line(w, st, l, &records, s.count, buf, at);
+    Turned {
+        code: 0,
+        at: b,
+        state: next,
+    }
+}
+
+// The first n bytes of s.
+fn put_first(s: &[u8], n: usize, buf: &mut [u8], at: usize) -> usize
+    requires { ⌜ n ≤ length (now s) ⌝ }
+    ensures { λ r. ⌜ Wrote (now (buf .entry)) at (take n (now (s .entry))) (now (buf .exit)) r ⌝ }
+{
+    put_all(&s[..n], buf, at)
+}
+
+// The network, in 65,536 bytes, or the refusal to write it.
+fn put_network(w: &[u32; 99592], st: State, buf: &mut [u8], at: usize) -> usize
+    requires { ⌜ valid (now w) st ≡ true ⌝ }
+    ensures { λ r. ⌜ Wrote (now (buf .entry)) at (ending (defsOf (now (w .entry))) (netOf (now (w .entry)) st)) (now (buf .exit)) r ⌝ }
+{
+    let mut text = [0; 65536];
+    let r = text_write::write(w, st, &mut text);
+    if r.code != 0 {
+        return put_refused(r.code, buf, at);
+    }
+    put_first(&text, r.len, buf, at)
+}
+
+// Four rounds of steps over all locations by number, then the network.
+fn play(w: &[u32; 99592], st: State, buf: &mut [u8]) -> usize
+    requires { ⌜ valid (now w) st ≡ true ⌝ }
+    ensures { λ r. ⌜ Wrote (now (buf .entry)) 0 (playing (defsOf (now (w .entry))) (four (locsOf (now (w .entry)))) (netOf (now (w .entry)) st)) (now (buf .exit)) r ⌝ }
+{
+    let n = wide(word(w, 1));
+    let mut now = st;
+    let mut at = 0;
+    let mut round: usize = 0;
+    let mut l: usize = 0;
+    while round < 4 {
+        let t = turn(w, now, l as u32, buf, at);
+        at = t.at;
+        if t.code != 0 {
+            return at;
+        }
+        let next = t.state;
+        now = next;
+        l += 1;
+        if l == n {
+            l = 0;
+            round += 1;
+        }
+    }
+    put_network(w, now, buf, at)
+}
+
+// The printout of a text, from the buffer's first byte on: its length. Bytes behind the buffer's end are counted and dropped.
+pub fn printout(text: &[u8], buf: &mut [u8]) -> usize
+    ensures { λ r. ⌜ Wrote (now (buf .entry)) 0 (printout (now (text .entry))) (now (buf .exit)) r ⌝ }
+{
+    let mut w = [0; 99592];
+    let r = text_read::read(text, &mut w);
+    if r.code != 0 {
+        return put_refused(r.code, buf, 0);
+    }
+    let st = r.state;
+    play(&w, st, buf)
+}

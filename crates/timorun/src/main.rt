@@ -1,0 +1,29 @@
+// Layer 4, the program: reads a text from standard input and writes its printout, which `run_print` promises byte by byte.
+//
+// A text of 65,536 bytes or more fills the buffer, and so is refused by question 1, in however many pieces it comes.
+// A printout has at most 4 rounds of 64 lines of 13,329 bytes, and the text of the network in 65,536.
+
+ghost use mathlib.Core.Path.{_≡_};
+ghost use lib.ListN.{length};
+
+// The first n bytes to standard output. A write that fails ends the program.
+fn emit(out: &[u8], n: usize) {
+    if n <= out.len() {
+        io::write_all(1, &out[..n]);
+    }
+}
+
+// Space for a printout.
+fn space() -> [u8; 3477760]
+    ensures { λ r. ⌜ 3477760 ≡ length r ⌝ }
+{
+    [0; 3477760]
+}
+
+fn main() {
+    let mut text = io::large_buffer();
+    let n = io::read_full(0, &mut text);
+    let mut out = space();
+    let k = run_print::printout(&text[..n], &mut out);
+    emit(&out, k);
+}
