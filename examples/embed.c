@@ -1,11 +1,16 @@
-/* The library from C: the network `A[go(1,B,stop)] .` as a table, two steps at
- * A, the written text after each, and a refused tick. */
+/* The library from C: a network read from text, two steps at A, the written
+ * text after each, a refused tick, the comparison with another text, and what
+ * is refused. */
 #include <stdio.h>
+#include <string.h>
 #include "timo.h"
 
-enum { COUNTS = 0, LOCATIONS = 776, PARTS = 1288, ROW = 24 };
+static uint32_t script[TIMO_WORDS], other[TIMO_WORDS];
 
-static uint32_t script[TIMO_WORDS];
+static struct timo_reading read_text(const char *text, uint32_t words[TIMO_WORDS])
+{
+    return timo_read((const uint8_t *)text, strlen(text), words);
+}
 
 static void show(struct timo_state state)
 {
@@ -20,22 +25,15 @@ static void show(struct timo_state state)
 int main(void)
 {
     uint32_t records[TIMO_COMPONENTS][3];
-    struct timo_state state = { .n = 1 };
-    uint32_t *go = script + PARTS + ROW; /* place 1; place 0 holds its P, `stop` */
+    struct timo_reading reading = read_text("A[go(1,B,stop)] .", script);
+    struct timo_state state = reading.state;
+    struct timo_compared compared;
     int round;
 
-    script[COUNTS] = 2;     /* parts */
-    script[COUNTS + 1] = 2; /* locations */
-    script[LOCATIONS] = 'A';
-    script[LOCATIONS + 4] = 'B';
-    go[0] = 1; /* kind: a move */
-    go[2] = 1; /* its timer */
-    go[3] = 1; /* to location number 1, B */
-    go[4] = 0; /* the place of P */
-    state.c[0].mark = TIMO_UNMARKED;
-    state.c[0].place = 1;
-    state.c[0].timer = 1;
-
+    if (reading.code != 0) {
+        printf("refused %u\n", (unsigned)reading.code);
+        return 1;
+    }
     show(state);
     for (round = 0; round < 2; round++) {
         struct timo_stepped stepped = timo_step(script, state, 0, records, TIMO_COMPONENTS);
@@ -45,6 +43,10 @@ int main(void)
         if (round == 0)
             printf("tick: refused %u\n", (unsigned)timo_tick(script, state, 0).code);
     }
+    reading = read_text("B[stop] .", other);
+    compared = timo_same(script, state, other, reading.state);
+    printf("same: code %u, %s\n", (unsigned)compared.code, compared.yes ? "yes" : "no");
+    printf("unbound variable: refused %u\n", (unsigned)read_text("A[go(1,x,stop)] .", other).code);
     state.n = 0;
     printf("no component: refused %u\n", (unsigned)timo_tick(script, state, 0).code);
     return 0;

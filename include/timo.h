@@ -1,10 +1,11 @@
 /* The proved step engine for TiMo as a library.
  *
- * A network is a script, 99,592 words that no call changes, and a state, the
- * components. Every call takes tables of any content and first asks question
- * 17: does the table stand for a network? A call that is refused answers the
- * question's number as its code and returns the state that it was given; what
- * was lent to it is unchanged. Code 0 is no refusal.
+ * A network is a script, 99,592 words that reading writes and no other call
+ * changes, and a state, the components. Every call on a network takes tables of
+ * any content and first asks question 17: does the table stand for a network? A
+ * call that is refused answers the question's number as its code and returns
+ * the state that it was given; what was lent to it is unchanged. Code 0 is no
+ * refusal.
  *
  * The words of a script are set out in crates/table/specs/Words.antt, what
  * they stand for in Meaning.antt, the contract of each call in
@@ -46,6 +47,11 @@ struct timo_record {
     uint32_t kind, p, q;
 };
 
+struct timo_reading {
+    uint32_t code;
+    struct timo_state state;
+};
+
 struct timo_acted {
     uint32_t code;
     struct timo_label label;
@@ -74,6 +80,20 @@ struct timo_written {
     size_t len;               /* bytes written */
 };
 
+struct timo_compared {
+    uint32_t code;
+    bool yes;
+};
+
+/* Reading: the network of a text of n bytes, its script in the words lent and
+ * its components in the state returned. The words may hold anything before.
+ * Locations and channels are numbered by first place in the text; components
+ * stand in text order, unmarked. A refusal leaves the words unchanged and
+ * returns a state of zeros. Refusals: 1 to 7. It goes one level deeper for each
+ * level of nesting in the text, at most 9,361, and needs up to 1.8 MiB of
+ * stack. */
+struct timo_reading timo_read(const uint8_t *text, size_t n, uint32_t script[TIMO_WORDS]);
+
 /* Question 17. */
 bool timo_valid(const uint32_t script[TIMO_WORDS], struct timo_state state);
 
@@ -101,5 +121,12 @@ struct timo_report timo_forced(const uint32_t script[TIMO_WORDS], struct timo_st
 /* The network as text in the n bytes lent. Bytes past the length are
  * unchanged. Refusals: 17, 14, 15. */
 struct timo_written timo_write(const uint32_t script[TIMO_WORDS], struct timo_state state, uint8_t *bytes, size_t n);
+
+/* Whether two networks are the same: the same definitions as a set and, in any
+ * order, the same components, each as often, location and owner by name, parts
+ * letter by letter with values put in. The numbers that names have do not count,
+ * nor does a name that no longer occurs. yes is false where code is not 0.
+ * Refusal: 17, for either network. */
+struct timo_compared timo_same(const uint32_t script_a[TIMO_WORDS], struct timo_state a, const uint32_t script_b[TIMO_WORDS], struct timo_state b);
 
 #endif

@@ -1,62 +1,115 @@
-//! A list of calls through both engines.
+//! A script and a list of calls through both engines.
 
 use timo_reference::calls::{Engine, Record};
 use timo_reference::lists::Call;
+use timo_reference::random::Random;
+use timo_reference::runs::{Broken, Run};
 use timo_reference::term::Network;
 use timo_reference::writing;
 
+use crate::agree::{equal, Agreed};
+use crate::alike;
+use crate::reading::{self, Pair};
 use crate::table;
 use crate::timo::{self, Table};
 
 const BLANK: [u32; 3] = [77; 3];
 const BLANK_BYTE: u8 = b'#';
 
-/// How many calls were accepted and refused by both.
+/// How many calls were accepted and refused by both, and how many pairs of
+/// networks are the same and not the same by both.
 #[derive(Clone, Copy, Debug, Default)]
 pub struct Tally {
     pub accepted: usize,
     pub refused: usize,
+    pub pairs: alike::Tally,
 }
 
-/// Where the two engines differ: the call's index, or none for the table as
-/// built, and what each said.
-#[derive(Debug)]
+impl Tally {
+    pub fn add(&mut self, other: Tally) {
+        self.accepted += other.accepted;
+        self.refused += other.refused;
+        self.pairs.same += other.pairs.same;
+        self.pairs.not_same += other.pairs.not_same;
+        self.pairs.refused += other.pairs.refused;
+    }
+
+    /// Whether there was something of every sort.
+    pub fn is_everywhere(&self) -> bool {
+        let pairs = self.pairs;
+        let counts = [
+            self.accepted,
+            self.refused,
+            pairs.same,
+            pairs.not_same,
+            pairs.refused,
+        ];
+        counts.iter().all(|count| *count > 0)
+    }
+}
+
+/// Where the engines first differ.
+#[derive(Clone, Copy, Debug, PartialEq, Eq)]
+pub enum Place {
+    Reading,
+    Call(usize),
+    /// The grouped run as a whole.
+    End,
+}
+
+/// Where the two engines differ, and what each said.
+#[derive(Clone, Debug)]
 pub struct Difference {
-    pub call: Option<usize>,
+    pub place: Place,
     pub what: String,
 }
 
-/// Puts the calls to both engines, each on the network that the calls before
-/// it left. `engine` may be a wrong variant, for which a difference is wanted.
-pub fn differ(engine: Engine, network: Network, calls: &[Call]) -> Result<Tally, Difference> {
-    let mut pair = Pair {
-        engine,
-        table: table::of(&network),
-        network,
-        tally: Tally::default(),
+/// Reads the script by both engines and puts the calls to both, each on the
+/// network that the calls before it left. What the proved engine accepted is
+/// run again straight and grouped, by the right rules. A script that both
+/// refuse makes no calls. `engine` may be a wrong variant, for which a
+/// difference is wanted.
+pub fn differ(engine: Engine, script: &[u8], calls: &[Call]) -> Result<Tally, Difference> {
+    let at = |place| move |what| Difference { place, what };
+    let read = reading::read(script).map_err(at(Place::Reading))?;
+    let Ok(pair) = read else {
+        return Ok(Tally::default());
     };
-    let built = pair.valid().and_then(|()| pair.components());
-    built.map_err(|what| Difference { call: None, what })?;
+    let run = Run::new(&table::network(&pair.table));
+    let mut session = Session::new(engine, pair, Some(run));
+    session.compare(0).map_err(at(Place::Reading))?;
     for (index, call) in calls.iter().enumerate() {
-        let answered = pair.put(call).and_then(|()| pair.components());
-        answered.map_err(|what| Difference {
-            call: Some(index),
-            what,
-        })?;
+        let answered = session.put(call, index);
+        let answered = answered.and_then(|()| session.components());
+        answered.map_err(at(Place::Call(index)))?;
     }
-    Ok(pair.tally)
+    let tally = session.tally;
+    session.finish().map_err(at(Place::End))?;
+    Ok(tally)
 }
 
-struct Pair {
+struct Session {
     engine: Engine,
     table: Table,
     network: Network,
+    kept: Pair,
+    /// The run of what the proved engine accepted, if it began with reading.
+    run: Option<Run>,
     tally: Tally,
 }
 
-type Agreed = Result<(), String>;
+impl Session {
+    fn new(engine: Engine, pair: Pair, run: Option<Run>) -> Session {
+        Session {
+            engine,
+            run,
+            kept: pair.clone(),
+            table: pair.table,
+            network: pair.network,
+            tally: Tally::default(),
+        }
+    }
 
-impl Pair {
     fn valid(&self) -> Agreed {
         equal("question 17", &self.table.is_valid(), &true)
     }
@@ -74,7 +127,7 @@ impl Pair {
         )
     }
 
-    fn put(&mut self, call: &Call) -> Agreed {
+    fn put(&mut self, call: &Call, index: usize) -> Agreed {
         match call {
             Call::Action(record) => self.action(*record),
             Call::Tick(location) => self.tick(*location),
@@ -82,8 +135,9 @@ impl Pair {
             Call::Proposal { location, records } => self.proposal(*location, records),
             Call::Forced => self.forced(),
             Call::Write { room } => self.write(*room),
-            // the library has neither reading nor `same`
-            Call::Keep | Call::Same | Call::Like(_) => Ok(()),
+            Call::Keep => self.keep(index),
+            Call::Same => self.same(),
+            Call::Like(text) => self.like(text),
         }
     }
 
@@ -100,7 +154,7 @@ impl Pair {
         });
         let theirs = theirs.map_err(|refusal| u32::from(refusal.number()));
         equal("action", &ours, &theirs)?;
-        self.settle(ours.is_ok(), &before)
+        self.settle(ours.is_ok(), &before, |run| run.action(record))
     }
 
     fn tick(&mut self, location: u32) -> Agreed {
@@ -110,7 +164,7 @@ impl Pair {
         let theirs = theirs.map(|network| self.network = network);
         let theirs = theirs.map_err(|refusal| u32::from(refusal.number()));
         equal("tick", &ours, &theirs)?;
-        self.settle(ours.is_ok(), &before)
+        self.settle(ours.is_ok(), &before, |run| run.tick(location))
     }
 
     fn step(&mut self, location: u32, room: usize) -> Agreed {
@@ -127,7 +181,11 @@ impl Pair {
         equal("step", &ours, &theirs)?;
         let theirs_lent: Vec<[u32; 3]> = theirs_lent.iter().map(|r| [r.kind, r.p, r.q]).collect();
         equal("records lent to a step", &ours_lent, &theirs_lent)?;
-        self.settle(ours.is_ok(), &before)
+        let taken = ours_lent.iter().take(ours.unwrap_or(0));
+        let taken: Vec<Record> = taken.map(|[k, p, q]| Record::new(*k, *p, *q)).collect();
+        self.settle(ours.is_ok(), &before, |run| {
+            run.whole_step(location, &taken)
+        })
     }
 
     fn proposal(&mut self, location: u32, records: &[Record]) -> Agreed {
@@ -145,7 +203,9 @@ impl Pair {
         let theirs = theirs.map(|(network, _)| self.network = network);
         let theirs = theirs.map_err(|refusal| u32::from(refusal.number()));
         equal("proposal", &ours, &theirs)?;
-        self.settle(ours.is_ok(), &before)
+        self.settle(ours.is_ok(), &before, |run| {
+            run.whole_step(location, records)
+        })
     }
 
     fn forced(&self) -> Agreed {
@@ -171,15 +231,94 @@ impl Pair {
             "bytes lent to write",
             &text(&ours_lent),
             &text(&theirs_lent),
+        )?;
+        match ours {
+            Ok(length) => self.read_back(&ours_lent[..length]),
+            Err(_) => Ok(()),
+        }
+    }
+
+    /// Where the written text meets the limits, reading it gives the network.
+    /// The words lent still hold the script.
+    fn read_back(&self, text: &[u8]) -> Agreed {
+        let Ok(again) = reading::read_over(text, self.table.words.clone())? else {
+            return Ok(());
+        };
+        equal(
+            "same as the text read back",
+            &again.table.same(&self.table),
+            &Ok(true),
+        )?;
+        let ours = table::network(&self.table);
+        let back = table::network(&again.table);
+        equal("components read back", &back.components, &ours.components)?;
+        let definitions = &back.script.definitions;
+        equal(
+            "definitions read back",
+            definitions,
+            &ours.script.definitions,
+        )
+    }
+
+    /// Keeps the network, and compares it with others that are made from it.
+    fn keep(&mut self, index: usize) -> Agreed {
+        self.kept = Pair {
+            table: self.table.clone(),
+            network: self.network.clone(),
+        };
+        self.compare(index)
+    }
+
+    /// One of the networks made by hand goes through both engines by itself.
+    fn compare(&mut self, index: usize) -> Agreed {
+        let mut random = Random::new(index as u64);
+        let made = alike::compare(&mut random, &self.table, &mut self.tally.pairs)?;
+        let locations = made.table.words[1];
+        let mut session = Session::new(Engine::default(), made, None);
+        let steps = (0..locations).map(|location| Call::Step {
+            location,
+            room: 256,
+        });
+        for call in steps.chain([Call::Forced, Call::Write { room: 65_536 }]) {
+            session.put(&call, index)?;
+            session.components()?;
+        }
+        Ok(())
+    }
+
+    fn same(&self) -> Agreed {
+        let theirs = self.engine.same(&self.network, &self.kept.network);
+        equal("same", &self.table.same(&self.kept.table), &Ok(theirs))
+    }
+
+    /// Reads a text and compares the network with it. The words lent still
+    /// hold this network's script.
+    fn like(&self, text: &str) -> Agreed {
+        let words = self.table.words.clone();
+        let Ok(other) = reading::read_over(text.as_bytes(), words)? else {
+            return Ok(());
+        };
+        let theirs = self.engine.same(&self.network, &other.network);
+        equal("same", &self.table.same(&other.table), &Ok(theirs))?;
+        equal(
+            "same, exchanged",
+            &other.table.same(&self.table),
+            &Ok(theirs),
         )
     }
 
     /// Counts the answer; a refusal has left the state as it was, and what an
-    /// accepted call returned passes question 17.
-    fn settle(&mut self, accepted: bool, before: &timo::State) -> Agreed {
+    /// accepted call returned passes question 17 and feeds the run.
+    fn settle(
+        &mut self,
+        accepted: bool,
+        before: &timo::State,
+        feed: impl FnOnce(&mut Run) -> Result<(), Broken>,
+    ) -> Agreed {
         if accepted {
             self.tally.accepted += 1;
-            return self.valid();
+            self.valid()?;
+            return held(self.run.as_mut().map_or(Ok(()), feed));
         }
         self.tally.refused += 1;
         equal(
@@ -188,13 +327,13 @@ impl Pair {
             &true,
         )
     }
+
+    fn finish(self) -> Agreed {
+        let last = table::network(&self.table);
+        held(self.run.map_or(Ok(()), |run| run.finish(&last)))
+    }
 }
 
-fn equal<T: PartialEq + std::fmt::Debug>(what: &str, ours: &T, theirs: &T) -> Agreed {
-    if ours == theirs {
-        return Ok(());
-    }
-    Err(format!(
-        "{what}\n  proved engine    {ours:?}\n  reference engine {theirs:?}"
-    ))
+fn held(run: Result<(), Broken>) -> Agreed {
+    run.map_err(|broken| format!("grouped run: {broken}"))
 }

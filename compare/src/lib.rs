@@ -1,12 +1,20 @@
 //! The proved engine's library held against the reference engine, call by
 //! call.
 //!
-//! | module   | what it holds                                            |
-//! |----------|----------------------------------------------------------|
-//! | `timo`   | the library's declarations, and a safe interface to them |
-//! | `table`  | a table from a network, and the network of a table       |
-//! | `differ` | a list of calls through both engines                     |
+//! | module    | what it holds                                            |
+//! |-----------|----------------------------------------------------------|
+//! | `timo`    | the library's declarations, and a safe interface to them |
+//! | `table`   | the network of a table                                   |
+//! | `agree`   | whether both say the same                                |
+//! | `reading` | a text through both readers                              |
+//! | `alike`   | `same` on networks made from one another                 |
+//! | `differ`  | a script and a list of calls through both engines        |
+//! | `shrink`  | a smaller script and list that still show a difference   |
 
+pub mod agree;
+pub mod alike;
 pub mod differ;
+pub mod reading;
+pub mod shrink;
 pub mod table;
 pub mod timo;

@@ -1,25 +1,22 @@
-//! `compare SEED N`: N generated scripts with call lists through the proved
-//! engine's library and the reference engine. Prints the first difference with
-//! its script and a shortened list, and ends with status 1; then puts each
-//! wrong variant of the rules in the reference's place and says of any that no
-//! list has told apart.
+//! `compare SEED N`: N generated scripts with call lists, and ten times as many
+//! texts of any sort, through the proved engine's library and the reference
+//! engine. Prints the first difference with its seed, a shrunken script and
+//! list, and ends with status 1; then puts each wrong variant of the rules in
+//! the reference's place and says of any that no list has told apart.
 
 use std::env;
 use std::process::ExitCode;
 
-use compare::differ::{differ, Difference, Tally};
+use compare::differ::{differ, Place, Tally};
+use compare::reading;
+use compare::shrink::{shrink, Case};
 use timo_reference::calls::Engine;
-use timo_reference::generate;
+use timo_reference::generate::{self, edges};
 use timo_reference::lists::{self, Call};
 use timo_reference::rules::Variant;
-use timo_reference::term::Network;
 
-struct Case {
-    seed: u64,
-    script: Vec<u8>,
-    network: Network,
-    calls: Vec<Call>,
-}
+/// Texts of any sort to one list.
+const TEXTS: u64 = 10;
 
 fn main() -> ExitCode {
     let numbers: Option<Vec<u64>> = env::args().skip(1).map(|word| word.parse().ok()).collect();
@@ -27,79 +24,148 @@ fn main() -> ExitCode {
         eprintln!("usage: compare SEED N");
         return ExitCode::FAILURE;
     };
-    let cases: Vec<Case> = (0..*count)
-        .filter_map(|index| case(generate::seed(*seed, index)))
-        .collect();
-    let mut total = Tally::default();
-    for case in &cases {
-        match differ(Engine::default(), case.network.clone(), &case.calls) {
-            Ok(tally) => {
-                total.accepted += tally.accepted;
-                total.refused += tally.refused;
-            }
-            Err(difference) => {
-                report(case, difference);
-                return ExitCode::FAILURE;
-            }
+    let compared = texts(*seed, *count)
+        .and_then(|()| all_lists(*seed, *count))
+        .and_then(|lists| variants(&lists));
+    match compared {
+        Ok(()) => ExitCode::SUCCESS,
+        Err(why) => {
+            println!("{why}");
+            ExitCode::FAILURE
         }
     }
+}
+
+/// Texts at each limit and past it, and texts of any sort.
+fn texts(seed: u64, count: u64) -> Result<(), String> {
+    let mut numbers = [0; 8];
+    let mut read = |name: String, text: Vec<u8>| {
+        let Ok(read) = reading::read(&text) else {
+            return Err(report(&name, Engine::default(), &text, &[]));
+        };
+        numbers[read.err().unwrap_or(0) as usize] += 1;
+        Ok(())
+    };
+    for (choice, past) in (0..edges::LIMITS).flat_map(|choice| [(choice, 0), (choice, 1)]) {
+        read(
+            format!("limit {choice}, {past} past"),
+            edges::limit(choice, past),
+        )?;
+    }
+    for index in 0..count * TEXTS {
+        let seed = generate::seed(seed, index);
+        read(format!("text of seed {seed}"), generate::script(seed))?;
+    }
     println!(
-        "{} lists, {} calls accepted and {} refused by both alike",
-        cases.len(),
+        "texts by both alike: {} read, refused 1 to 7: {:?}",
+        numbers[0],
+        &numbers[1..]
+    );
+    enough(
+        numbers.iter().all(|count| *count > 0),
+        "a question that no text meets",
+    )
+}
+
+/// A script that both read, with its list.
+struct List {
+    seed: u64,
+    script: Vec<u8>,
+    calls: Vec<Call>,
+}
+
+fn all_lists(seed: u64, count: u64) -> Result<Vec<List>, String> {
+    let seeds = (0..count).map(|index| generate::seed(seed, index));
+    let lists: Vec<List> = seeds
+        .map(list)
+        .filter(|list| !list.calls.is_empty())
+        .collect();
+    let mut total = Tally::default();
+    for List {
+        seed,
+        script,
+        calls,
+    } in &lists
+    {
+        let Ok(tally) = differ(Engine::default(), script, calls) else {
+            return Err(report(
+                &format!("list of seed {seed}"),
+                Engine::default(),
+                script,
+                calls,
+            ));
+        };
+        total.add(tally);
+    }
+    println!(
+        "{} lists, calls by both alike: {} accepted, {} refused; the grouped run holds",
+        lists.len(),
         total.accepted,
         total.refused
     );
+    println!(
+        "pairs of networks by both alike: {} same, {} not the same, {} refused 17",
+        total.pairs.same, total.pairs.not_same, total.pairs.refused
+    );
+    enough(total.is_everywhere(), "no call of one sort")?;
+    Ok(lists)
+}
+
+fn list(seed: u64) -> List {
+    let script = generate::script_to_run(seed);
+    let calls = generate::calls(seed, &script);
+    List {
+        seed,
+        script,
+        calls,
+    }
+}
+
+/// Each wrong variant differs from the proved engine on some list.
+fn variants(lists: &[List]) -> Result<(), String> {
+    let noticed = |variant: Variant| {
+        let differs =
+            |list: &List| differ(Engine::new(variant), &list.script, &list.calls).is_err();
+        lists.iter().any(differs)
+    };
     let unnoticed: Vec<Variant> = Variant::WRONG
         .into_iter()
-        .filter(|variant| !cases.iter().any(|case| noticed(*variant, case)))
+        .filter(|v| !noticed(*v))
         .collect();
     println!(
         "{} of {} wrong variants told apart",
         Variant::WRONG.len() - unnoticed.len(),
         Variant::WRONG.len()
     );
-    if unnoticed.is_empty() && total.accepted > 0 && total.refused > 0 {
-        return ExitCode::SUCCESS;
-    }
-    println!("not told apart: {unnoticed:?}");
-    ExitCode::FAILURE
+    enough(
+        unnoticed.is_empty(),
+        &format!("not told apart: {unnoticed:?}"),
+    )
 }
 
-/// A script that reading accepts, with its list.
-fn case(seed: u64) -> Option<Case> {
-    let script = generate::script_to_run(seed);
-    let network = Engine::default().read(&script).ok()?;
-    let calls = generate::calls(seed, &script);
-    Some(Case {
-        seed,
-        script,
-        network,
-        calls,
-    })
+fn enough(holds: bool, else_say: &str) -> Result<(), String> {
+    if holds {
+        Ok(())
+    } else {
+        Err(else_say.to_string())
+    }
 }
 
-fn noticed(variant: Variant, case: &Case) -> bool {
-    differ(Engine::new(variant), case.network.clone(), &case.calls).is_err()
-}
-
-/// The difference, with as few calls before it as show one.
-fn report(case: &Case, first: Difference) {
-    let again = |calls: &[Call]| differ(Engine::default(), case.network.clone(), calls).err();
-    let mut calls = case.calls[..first.call.map_or(0, |index| index + 1)].to_vec();
-    let mut difference = first;
-    for index in (0..calls.len()).rev() {
-        let mut fewer = calls.clone();
-        fewer.remove(index);
-        if let Some(found) = again(&fewer) {
-            calls = fewer;
-            difference = found;
-        }
-    }
-    println!("seed {}", case.seed);
-    println!("{}", String::from_utf8_lossy(&case.script));
-    print!("{}", lists::print(&calls));
-    match difference.call {
-        Some(index) => println!("differs at call {index}: {}", difference.what),
-        None => println!("differs before any call: {}", difference.what),
-    }
+/// The difference on a script and a list, both shrunken.
+fn report(name: &str, engine: Engine, script: &[u8], calls: &[Call]) -> String {
+    let Some(case) = Case::of(engine, script, calls) else {
+        return format!("{name}: differs only at times");
+    };
+    let case = shrink(engine, case);
+    let place = match case.difference.place {
+        Place::Reading => "in reading".to_string(),
+        Place::Call(index) => format!("at call {index}, {}", case.calls[index]),
+        Place::End => "at the end".to_string(),
+    };
+    format!(
+        "{name}, shrunken:\n{}\n{}differs {place}: {}",
+        case.script.escape_ascii().to_string().replace("\\n", "\n"),
+        lists::print(&case.calls),
+        case.difference.what
+    )
 }

@@ -1,236 +1,21 @@
-//! A table from a network of the reference engine, and the network that a
-//! table stands for. The layout is that of `crates/table/specs/Words.antt`,
-//! what it stands for that of `Meaning.antt`.
+//! The network of the reference engine that a valid table stands for. The
+//! layout is that of `crates/table/specs/Words.antt`, what it stands for that of
+//! `Meaning.antt`.
 
 use std::collections::HashMap;
+use std::sync::Arc;
 
-use timo_reference::term::{Component, Network, Part, Process, Script, Timer, Value};
+use timo_reference::term::{Component, Definition, Network, Part, Process, Script, Timer, Value};
 
-use crate::timo::{Comp, Label, State, Table, UNMARKED, WORDS};
+use crate::timo::{Comp, Label, Table, UNMARKED};
 
 const INF: u32 = 1_000_001;
-const DEFINITIONS: usize = 8;
-const LOCATIONS: usize = 776;
+pub const DEFINITIONS: usize = 8;
+pub const LOCATIONS: usize = 776;
 const CHANNELS: usize = 1_032;
-const PARTS: usize = 1_288;
-const ROW: usize = 24;
-const BLANK: Comp = Comp {
-    loc: 0,
-    mark: UNMARKED,
-    place: 0,
-    timer: 0,
-    vals: [0; 8],
-};
-
-/// The table of an unmarked network within the limits of reading.
-pub fn of(network: &Network) -> Table {
-    let mut build = Build {
-        words: vec![0; WORDS],
-        parts: 0,
-        script: &network.script,
-    };
-    build.names();
-    for (d, definition) in network.script.definitions.iter().enumerate() {
-        let at = DEFINITIONS + d * ROW;
-        let scope: Vec<usize> = (0..definition.parameters.len())
-            .map(|k| at + 6 + 4 * k)
-            .collect();
-        let body = build.process(&definition.body.parts, &scope);
-        build.words[at + 1] = body as u32;
-    }
-    let mut state = State {
-        c: [BLANK; 256],
-        n: network.components.len(),
-    };
-    for (position, component) in network.components.iter().enumerate() {
-        let place = build.process(&component.process.parts, &[]);
-        state.c[position] = Comp {
-            loc: build.location(&component.location),
-            place: place as u32,
-            timer: build.words[PARTS + place * ROW + 2],
-            ..BLANK
-        };
-    }
-    build.words[0] = build.parts as u32;
-    let words = build.words.into_boxed_slice().try_into();
-    Table {
-        words: words.expect("a script has its number of words"),
-        state,
-    }
-}
-
-struct Build<'a> {
-    words: Vec<u32>,
-    parts: usize,
-    script: &'a Script,
-}
-
-impl Build<'_> {
-    fn names(&mut self) {
-        let script = self.script;
-        self.words[1] = script.locations.len() as u32;
-        self.words[2] = script.channels.len() as u32;
-        self.words[3] = script.definitions.len() as u32;
-        for (l, name) in script.locations.iter().enumerate() {
-            self.name(LOCATIONS + 4 * l, name);
-        }
-        for (c, name) in script.channels.iter().enumerate() {
-            self.name(CHANNELS + 4 * c, name);
-        }
-        for (d, definition) in script.definitions.iter().enumerate() {
-            let at = DEFINITIONS + d * ROW;
-            self.words[at] = definition.parameters.len() as u32;
-            self.name(at + 2, &definition.identifier);
-            for (k, parameter) in definition.parameters.iter().enumerate() {
-                self.name(at + 6 + 4 * k, parameter);
-            }
-        }
-    }
-
-    fn name(&mut self, at: usize, name: &str) {
-        for (k, byte) in name.bytes().enumerate() {
-            self.words[at + k / 4] |= u32::from(byte) << (8 * (k % 4));
-        }
-    }
-
-    fn location(&self, name: &str) -> u32 {
-        position(&self.script.locations, name)
-    }
-
-    /// The place of a process in a scope. What a part needs lies below it: P,
-    /// then Q, then the next part.
-    fn process(&mut self, parts: &[Part], scope: &[usize]) -> usize {
-        let mut next = 0;
-        let low = self.parts;
-        for (k, part) in parts.iter().rev().enumerate() {
-            if k > 0 {
-                next = self.parts;
-            }
-            let place = self.part(part, scope);
-            self.words[PARTS + place * ROW + 6] = next as u32;
-            self.words[PARTS + place * ROW + 7] = low as u32;
-        }
-        self.parts - 1
-    }
-
-    fn part(&mut self, part: &Part, scope: &[usize]) -> usize {
-        let place = self.parts + size(part) - 1;
-        let at = PARTS + place * ROW;
-        self.words[at + 8] = scope.len() as u32;
-        for (k, offset) in scope.iter().enumerate() {
-            self.words[at + 9 + k] = *offset as u32;
-        }
-        match part {
-            Part::Stop => {}
-            Part::Go {
-                timer,
-                target,
-                then,
-            } => {
-                self.row(at, 1, 0, *timer, self.value(target, scope));
-                self.inner(at, then, scope, None);
-            }
-            Part::Out {
-                channel,
-                timer,
-                value,
-                then,
-                otherwise,
-            } => {
-                let channel = position(&self.script.channels, channel);
-                self.row(at, 2, channel, *timer, self.value(value, scope));
-                self.inner(at, then, scope, Some((otherwise, scope)));
-            }
-            Part::In {
-                channel,
-                timer,
-                variable,
-                then,
-                otherwise,
-            } => {
-                self.name(at + 17, variable);
-                let slot = self.slot(variable, scope);
-                let mut entered = scope.to_vec();
-                if slot == scope.len() {
-                    entered.push(at + 17);
-                }
-                let channel = position(&self.script.channels, channel);
-                self.row(at, 3, channel, *timer, slot as u32);
-                self.inner(at, then, &entered, Some((otherwise, scope)));
-            }
-            Part::Call {
-                identifier,
-                arguments,
-            } => {
-                let definitions = &self.script.definitions;
-                let d = definitions.iter().position(|d| d.identifier == *identifier);
-                let d = d.expect("a called identifier is defined");
-                self.row(at, 4, d as u32, Timer::Ticks(0), arguments.len() as u32);
-                for (k, argument) in arguments.iter().enumerate() {
-                    self.words[at + 17 + k] = self.value(argument, scope);
-                }
-            }
-        }
-        self.parts = place + 1;
-        place
-    }
-
-    fn row(&mut self, at: usize, kind: u32, first: u32, timer: Timer, third: u32) {
-        self.words[at] = kind;
-        self.words[at + 1] = first;
-        self.words[at + 2] = match timer {
-            Timer::Ticks(ticks) => ticks,
-            Timer::Inf => INF,
-        };
-        self.words[at + 3] = third;
-    }
-
-    fn inner(
-        &mut self,
-        at: usize,
-        then: &Process,
-        scope: &[usize],
-        otherwise: Option<(&Process, &[usize])>,
-    ) {
-        if let Some((otherwise, outer)) = otherwise {
-            self.words[at + 5] = self.process(&otherwise.parts, outer) as u32;
-        }
-        self.words[at + 4] = self.process(&then.parts, scope) as u32;
-    }
-
-    fn value(&self, value: &Value, scope: &[usize]) -> u32 {
-        match value {
-            Value::Location(name) => self.location(name),
-            Value::Variable(name) => 64 + self.slot(name, scope) as u32,
-        }
-    }
-
-    /// The first slot of a name; the scope's length if it is not there.
-    fn slot(&self, name: &str, scope: &[usize]) -> usize {
-        let held = |offset: &usize| name_at(&self.words, *offset) == name;
-        scope.iter().position(held).unwrap_or(scope.len())
-    }
-}
-
-fn position(names: &[String], name: &str) -> u32 {
-    let found = names.iter().position(|held| held == name);
-    found.expect("a name of the script is held") as u32
-}
-
-/// How many parts a part has, itself and those inside.
-fn size(part: &Part) -> usize {
-    let all = |process: &Process| process.parts.iter().map(size).sum::<usize>();
-    1 + match part {
-        Part::Stop | Part::Call { .. } => 0,
-        Part::Go { then, .. } => all(then),
-        Part::Out {
-            then, otherwise, ..
-        }
-        | Part::In {
-            then, otherwise, ..
-        } => all(then) + all(otherwise),
-    }
-}
+pub const PARTS: usize = 1_288;
+pub const ROW: usize = 24;
+pub const CALL: u32 = 4;
 
 fn name_at(words: &[u32], at: usize) -> String {
     let bytes = words[at..at + 4].iter().flat_map(|word| word.to_le_bytes());
@@ -271,7 +56,31 @@ pub fn label(words: &[u32], label: Label) -> String {
     }
 }
 
-/// The components that a valid table stands for.
+/// The network, with its names in the order of their numbers.
+pub fn network(table: &Table) -> Network {
+    let words = table.words.as_slice();
+    let script = Script {
+        definitions: (0..words[3]).map(|d| definition(words, d)).collect(),
+        locations: (0..words[1]).map(|l| location(words, l)).collect(),
+        channels: (0..words[2]).map(|c| channel(words, c)).collect(),
+    };
+    Network {
+        script: Arc::new(script),
+        components: components(table),
+    }
+}
+
+fn definition(words: &[u32], d: u32) -> Definition {
+    let at = DEFINITIONS + ROW * d as usize;
+    let parameters = 0..words[at] as usize;
+    Definition {
+        identifier: identifier(words, d),
+        parameters: parameters.map(|k| name_at(words, at + 6 + 4 * k)).collect(),
+        body: process(words, words[at + 1] as usize, &HashMap::new()),
+    }
+}
+
+/// The components alone.
 pub fn components(table: &Table) -> Vec<Component> {
     let words = table.words.as_slice();
     let used = &table.state.c[..table.state.n];
@@ -280,10 +89,10 @@ pub fn components(table: &Table) -> Vec<Component> {
 
 fn component(words: &[u32], c: &Comp) -> Component {
     let place = c.place as usize;
-    let values: HashMap<String, String> = scope(words, place)
-        .into_iter()
-        .zip(c.vals.iter().map(|l| location(words, *l)))
-        .collect();
+    let mut values = HashMap::new();
+    for (name, l) in scope(words, place).into_iter().zip(c.vals) {
+        values.entry(name).or_insert_with(|| location(words, l));
+    }
     let marked = c.mark < UNMARKED;
     let parts = if marked {
         process(words, place, &values).parts.clone()
@@ -366,7 +175,7 @@ fn part(words: &[u32], place: usize, timer: Timer, values: &HashMap<String, Stri
                 otherwise: otherwise(),
             }
         }
-        4 => Part::Call {
+        CALL => Part::Call {
             identifier: identifier(words, row[1]),
             arguments: row[17..17 + row[3] as usize]
                 .iter()

@@ -20,12 +20,30 @@ pub struct Comp {
     pub vals: [u32; 8],
 }
 
+impl Comp {
+    pub const ZERO: Comp = Comp {
+        loc: 0,
+        mark: 0,
+        place: 0,
+        timer: 0,
+        vals: [0; 8],
+    };
+}
+
 /// The components; the first `n` are in use.
 #[repr(C)]
 #[derive(Clone, Copy, Debug, PartialEq, Eq)]
 pub struct State {
     pub c: [Comp; 256],
     pub n: usize,
+}
+
+impl State {
+    /// What a refused reading returns.
+    pub const ZERO: State = State {
+        c: [Comp::ZERO; 256],
+        n: 0,
+    };
 }
 
 /// A label in numbers.
@@ -45,6 +63,13 @@ pub struct Record {
     pub kind: u32,
     pub p: u32,
     pub q: u32,
+}
+
+/// The answer of reading; the words lent to it are beside it.
+#[repr(C)]
+pub struct Reading {
+    pub code: u32,
+    pub state: State,
 }
 
 #[repr(C)]
@@ -83,7 +108,15 @@ struct Written {
     len: usize,
 }
 
+#[repr(C)]
+struct Compared {
+    code: u32,
+    yes: bool,
+}
+
 extern "C" {
+    fn timo_read(text: *const u8, n: usize, w: *mut u32) -> Reading;
+    fn timo_same(w: *const u32, a: State, v: *const u32, b: State) -> Compared;
     fn timo_valid(w: *const u32, st: State) -> bool;
     fn timo_action(w: *const u32, st: State, kind: u32, p: usize, q: usize) -> Acted;
     fn timo_tick(w: *const u32, st: State, l: u32) -> Ticked;
@@ -91,6 +124,18 @@ extern "C" {
     fn timo_propose(w: *const u32, st: State, l: u32, records: *const Record, n: usize) -> Ticked;
     fn timo_forced(w: *const u32, st: State) -> Report;
     fn timo_write(w: *const u32, st: State, buf: *mut u8, n: usize) -> Written;
+}
+
+/// Reading into lent words. A refusal leaves them unchanged.
+pub fn read_into(text: &[u8], words: &mut [u32; WORDS]) -> Reading {
+    // SAFETY: the text is only read; `words` is not reached otherwise meanwhile.
+    unsafe { timo_read(text.as_ptr(), text.len(), words.as_mut_ptr()) }
+}
+
+/// A script's words, all of one content, without a copy on the stack.
+pub fn words_of(word: u32) -> Box<[u32; WORDS]> {
+    let words = vec![word; WORDS].into_boxed_slice().try_into();
+    words.expect("a script has its number of words")
 }
 
 /// A script and a state, of any content. A refused call leaves the state as
@@ -102,6 +147,21 @@ pub struct Table {
 }
 
 impl Table {
+    /// The network of a text, or the number of its refusal.
+    pub fn read(text: &[u8]) -> Result<Table, u32> {
+        let mut words = words_of(0);
+        let Reading { code, state } = read_into(text, &mut words);
+        answer(code, Table { words, state })
+    }
+
+    /// Whether two tables stand for the same network.
+    pub fn same(&self, other: &Table) -> Result<bool, u32> {
+        let (w, v) = (self.words.as_ptr(), other.words.as_ptr());
+        // SAFETY: as for `is_valid`, for both.
+        let compared = unsafe { timo_same(w, self.state, v, other.state) };
+        answer(compared.code, compared.yes)
+    }
+
     pub fn is_valid(&self) -> bool {
         // SAFETY: the pointer is to WORDS words, which the call only reads.
         unsafe { timo_valid(self.words.as_ptr(), self.state) }

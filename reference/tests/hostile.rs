@@ -1,83 +1,63 @@
-//! Texts that strain a reader: the right number, no crash on the small stack
-//! of a test thread, and no more than about linear time.
+//! Texts that strain a reader: the right number, and no crash on the small
+//! stack of a test thread.
 
 mod common;
 use common::*;
-use std::time::{Duration, Instant};
 use timo_reference::deep::on_big_stack;
-use timo_reference::generate::edges;
+use timo_reference::generate::{edges, faults, hostile};
 use timo_reference::reading::{self, Limits};
 use timo_reference::writing;
 
-fn quickly(text: &[u8]) -> u8 {
-    let start = Instant::now();
-    let answer = question(text);
-    assert!(
-        start.elapsed() < Duration::from_secs(2),
-        "reading took {:?}",
-        start.elapsed()
-    );
-    answer
-}
-
-#[test]
-fn unclosed_openers_are_2() {
-    for opener in [
-        "go(0,A,",
-        "out(c,0,A,",
-        "in(c,0,x,",
-        "out(c,0,A,stop,",
-        "A(",
-        "A[",
-        "(",
-        "A|",
-    ] {
-        let text = format!("A[{}", opener.repeat(65_533 / opener.len()));
-        assert_eq!(quickly(text.as_bytes()), 2, "{opener}");
-    }
-    let text = "go(0,A,".repeat(9_361);
-    assert_eq!(quickly(format!("A[{text}").as_bytes()), 2);
-}
-
-#[test]
-fn closed_levels_are_3() {
-    for (open, close) in [
-        ("go(0,A,", ")"),
-        ("out(c,0,A,", ",a)"),
-        ("in(c,0,x,", ",a)"),
-        ("in(c,0,x,a,", ")"),
-    ] {
-        let levels = 65_520 / (open.len() + close.len());
-        let text = format!("A[{}stop{}].", open.repeat(levels), close.repeat(levels));
-        assert!(text.len() <= 65_535);
-        assert_eq!(quickly(text.as_bytes()), 3, "{open}");
-    }
-}
-
 #[test]
 fn each_hostile_text_gets_its_number() {
+    for hostile in hostile::all() {
+        assert_eq!(question(&hostile.text), hostile.number, "{}", hostile.name);
+    }
     let expected = [2, 3, 4, 4, 4, 6, 4, 2, 2, 2];
     for (choice, number) in expected.into_iter().enumerate() {
-        let text = edges::hostile(choice);
-        assert!(
-            text.len() <= 65_535,
-            "hostile text {choice} has {} bytes",
-            text.len()
-        );
-        assert_eq!(quickly(&text), number, "hostile text {choice}");
+        assert_eq!(question(edges::hostile(choice)), number, "text {choice}");
     }
 }
 
 #[test]
-fn many_names_in_scope_or_in_use_are_4() {
-    let nest: String = (0..4_000).map(|k| format!("in(c,0,v{k},")).collect();
-    assert_eq!(quickly(format!("A[{nest}").as_bytes()), 2);
-    let channels: Vec<String> = (0..3_000).map(|k| format!("in(c{k},0,x,a,a)")).collect();
-    assert_eq!(quickly(format!("A[{}].", channels.join("|")).as_bytes()), 4);
-    let locations: Vec<String> = (0..6_000).map(|k| format!("L{k}[a]")).collect();
-    assert_eq!(quickly(format!("{}.", locations.join("|")).as_bytes()), 4);
-    let definitions: String = (0..6_000).map(|k| format!("D{k}=a.")).collect();
-    assert_eq!(quickly(format!("{definitions}A[a].").as_bytes()), 4);
+fn every_limit_can_be_met_at_once() {
+    let all = hostile::all();
+    let full = all.last().expect("a text");
+    let network = engine().read(&full.text).expect("a text within the limits");
+    assert_eq!(full.text.len(), 65_535);
+    assert_eq!(network.components.len(), 256);
+    assert_eq!(network.script.definitions.len(), 32);
+    assert_eq!(network.script.locations.len(), 64);
+    assert_eq!(network.script.channels.len(), 64);
+    let one_part_more =
+        String::from_utf8_lossy(&full.text).replacen("|stop|stop)]", "|stop|stop|stop)]", 1);
+    assert_eq!(question(&one_part_more[..65_535]), 4);
+}
+
+#[test]
+fn each_fault_gives_its_number() {
+    for fault in faults::all() {
+        assert_eq!(
+            question(faults::text(&[&fault])),
+            fault.number,
+            "{}",
+            fault.name
+        );
+    }
+    assert_eq!(question(faults::text(&[])), 0);
+}
+
+#[test]
+fn of_two_faults_the_lower_number_is_given() {
+    let all = faults::all();
+    let pairs = all
+        .iter()
+        .flat_map(|one| all.iter().map(move |other| (one, other)));
+    for (one, other) in pairs.filter(|(one, other)| one.number != other.number) {
+        let lower = one.number.min(other.number);
+        let answer = question(faults::text(&[one, other]));
+        assert_eq!(answer, lower, "{} and {}", one.name, other.name);
+    }
 }
 
 #[test]

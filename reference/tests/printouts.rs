@@ -7,6 +7,7 @@ use std::path::{Path, PathBuf};
 use std::process::{Command, Output, Stdio};
 
 use timo_reference::calls::Engine;
+use timo_reference::generate::vectors;
 use timo_reference::{lists, printout};
 
 fn examples() -> PathBuf {
@@ -67,6 +68,25 @@ fn every_example_list_gets_the_answers_that_stand_beside_it() {
             expected
         );
     }
+}
+
+#[test]
+fn vectors_are_what_the_program_prints_and_the_same_for_a_seed() {
+    let vectors = vectors::vectors(3, 42);
+    let ends_line = |text: &[u8]| text.ends_with(b"\n") && !text.contains(&b'#');
+    for vector in &vectors {
+        assert!(ends_line(&vector.script) && ends_line(&vector.printout));
+        assert_eq!(timorun(&[&vector.script]).stdout, vector.printout);
+    }
+    for number in [2, 3, 4, 5, 6, 7, 13] {
+        let end = format!("refused {number}\n").into_bytes();
+        assert!(vectors.iter().any(|vector| vector.printout.ends_with(&end)));
+    }
+    let again = vectors::vectors(3, 42);
+    let scripts = |list: &[vectors::Vector]| -> Vec<Vec<u8>> {
+        list.iter().map(|vector| vector.script.clone()).collect()
+    };
+    assert_eq!(scripts(&vectors), scripts(&again));
 }
 
 #[test]

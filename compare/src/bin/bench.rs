@@ -1,13 +1,12 @@
-//! `bench [SCRIPT..]`: steps and writing by the proved engine's library and by
-//! the reference engine, side by side in one run, on built-in workloads that
-//! grow and on the scripts named. Nothing is tested here.
+//! `bench [SCRIPT..]`: steps, writing, reading and `same` by the proved engine's
+//! library and by the reference engine, side by side in one run, on built-in
+//! workloads that grow and on the scripts named. Nothing is tested here.
 
 use std::env;
 use std::fs;
 use std::time::{Duration, Instant};
 
-use compare::table;
-use compare::timo::Table;
+use compare::timo::{read_into, words_of, Table};
 use timo_reference::calls::{Engine, Record};
 use timo_reference::term::Network;
 
@@ -16,8 +15,10 @@ const LEAST: Duration = Duration::from_millis(200);
 const ROUNDS: usize = 4;
 
 fn main() {
-    println!("| workload | components | step, proved µs | step, reference µs | ratio | bytes | write, proved µs | write, reference µs | ratio |");
-    println!("|---|---|---|---|---|---|---|---|---|");
+    let calls = ["step", "write", "read", "same"];
+    let heads = calls.map(|call| format!(" {call}, proved µs | reference µs | ratio |"));
+    println!("| workload | components | bytes |{}", heads.concat());
+    println!("|---|---|---|{}", "---|---|---|".repeat(calls.len()));
     for side in [2, 4, 8] {
         line(
             &format!("grid {side} by {side}"),
@@ -85,23 +86,43 @@ fn facing(pairs: usize, sent: &str, heard: &str) -> String {
 }
 
 fn line(workload: &str, script: &str) {
-    let network = match Engine::default().read(script.as_bytes()) {
-        Ok(network) => network,
-        Err(refusal) => return println!("| {workload} | {refusal} | | | | | | | |"),
+    let engine = Engine::default();
+    let text = script.as_bytes();
+    let (table, network) = match (Table::read(text), engine.read(text)) {
+        (Ok(table), Ok(network)) => (table, network),
+        (ours, theirs) => {
+            let numbers = (ours.err(), theirs.err().map(|refusal| refusal.number()));
+            return println!("| {workload} | refused {numbers:?} |");
+        }
     };
-    let table = table::of(&network);
-    let steps = ROUNDS * network.script.locations.len();
-    let proved = micros(|| rounds_proved(&table)) / steps as f64;
-    let reference = micros(|| rounds_reference(&network)) / steps as f64;
+    let steps = (ROUNDS * network.script.locations.len()) as f64;
     let mut lent = vec![0; 65_536];
     let bytes = table.write(&mut lent).unwrap_or(0);
-    let write_proved = micros(|| table.write(&mut lent).unwrap_or(0));
-    let write_reference = micros(|| Engine::default().write(&network, &mut lent).unwrap_or(0));
+    let mut words = words_of(0);
+    let pairs = [
+        (
+            micros(|| rounds_proved(&table)) / steps,
+            micros(|| rounds_reference(&network)) / steps,
+        ),
+        (
+            micros(|| table.write(&mut lent).unwrap_or(0)),
+            micros(|| engine.write(&network, &mut lent).unwrap_or(0)),
+        ),
+        (
+            micros(|| read_into(text, &mut words).state.n),
+            micros(|| engine.read(text).map_or(0, |read| read.components.len())),
+        ),
+        (
+            micros(|| table.same(&table).map_or(0, usize::from)),
+            micros(|| usize::from(engine.same(&network, &network))),
+        ),
+    ];
+    let cells =
+        pairs.map(|(ours, theirs)| format!(" {ours:.2} | {theirs:.2} | {:.2} |", ours / theirs));
     println!(
-        "| {workload} | {} | {proved:.2} | {reference:.2} | {:.2} | {bytes} | {write_proved:.2} | {write_reference:.2} | {:.2} |",
+        "| {workload} | {} | {bytes} |{}",
         network.components.len(),
-        proved / reference,
-        write_proved / write_reference
+        cells.concat()
     );
 }
 

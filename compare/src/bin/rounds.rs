@@ -1,33 +1,52 @@
-//! `rounds < SCRIPT`: what `timorun` prints, with the steps and the writing
-//! done by the proved engine's library. Reading is the reference engine's. The
-//! records of a step are put to the library again as single actions, for their
-//! labels, and the tick after them has to give the step's state.
+//! `rounds < SCRIPT`: what `timorun` prints, with reading, steps and writing
+//! done by the proved engine's library. The records of a step are put to the
+//! library again as single actions, for their labels, and the tick after them
+//! has to give the step's state.
+//!
+//! `rounds --many < SCRIPTS`: the same for several scripts, each followed by a
+//! line `#`, and so are their printouts.
 
+use std::env;
 use std::io::{self, Read, Write};
 use std::process::ExitCode;
 
 use compare::table;
 use compare::timo::Table;
-use timo_reference::calls::Engine;
+use timo_reference::generate::vectors::END;
 
 fn main() -> ExitCode {
-    let mut script = Vec::new();
-    if let Err(error) = io::stdin().read_to_end(&mut script) {
-        eprintln!("rounds: {error}");
-        return ExitCode::FAILURE;
+    match answer(env::args().any(|word| word == "--many")) {
+        Ok(()) => ExitCode::SUCCESS,
+        Err(error) => {
+            eprintln!("rounds: {error}");
+            ExitCode::FAILURE
+        }
+    }
+}
+
+fn answer(many: bool) -> io::Result<()> {
+    let mut input = Vec::new();
+    io::stdin().read_to_end(&mut input)?;
+    if !many {
+        return io::stdout().write_all(&printout(&input));
     }
     let mut text = Vec::new();
-    let ended = match Engine::default().read(&script) {
-        Ok(network) => rounds(table::of(&network), &mut text),
-        Err(refusal) => Err(u32::from(refusal.number())),
-    };
+    let scripts = input.split_inclusive(|byte| *byte == b'#');
+    for script in scripts.filter_map(|script| script.strip_suffix(b"#")) {
+        text.extend(printout(script.strip_prefix(b"\n").unwrap_or(script)));
+        text.extend(END);
+    }
+    io::stdout().write_all(&text)
+}
+
+/// What `timorun` prints on a script.
+fn printout(script: &[u8]) -> Vec<u8> {
+    let mut text = Vec::new();
+    let ended = Table::read(script).and_then(|table| rounds(table, &mut text));
     if let Err(number) = ended {
         text.extend(format!("refused {number}\n").bytes());
     }
-    match io::stdout().write_all(&text) {
-        Ok(()) => ExitCode::SUCCESS,
-        Err(_) => ExitCode::FAILURE,
-    }
+    text
 }
 
 /// Four rounds of steps over all locations, then the network.

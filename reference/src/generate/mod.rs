@@ -6,13 +6,19 @@
 //! | `random_script` | readable scripts from few names, so that many meet      |
 //! | `edges`  | every limit and one past it; deep and long texts               |
 //! | `damage` | damaged texts, and texts that several questions refuse         |
+//! | `hostile` | deep, long and wide texts with their numbers              |
+//! | `faults` | every fault that questions 1 to 7 ask for, in pairs            |
+//! | `vectors` | small scripts with their printouts                            |
 //! | `call_list` | calls on a network, biased toward what is enabled           |
 
 pub mod call_list;
 pub mod damage;
 pub mod draft;
 pub mod edges;
+pub mod faults;
+pub mod hostile;
 pub mod random_script;
+pub mod vectors;
 
 use crate::calls::Engine;
 use crate::lists::Call;

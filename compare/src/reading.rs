@@ -1,0 +1,78 @@
+//! A text through both readers.
+
+use timo_reference::calls::Engine;
+use timo_reference::term::Network;
+use timo_reference::writing;
+
+use crate::agree::{equal, Agreed};
+use crate::table;
+use crate::timo::{self, State, Table, WORDS};
+
+/// What the words hold that are lent to reading.
+const BLANK: u32 = 0xa5a5_a5a5;
+
+/// A network in both engines.
+#[derive(Clone)]
+pub struct Pair {
+    pub table: Table,
+    pub network: Network,
+}
+
+/// What both say of a text: its network, or the number of its refusal.
+pub type Read = Result<Pair, u32>;
+
+/// Reads a text by both engines into words of a fixed content.
+pub fn read(text: &[u8]) -> Result<Read, String> {
+    read_over(text, timo::words_of(BLANK))
+}
+
+/// Reads a text by both engines. The words lent have any content: a refusal
+/// leaves it, and a network does not depend on it.
+pub fn read_over(text: &[u8], mut words: Box<[u32; WORDS]>) -> Result<Read, String> {
+    let before = words.clone();
+    let reading = timo::read_into(text, &mut words);
+    let theirs = Engine::default().read(text);
+    let number = match &theirs {
+        Ok(_) => 0,
+        Err(refusal) => u32::from(refusal.number()),
+    };
+    equal("reading", &reading.code, &number)?;
+    let Ok(network) = theirs else {
+        yes(*words == *before, "words kept by a refused reading")?;
+        let zero = reading.state == State::ZERO;
+        yes(zero, "state of zeros after a refused reading")?;
+        return Ok(Err(number));
+    };
+    let table = Table {
+        words,
+        state: reading.state,
+    };
+    yes(table.is_valid(), "question 17 of the table read")?;
+    equal_networks("the network read", &table::network(&table), &network)?;
+    Ok(Ok(Pair { table, network }))
+}
+
+/// Names by number, definitions in order and components in order.
+pub fn equal_networks(what: &str, ours: &Network, theirs: &Network) -> Agreed {
+    if ours == theirs {
+        return Ok(());
+    }
+    equal(what, &shown(ours), &shown(theirs))
+}
+
+/// A network letter by letter, with its numbering and its marks.
+fn shown(network: &Network) -> Vec<String> {
+    let script = &network.script;
+    let names = [
+        format!("locations {}", script.locations.join(" ")),
+        format!("channels {}", script.channels.join(" ")),
+    ];
+    let definitions = script.definitions.iter().map(writing::definition);
+    let components = network.components.iter().map(writing::component);
+    let lines = names.into_iter().chain(definitions).chain(components);
+    lines.collect()
+}
+
+fn yes(holds: bool, what: &str) -> Agreed {
+    equal(what, &holds, &true)
+}

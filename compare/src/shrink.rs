@@ -1,0 +1,289 @@
+//! A smaller script and a shorter list of calls that still show a difference.
+//! Definitions, located processes and parts are taken away, and parts replaced
+//! by what stands inside them or by `stop`, for as long as a difference
+//! remains.
+
+use std::iter::successors;
+use std::mem;
+use std::ops::Range;
+
+use timo_reference::calls::{Engine, Record};
+use timo_reference::lists::Call;
+use timo_reference::term::Network;
+
+use crate::differ::{differ, Difference, Place};
+
+/// How many changes of one script are tried.
+const MOST_TRIALS: usize = 3_000;
+
+/// A script and a list on which the engines differ.
+#[derive(Clone, Debug)]
+pub struct Case {
+    pub script: Vec<u8>,
+    pub calls: Vec<Call>,
+    pub difference: Difference,
+}
+
+impl Case {
+    /// The case of a script and a list, if the engines differ there. Calls
+    /// behind the difference are left out.
+    pub fn of(engine: Engine, script: &[u8], calls: &[Call]) -> Option<Case> {
+        let difference = differ(engine, script, calls).err()?;
+        let needed = match difference.place {
+            Place::Reading => 0,
+            Place::Call(index) => index + 1,
+            Place::End => calls.len(),
+        };
+        Some(Case {
+            script: script.to_vec(),
+            calls: calls[..needed].to_vec(),
+            difference,
+        })
+    }
+
+    fn size(&self) -> (usize, usize) {
+        (self.script.len(), self.calls.len())
+    }
+}
+
+/// Shrinks a case until nothing more can be taken away.
+pub fn shrink(engine: Engine, case: Case) -> Case {
+    let mut case = case;
+    loop {
+        let before = case.size();
+        case = fewer_calls(engine, case);
+        if case.difference.place == Place::Reading {
+            case = fewer_bytes(engine, case);
+        }
+        case = smaller_script(engine, case);
+        if case.size() == before {
+            return case;
+        }
+    }
+}
+
+/// Takes away stretches of calls, long ones first.
+fn fewer_calls(engine: Engine, mut case: Case) -> Case {
+    let mut length = case.calls.len();
+    while length > 0 {
+        let mut end = case.calls.len();
+        while end > 0 {
+            let start = end.saturating_sub(length);
+            let mut calls = case.calls.clone();
+            calls.drain(start..end);
+            if let Some(found) = Case::of(engine, &case.script, &calls) {
+                case = found;
+            }
+            end = start.min(case.calls.len());
+        }
+        length /= 2;
+    }
+    case
+}
+
+/// Takes away stretches of bytes, long ones first. This is for texts that have
+/// not the form, and for blanks.
+fn fewer_bytes(engine: Engine, mut case: Case) -> Case {
+    let mut length = case.script.len() / 2;
+    while length > 0 {
+        let mut end = case.script.len();
+        while end > 0 {
+            let start = end.saturating_sub(length);
+            let script = replaced(&case.script, &(start..end), b"");
+            if let Some(found) = Case::of(engine, &script, &case.calls) {
+                case = found;
+            }
+            end = start.min(case.script.len());
+        }
+        length /= 2;
+    }
+    case
+}
+
+/// Takes away blanks, then pieces of the script, large ones first.
+fn smaller_script(engine: Engine, mut case: Case) -> Case {
+    let is_blank = |byte: &u8| matches!(byte, b' ' | b'\n');
+    let script: Vec<u8> = case
+        .script
+        .iter()
+        .copied()
+        .filter(|b| !is_blank(b))
+        .collect();
+    if let Some(found) = Case::of(engine, &script, &case.calls) {
+        case = found;
+    }
+    while let Some(smaller) = one_piece_less(engine, &case) {
+        case = smaller;
+    }
+    case
+}
+
+fn one_piece_less(engine: Engine, case: &Case) -> Option<Case> {
+    let mut changes = changes(&case.script);
+    changes.retain(|change| change.with.len() < change.range.len());
+    changes.sort_by_key(|change| change.with.len() + case.script.len() - change.range.len());
+    let again = |change: &Change| {
+        let script = replaced(
+            &case.script,
+            &change.range,
+            &case.script[change.with.clone()],
+        );
+        let as_they_stand = Case::of(engine, &script, &case.calls);
+        as_they_stand.or_else(|| {
+            let calls = moved(&case.script, &script, &case.calls)?;
+            Case::of(engine, &script, &calls)
+        })
+    };
+    changes.iter().take(MOST_TRIALS).find_map(again)
+}
+
+fn replaced(text: &[u8], range: &Range<usize>, with: &[u8]) -> Vec<u8> {
+    [&text[..range.start], with, &text[range.end..]].concat()
+}
+
+// --- pieces of a script ---------------------------------------------------------
+
+/// A stretch of text between two signs of one level of brackets, with the
+/// pieces inside its brackets.
+struct Piece {
+    range: Range<usize>,
+    inside: Vec<Piece>,
+}
+
+/// A stretch of the text and another that may be put in its place.
+struct Change {
+    range: Range<usize>,
+    with: Range<usize>,
+}
+
+/// What may be put in the place of what. Most of it is not of the form; then
+/// both engines refuse it alike, and it shows no difference.
+fn changes(text: &[u8]) -> Vec<Change> {
+    let mut found = Vec::new();
+    let stop = text.windows(4).position(|word| word == b"stop");
+    add_changes(&pieces(text), stop.map(|at| at..at + 4), &mut found);
+    found
+}
+
+fn add_changes(level: &[Piece], stop: Option<Range<usize>>, found: &mut Vec<Change>) {
+    add_runs(level, found);
+    for piece in level {
+        let inside = piece.inside.iter().map(|inner| inner.range.clone());
+        for with in inside.chain(stop.clone()) {
+            let range = piece.range.clone();
+            found.push(Change { range, with });
+        }
+        add_changes(&piece.inside, stop.clone(), found);
+    }
+}
+
+/// Runs of pieces taken away, each with the signs behind its pieces or with
+/// those before them. A definition is two pieces, before and behind its `=`.
+fn add_runs(level: &[Piece], found: &mut Vec<Change>) {
+    let halves = successors(Some(level.len()), |length| Some(length / 2));
+    let long = halves.take_while(|length| *length > 2);
+    for length in long.chain([2, 1]) {
+        for run in level.windows(length).step_by(length.div_ceil(3)) {
+            let (start, end) = (run[0].range.start, run[length - 1].range.end);
+            for range in [start..end + 1, start.saturating_sub(1)..end] {
+                found.push(Change { range, with: 0..0 });
+            }
+        }
+    }
+}
+
+/// A level of brackets that is still open.
+#[derive(Default)]
+struct Level {
+    /// Where the piece being read begins.
+    start: usize,
+    done: Vec<Piece>,
+    /// What stands inside the brackets of the piece being read.
+    inside: Vec<Piece>,
+}
+
+impl Level {
+    /// Ends a piece at a sign; the next one begins behind it.
+    fn end_piece(&mut self, at: usize) {
+        self.done.push(Piece {
+            range: self.start..at,
+            inside: mem::take(&mut self.inside),
+        });
+        self.start = at + 1;
+    }
+}
+
+/// The pieces of the outermost level. Brackets may be unbalanced.
+fn pieces(text: &[u8]) -> Vec<Piece> {
+    let mut outer: Vec<Level> = Vec::new();
+    let mut level = Level::default();
+    for (at, &byte) in text.iter().enumerate() {
+        match byte {
+            b'(' | b'[' => {
+                let start = at + 1;
+                let inner = Level {
+                    start,
+                    ..Level::default()
+                };
+                outer.push(mem::replace(&mut level, inner));
+            }
+            b'|' | b',' | b'.' | b'=' => level.end_piece(at),
+            b')' | b']' => {
+                level.end_piece(at);
+                if let Some(mut around) = outer.pop() {
+                    around.inside = level.done;
+                    level = around;
+                }
+            }
+            _ => {}
+        }
+    }
+    match outer.into_iter().next() {
+        Some(outermost) => outermost.done,
+        None => level.done,
+    }
+}
+
+// --- calls on a smaller network -------------------------------------------------
+
+/// The calls with the positions and location numbers that they have where the
+/// new script lacks some of the old one's components or locations.
+fn moved(old: &[u8], new: &[u8], calls: &[Call]) -> Option<Vec<Call>> {
+    let old = Engine::default().read(old).ok()?;
+    let new = Engine::default().read(new).ok()?;
+    let missing = old.components.len().checked_sub(new.components.len())?;
+    let pairs = old.components.iter().zip(&new.components);
+    let first = pairs.take_while(|(one, other)| one == other).count();
+    let position = |p: u32| {
+        if (p as usize) < first {
+            p
+        } else {
+            p.saturating_sub(missing as u32)
+        }
+    };
+    let record = |r: &Record| Record::new(r.kind, position(r.p), position(r.q));
+    let location = |l: u32| renumbered(&old, &new, l);
+    let call = |call: &Call| match call {
+        Call::Action(r) => Call::Action(record(r)),
+        Call::Tick(l) => Call::Tick(location(*l)),
+        Call::Step { location: l, room } => Call::Step {
+            location: location(*l),
+            room: *room,
+        },
+        Call::Proposal {
+            location: l,
+            records,
+        } => Call::Proposal {
+            location: location(*l),
+            records: records.iter().map(record).collect(),
+        },
+        other => other.clone(),
+    };
+    Some(calls.iter().map(call).collect())
+}
+
+fn renumbered(old: &Network, new: &Network, location: u32) -> u32 {
+    let name = old.script.locations.get(location as usize);
+    let found = name.and_then(|name| new.script.locations.iter().position(|held| held == name));
+    found.map_or(location, |number| number as u32)
+}
