@@ -10,6 +10,11 @@
 // values  values by number: a location of the script, or a slot of the scope
 // heads   a part up to its first process
 // parts   parts and processes
+//
+// proofs/Peeling    tokens peeled off a text
+// proofs/Arguments  values by number, and the arguments of a call
+// proofs/Fronts     a part up to its first process, form by form
+// proofs/Putting    parts and processes from what is read and called
 mod heads;
 pub mod parts;
 pub mod values;

@@ -8,6 +8,13 @@
 // definitions  heads and bodies of definitions
 // network      located processes, and where their components stand
 // state        the components of the network
+//
+// proofs/Defs       definitions, one after the other
+// proofs/Spreading  places gathered in an array
+// proofs/Bracketed  located processes, one after the other
+// proofs/States     components made from their places
+// proofs/Quiet      what the passes leave as it was
+// proofs/Answering  the answer from the scan, the script and the questions asked of it
 ghost use mathlib.Core.Path.{_≡_};
 ghost use Prim.Native.Nat.{_≤_};
 ghost use Rattle.table.specs.Words.{partsIn, defsIn};

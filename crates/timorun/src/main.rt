@@ -6,13 +6,6 @@
 ghost use mathlib.Core.Path.{_≡_};
 ghost use lib.ListN.{length};
 
-// The first n bytes to standard output. A write that fails ends the program.
-fn emit(out: &[u8], n: usize) {
-    if n <= out.len() {
-        io::write_all(1, &out[..n]);
-    }
-}
-
 // Space for a printout.
 fn space() -> [u8; 3477760]
     ensures { λ r. ⌜ 3477760 ≡ length r ⌝ }
@@ -25,5 +18,5 @@ fn main() {
     let n = io::read_full(0, &mut text);
     let mut out = space();
     let k = run_print::printout(&text[..n], &mut out);
-    emit(&out, k);
+    run_emit::emit(&out, k);
 }

@@ -2,8 +2,8 @@
 use mathlib.Core.Path.{_≡_, refl, sym, ap, _∙_}
 use lib.Seq.{length-take-le}
 use borrow.Author.Needs.{needs}
-use Rattle.timorun.proofs.emit.Statement.{statement}
-use Rattle.timorun.proofs.emit.Tie as tie
+use Rattle.run_emit.proofs.emit.Statement.{statement}
+use Rattle.run_emit.proofs.emit.Tie as tie
 
 slice-aggregate-write-all : tie.Need-slice-aggregate-write-all
 slice-aggregate-write-all c = sym (length-take-le (c .before .before .before .args .n) (c .before .before .before .args .out .now) (c .before .if1 .taken))
