@@ -27,7 +27,7 @@ use Rattle.table.specs.declared.State.{State}
 use Rattle.table.specs.Words.{locsIn, locName}
 use Rattle.table.specs.Meaning.{listFrom, defsOf, compsOf, netOf, networkOf as tableNetwork}
 use Rattle.table.specs.Valid.{compOk, stateOk, valid}
-use Rattle.table.proofs.Tests.{length-listFrom, script-fine, comp-fine}
+use Rattle.table.proofs.Tests.{length-listFrom, getD-listFrom, script-fine, comp-fine}
 use Rattle.text_build.specs.Rows.{locsOf}
 use Rattle.calls_act.specs.Acted.{noComp}
 use Rattle.calls_act.proofs.Positions.{valid-parts, comp-good}
@@ -175,12 +175,6 @@ remaining-over : (m l : ℕ) (ls : List Name) → length ls ≤ l → remaining 
 unfolding remaining
 remaining-over m l ls h = ap (λ x. x ++ copies m ls) (drop-of-length-le ls h) ∙ remaining-first m ls
 
-named-at : {A : Type 0} (f : ℕ → A) (d : A) (k n i : ℕ) → i < n → getD (listFrom k n f) i d ≡ f (k + i)
-unfolding listFrom
-named-at f d k zero i h = absurd (omega arith)
-named-at f d k (suc n) zero h = ap f (omega arith)
-named-at f d k (suc n) (suc i) h = named-at f d (suc k) n i (omega arith) ∙ ap f (omega arith)
-
 module _ (w : List ℕ) where
   locs-length : length (locsOf w) ≡ locsIn w
   unfolding locsOf
@@ -188,7 +182,7 @@ module _ (w : List ℕ) where
 
   loc-at : (l : ℕ) → l < locsIn w → getD (locsOf w) l [] ≡ locName w l
   unfolding locsOf
-  loc-at l h = named-at (locName w) [] 0 (locsIn w) l h ∙ ap (locName w) (omega arith)
+  loc-at l h = getD-listFrom (locName w) [] 0 (locsIn w) l h ∙ ap (locName w) (omega arith)
 
   -- what is left to write, in front of which the buffer holds what was printed
   abbrev pub Playing : List ℕ → List ℕ → List ℕ → ℕ → State → ℕ → ℕ → Type 0

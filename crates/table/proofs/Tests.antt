@@ -152,7 +152,7 @@ unfolding compOk
 comp-ok w c f = rw (lt-ltb _ _ (f .loc), f .mark, lt-ltb _ _ (f .place), f .timer, f .slots, f .vals)
 
 -- ── names held once: two places of a list without repetition that hold the same name are one ──
-getD-listFrom : {A : Type 0} (f : ℕ → A) (d : A) (k n i : ℕ) → i < n → getD (listFrom k n f) i d ≡ f (k + i)
+pub getD-listFrom : {A : Type 0} (f : ℕ → A) (d : A) (k n i : ℕ) → i < n → getD (listFrom k n f) i d ≡ f (k + i)
 unfolding listFrom
 getD-listFrom f d k zero i h = absurd (omega arith)
 getD-listFrom f d k (suc n) zero h = ap f (omega arith)

@@ -19,10 +19,11 @@ use Rattle.table.specs.declared.Head.{Head}
 use Rattle.table.specs.Words.{word, field, nameAt, headAt, nextAt, lowAt, ownAt, boundAt, scopeAt}
 use Rattle.table.specs.Valid.{index}
 use Rattle.table.proofs.Size.{size, sizeP}
+use Rattle.table.proofs.Fires.{map-append}
 use Rattle.text_build.specs.Rows.{Row, Below, Stands, locsOf, chansOf, idsOf, scopeNames, timerWord, valueWord, argWord, headOf, firstPlace, secondPlace, entering, chanKnown}
 use Rattle.text_build.specs.Growth.{locListed, valueListed, partListed, placeListed, Grown, SameRows}
 use Rattle.text_build.proofs.Places.{PartFit, Fit, size-some, sizeP-some, fit-first, fit-go, fit-out, fit-in, fit-par}
-use Rattle.text_build.proofs.Numbers.{names-entered, map-append}
+use Rattle.text_build.proofs.Numbers.{names-entered}
 
 module _ (w v : List ℕ) where
   -- ── one row ──

@@ -20,7 +20,9 @@ use Rattle.text.specs.Questions.{into}
 use Rattle.table.specs.Words.{locsIn, chansIn, defsIn, nameAt, locName, chanName, defName, ownAt, boundAt}
 use Rattle.table.specs.Meaning.{listFrom, valueOf, valuesOf}
 use Rattle.table.specs.Valid.{index, timerOk, slotOk, refOk}
-use Rattle.table.proofs.Tests.{length-listFrom}
+use Rattle.table.proofs.Tests.{length-listFrom, getD-listFrom}
+use Rattle.table.proofs.Fires.{map-append}
+use Rattle.table.proofs.Names.{name-sym}
 use Rattle.text_build.specs.Rows.{locsOf, chansOf, idsOf, scopeNames, timerWord, valueWord, argWord, entering, timed, valueKnown, chanKnown}
 
 -- ── the first index of a name ──
@@ -33,20 +35,11 @@ index-at (y ∷ ys) x h = go (sameName y x) refl h (λ k. index-at ys x k)
     go true e k r = name-eq y x e
     go false e k r = r (omega arith)
 
-pub same-turned : (u v : Name) → sameName u v ≡ sameName v u
-same-turned u v = go (sameName u v) refl (sameName v u) refl
-  where
-    go : (a : Bool) → sameName u v ≡ a → (b : Bool) → sameName v u ≡ b → a ≡ b
-    go true p true q = refl
-    go true p false q = sym (name-refl u) ∙ ap (λ x. sameName x u) (name-eq u v p) ∙ q
-    go false p true q = sym p ∙ ap (λ x. sameName x v) (sym (name-eq v u q)) ∙ name-refl v
-    go false p false q = refl
-
 -- a name is among others exactly if its index is below their number
 pub member-index : (ys : List Name) (x : Name) → member x ys ≡ ltb (index ys x) (length ys)
 unfolding member index
 member-index [] x = refl
-member-index (y ∷ ys) x = rw (same-turned x y, member-index ys x) (go (sameName y x))
+member-index (y ∷ ys) x = rw (name-sym x y, member-index ys x) (go (sameName y x))
   where
     go : (b : Bool) → (b || ltb (index ys x) (length ys)) ≡ ltb (cond b 0 (suc (index ys x))) (length (y ∷ ys))
     go true = sym (lt-ltb 0 (length (y ∷ ys)) (omega arith))
@@ -57,16 +50,10 @@ member-index (y ∷ ys) x = rw (same-turned x y, member-index ys x) (go (sameNam
         deeper false e = sym (le-ltb (suc (index ys x)) (length (y ∷ ys)) (omega (arith, ltb-false (index ys x) (length ys) e)))
 
 -- ── names that a script holds ──
-listed-at : (f : ℕ → Name) (k n i : ℕ) → i < n → getD (listFrom k n f) i [] ≡ f (k + i)
-unfolding listFrom
-listed-at f k zero i h = absurd (omega arith)
-listed-at f k (suc n) zero h = ap f (omega arith)
-listed-at f k (suc n) (suc i) h = listed-at f (suc k) n i (omega arith) ∙ ap f (omega arith)
-
 numbered : (f : ℕ → Name) (n : ℕ) (x : Name) → ltb (index (listFrom 0 n f) x) n ≡ true → f (index (listFrom 0 n f) x) ≡ x
 numbered f n x e =
     let h = ltb-true (index (listFrom 0 n f) x) n e in
-    ap f (omega arith) ∙ sym (listed-at f 0 n (index (listFrom 0 n f) x) h) ∙ index-at (listFrom 0 n f) x (rw (length-listFrom f 0 n) h)
+    ap f (omega arith) ∙ sym (getD-listFrom f [] 0 n (index (listFrom 0 n f) x) h) ∙ index-at (listFrom 0 n f) x (rw (length-listFrom f 0 n) h)
 
 module _ (w : List ℕ) where
   pub loc-number : (l : Name) → ltb (index (locsOf w) l) (locsIn w) ≡ true → locName w (index (locsOf w) l) ≡ l
@@ -140,10 +127,6 @@ module _ (w : List ℕ) (ys : List Name) (vs : List Value) (h : length vs ≤ 4)
       ap (λ n. take n (argWord w ys vs 0 ∷ argWord w ys vs 1 ∷ argWord w ys vs 2 ∷ argWord w ys vs 3 ∷ [])) (sym e) ∙ four-of (map (valueWord w ys) vs) (omega arith)
 
 -- ── the scope of an input's P ──
-pub map-append : {A B : Type 0} (f : A → B) (xs ys : List A) → map f (xs ++ ys) ≡ map f xs ++ map f ys
-map-append f [] ys = refl
-map-append f (x ∷ xs) ys = ap (λ l. f x ∷ l) (map-append f xs ys)
-
 pub names-entered : (w : List ℕ) (i : ℕ) (os : List ℕ) (y : Name) → boundAt w i ≡ y → scopeNames w (entering w i os y) ≡ into (scopeNames w os) y
 unfolding entering boundAt
 names-entered w i os y e =

@@ -22,7 +22,7 @@ use Rattle.table.specs.Valid.{index}
 use Rattle.table.proofs.Size.{sizeP}
 use Rattle.text_build.specs.Rows.{idsOf, headOf}
 use Rattle.text_build.specs.Growth.{placeListed}
-use Rattle.text_build.proofs.Numbers.{same-turned}
+use Rattle.table.proofs.Names.{name-sym}
 use Rattle.text_tree.specs.Pass.{top}
 use Rattle.text_tree.specs.Asked.{callHeld, callsHeld}
 use Rattle.text_tree.proofs.Whole.{DefsStand, Whole}
@@ -70,7 +70,7 @@ module _ (x : Name) (vs : List Value) where
     for-is [] k i s m e = refl
     for-is (define y us p ∷ ds) k i s m e =
         let r = and-inv (not (member y (map identifier ds))) _ e in
-        rw (same-turned x y) (go (sameName y x) refl (not-true _ (r .0)) (for-is ds (k + 1) (i - sizeP p) (s .1) (omega arith) (r .1)))
+        rw (name-sym x y) (go (sameName y x) refl (not-true _ (r .0)) (for-is ds (k + 1) (i - sizeP p) (s .1) (omega arith) (r .1)))
       where
         -- its number among the rest
         j : ℕ

@@ -35,9 +35,10 @@ use Rattle.table.specs.Valid.{index, timerOk, markOk, compOk, stateOk, valid, s
 use Rattle.table.proofs.Size.{size, sizeP}
 use Rattle.table.proofs.Tests.{every-append}
 use Rattle.table.proofs.Places.{process-is}
+use Rattle.table.proofs.Fires.{map-append}
 use Rattle.text_build.specs.Rows.{Row, Stands, locsOf, headOf, chanKnown, partKnown, placeKnown}
 use Rattle.text_build.specs.Growth.{locListed}
-use Rattle.text_build.proofs.Numbers.{timer-is, loc-number, map-append}
+use Rattle.text_build.proofs.Numbers.{timer-is, loc-number}
 use Rattle.text_build.proofs.Places.{Fit, size-some, sizeP-some, every-split, fit-par}
 use Rattle.text_build.proofs.Stands.{known-first, process-means}
 use Rattle.text_tree.specs.Pass.{partSpots, spots, top, behind, putLocated, scriptOf, spotsOf}

@@ -20,13 +20,14 @@ use Rattle.table.specs.Meaning.{listFrom}
 use Rattle.table.specs.Tests.{rowName}
 use Rattle.table.specs.Valid.{index}
 use Rattle.table.proofs.ValidDefs.{params-names}
+use Rattle.table.proofs.Fires.{map-append}
 use Rattle.text_build.specs.declared.Scope.{Scope}
 use Rattle.text_build.specs.Rows.{scopeNames}
 use Rattle.text_build.specs.Put.{offsets}
 use Rattle.text_build.proofs.RowWords.{Eight}
 use Rattle.text_build.proofs.Entering.{Settled}
 use Rattle.text_build.proofs.Entering.Clear.{param}
-use Rattle.text_build.proofs.Numbers.{member-index, map-append}
+use Rattle.text_build.proofs.Numbers.{member-index}
 use Rattle.text_build.proofs.Passes.{InScript}
 use Rattle.text_tree.specs.Pass.{noScope, enterAt, paramsFrom, paramScope}
 use Rattle.text_tree.proofs.Once.{differ-none}

@@ -110,10 +110,6 @@ pub unmarked-table : (w : List ℕ) (st : State) → noMark w st ≡ every (λ c
 unfolding noMark netOf
 unmarked-table w st = unmarked-all w (compsOf st)
 
--- the length of an array, from that of its image
-pub mapped : {A B : Type 0} (f : A → B) (xs : List A) (n : ℕ) → length (map f xs) ≡ n → length xs ≡ n
-mapped f xs n e = sym (length-map xs f) ∙ e
-
 -- ── the components in use, by position ──
 module _ (st : State) (h : st .n ≤ length (st .c)) where
   pub comps-length : length (compsOf st) ≡ st .n

@@ -19,7 +19,7 @@ use Rattle.table.specs.Words.{nameAt, locName, field, ownAt, boundAt, atMost8, 
 use Rattle.table.specs.Meaning.{valueOf, envAt}
 use Rattle.table.specs.Valid.{index, slotOk, refOk, entered}
 use Rattle.table.proofs.Scopes.{enter, enter-is, index-enter}
-use Rattle.table.proofs.Fires.{scope-length, names-length, map-append}
+use Rattle.table.proofs.Fires.{scope-length, names-length, map-append, getD-map}
 use Rattle.text_write.specs.Forms.{valueText}
 use Rattle.text_write.specs.Values.{shown, holds, someAt, valueSeen}
 
@@ -116,11 +116,6 @@ holds-slot (y ∷ ys) (v ∷ hs) x h k = go (sameName y x) h (λ i. holds-slot y
     go : (b : Bool) → cond b 0 (suc (index ys x)) < length (y ∷ ys) → (index ys x < length ys → holds ys hs x ≡ getD hs (index ys x) unset) → cond b v (holds ys hs x) ≡ getD (v ∷ hs) (cond b 0 (suc (index ys x))) unset
     go true h k = refl
     go false h k = k (omega arith)
-
-getD-map : {A B : Type 0} (f : A → B) (xs : List A) (k : ℕ) (a : A) (b : B) → k < length xs → getD (map f xs) k b ≡ f (getD xs k a)
-getD-map f [] k a b h = absurd (omega arith)
-getD-map f (x ∷ xs) zero a b h = refl
-getD-map f (x ∷ xs) (suc k) a b h = getD-map f xs k a b (omega arith)
 
 nth-field : (w : List ℕ) (i k : ℕ) → k < 8
     → getD (field w i 9 ∷ field w i 10 ∷ field w i 11 ∷ field w i 12 ∷ field w i 13 ∷ field w i 14 ∷ field w i 15 ∷ field w i 16 ∷ []) k 0 ≡ field w i (9 + k)

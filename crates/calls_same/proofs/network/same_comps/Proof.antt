@@ -7,7 +7,8 @@ use mathlib.Core.Logic.{⊎-elim}
 use mathlib.Core.Path.{_≡_, refl, ap, sym, _∙_}
 use lib.ListN.{length}
 use borrow.Author.Count.{below-more}
-use Rattle.text_write.proofs.Networks.{mapped, valid-script, valid-state}
+use Rattle.table.proofs.ValidWhole.{mapped}
+use Rattle.text_write.proofs.Networks.{valid-script, valid-state}
 use Rattle.calls_same.proofs.Matched.{net-length, comp-held, uneven, Unequal, Left, begun, step, stuck, ended}
 use borrow.Author.Needs.{needs}
 use Rattle.calls_same.proofs.network.same_comps.Statement.{statement}

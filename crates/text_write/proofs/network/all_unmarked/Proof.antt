@@ -10,7 +10,8 @@ use borrow.Author.Tests.{lt-ltb, le-ltb}
 use Rattle.terms.specs.Same.{every}
 use Rattle.table.specs.declared.Comp.{Comp}
 use Rattle.table.specs.Meaning.{compsOf}
-use Rattle.text_write.proofs.Networks.{mapped, every-yes, every-no, every-end}
+use Rattle.table.proofs.ValidWhole.{mapped}
+use Rattle.text_write.proofs.Networks.{every-yes, every-no, every-end}
 use borrow.Author.Needs.{needs}
 use Rattle.text_write.proofs.network.all_unmarked.Statement.{statement}
 use Rattle.text_write.proofs.network.all_unmarked.Tie as tie
