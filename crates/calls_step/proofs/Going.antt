@@ -8,7 +8,7 @@ use mathlib.Core.Bool.{Bool, true, false, cond, _&&_}
 use mathlib.Core.Path.{_≡_, refl, sym, ap, subst, _∙_}
 use lib.Dec.{eqb, ltb}
 use lib.ListN.{length, getD, set, take, length-set, length-map, length-take}
-use lib.Seq.{getD-set-same, getD-set-other, take-suc-set, take-set-le}
+use lib.Seq.{getD-set-same, getD-set-other, set-getD, take-suc-set, take-set-le}
 use borrow.Author.Tests.{eqb-true, eqb-false, eq-eqb, ltb-true, ltb-false}
 use Rattle.terms.specs.Same.{every}
 use Rattle.terms.specs.Rules.{Answer, Action, _>>=_, at, seek}
@@ -17,6 +17,8 @@ use Rattle.terms.specs.Rules.Answer.{refused, accepted}
 use Rattle.terms.proofs.Answers.{clash, took}
 use Rattle.table.specs.declared.Comp.{Comp}
 use Rattle.table.specs.declared.State.{State}
+use Rattle.table.specs.declared.Head.{Head}
+use Rattle.table.specs.declared.Head.the-variants.{Stop, Go, Out, In, Call}
 use Rattle.table.specs.Words.{headAt}
 use Rattle.table.specs.Meaning.{compsOf}
 use Rattle.table.specs.Valid.{scriptOk, compOk, valid}
@@ -29,7 +31,7 @@ use Rattle.calls_act.proofs.Positions.{at-take, take-put, valid-parts, few-comp
 use Rattle.calls_step.specs.declared.Rec.{Rec}
 use Rattle.calls_step.specs.declared.Visit.{Visit}
 use Rattle.calls_step.specs.Sweep.{SweptAt, idleAt, tookAt, takenAt, visitAt, followedAt, choiceAt, sweepAt, hearers, Chain, Queued, recOf}
-use Rattle.calls_step.specs.Visit.{sendsAt, kindAt, Performed, otherOf, poppedOf, recBy, someOf}
+use Rattle.calls_step.specs.Visit.{sendsAt, kindAt, sentOn, kindBy, Performed, otherOf, poppedOf, recBy}
 use Rattle.calls_step.proofs.Queues.{seek-first, sends-fits}
 use Rattle.calls_step.proofs.Sweeping.{recsOf, Turned, turned-none, turned-some}
 
@@ -68,11 +70,20 @@ seek-below f (x ∷ xs) i e = go (f x) (seek f xs) refl e (seek-below f xs)
     go false (accepted j) q e k = let z : _≡_ {A = ℕ} (suc j) i = took e in omega (arith, k j q)
 
 -- ── records ──
+-- 1 for an action, 0 for none
+abbrev someOf : ℕ → ℕ
+someOf zero = 0
+someOf (suc k) = 1
+
+some-one : (k : ℕ) → (k ≡ 0 → ⊥) → someOf k ≡ 1
+some-one zero n = absurd (n refl)
+some-one (suc k) n = refl
+
 take-rec : (acts : List Rec) (count k p q : ℕ) → count < length acts → take (count + someOf k) (set acts count (recBy k p q)) ≡ take count acts ++ recsOf k p q
 take-rec acts count zero p q h = let z : count + 0 ≡ count = omega arith in ap (λ n. take n (set acts count (recBy 0 p q))) z ∙ take-set-le count acts count (recBy 0 p q) (omega arith) ∙ sym (append-nil (take count acts))
 take-rec acts count (suc k) p q h = ap (λ n. take n (set acts count (recBy (suc k) p q))) (add-one count) ∙ take-suc-set acts count (recBy (suc k) p q) h
 
-pub some-fits : (k : ℕ) → someOf k ≤ 1
+some-fits : (k : ℕ) → someOf k ≤ 1
 some-fits zero = omega arith
 some-fits (suc k) = omega arith
 
@@ -84,6 +95,27 @@ chain-none nexts x (q ∷ qs) c e = absurd (omega (arith, c .0))
 chain-some : (nexts : List ℕ) (q : ℕ) (qs : List ℕ) → Chain nexts (suc q) qs → (rest : List ℕ) × (qs ≡ q ∷ rest) × Chain nexts (getD nexts q 0) rest
 chain-some nexts q [] c = absurd (omega arith)
 chain-some nexts q (r ∷ rest) c = let z : q ≡ r = omega (arith, c .0) in (rest, ap (λ y. y ∷ rest) (sym z), subst (λ y. Chain nexts (getD nexts y 0) rest) (sym z) (c .1))
+
+-- where nothing fires there is no link
+head-idle : (x t : ℕ) (h : Head) → kindBy x t h ≡ 0 → (sentOn h ≡ 64 → x ≡ 0) → x ≡ 0
+unfolding kindBy sentOn
+head-idle x t Stop e n = n refl
+head-idle x t (Go u y q) e n = n refl
+head-idle x t (In d u k q r) e n = n refl
+head-idle x t (Call d m a₀ a₁ a₂ a₃) e n = n refl
+head-idle x t (Out d u y q r) e n = go (eqb x 0) refl e
+  where
+    go : (b : Bool) → eqb x 0 ≡ b → _≡_ {A = ℕ} (cond b 0 3) 0 → x ≡ 0
+    go true z e = eqb-true x 0 z
+    go false z e = absurd (omega arith)
+
+idle-link : (w : List ℕ) (l : ℕ) (c : Comp) (x : ℕ) → kindAt w l c x ≡ 0 → (sendsAt w l c ≡ 64 → x ≡ 0) → x ≡ 0
+unfolding kindAt sendsAt
+idle-link w l c x = go (readyAt l c)
+  where
+    go : (b : Bool) → cond b (kindBy x (c .timer) (headAt w (c .place))) 0 ≡ 0 → (cond b (sentOn (headAt w (c .place))) 64 ≡ 64 → x ≡ 0) → x ≡ 0
+    go true e n = head-idle x (c .timer) (headAt w (c .place)) e n
+    go false e n = n refl
 
 module _ (w : List ℕ) (good : scriptOk w ≡ true) (l : ℕ) (st now : State) (heads nexts : List ℕ) (acts : List Rec) (count p : ℕ) (few : st .n ≤ 256) (i : Going w l st now heads nexts acts count p) (h : p < st .n) where
   abbrev cs : List Comp
@@ -206,7 +238,7 @@ module _ (w : List ℕ) (good : scriptOk w ≡ true) (l : ℕ) (st now : State) 
         ∙ ap (λ z. record { actions = visitAt w l p (at (compsOf now) p) (compsOf now) .actions ++ sweepAt w l (suc p) (st .n - (p + 1)) z .actions; comps = sweepAt w l (suc p) (st .n - (p + 1)) z .comps }) visited
         ∙ ap (λ z. record { actions = visitAt w l p (at (compsOf now) p) (compsOf now) .actions ++ z .actions; comps = z .comps }) (rest-is (st .n - (p + 1)) refl)
 
-    pub going-turn : Going w l st (record { c = set (set (now .c) p (v .x)) (otherOf p (getD heads (sendsAt w l (getD (now .c) p noComp)) 0)) (v .y); n = now .n })
+    going-turn : Going w l st (record { c = set (set (now .c) p (v .x)) (otherOf p (getD heads (sendsAt w l (getD (now .c) p noComp)) 0)) (v .y); n = now .n })
         (set heads (sendsAt w l (getD (now .c) p noComp)) (poppedOf (getD heads (sendsAt w l (getD (now .c) p noComp)) 0) (getD nexts (otherOf p (getD heads (sendsAt w l (getD (now .c) p noComp)) 0)) 0))) nexts
         (set acts count (recBy (kindAt w l (getD (now .c) p noComp) (getD heads (sendsAt w l (getD (now .c) p noComp)) 0)) p (otherOf p (getD heads (sendsAt w l (getD (now .c) p noComp)) 0))))
         (count + someOf (kindAt w l (getD (now .c) p noComp) (getD heads (sendsAt w l (getD (now .c) p noComp)) 0))) (p + 1)
@@ -226,6 +258,45 @@ module _ (w : List ℕ) (good : scriptOk w ≡ true) (l : ℕ) (st now : State) 
           ∙ i .actions;
       comps = ap (λ z. z .comps) (sym stepped) ∙ i .comps;
     }
+
+    pub going-fires : (kindAt w l (getD (now .c) p noComp) (getD heads (sendsAt w l (getD (now .c) p noComp)) 0) ≡ 0 → ⊥) → Going w l st (record { c = set (set (now .c) p (v .x)) (otherOf p (getD heads (sendsAt w l (getD (now .c) p noComp)) 0)) (v .y); n = now .n })
+        (set heads (sendsAt w l (getD (now .c) p noComp)) (poppedOf (getD heads (sendsAt w l (getD (now .c) p noComp)) 0) (getD nexts (otherOf p (getD heads (sendsAt w l (getD (now .c) p noComp)) 0)) 0))) nexts
+        (set acts count (recBy (kindAt w l (getD (now .c) p noComp) (getD heads (sendsAt w l (getD (now .c) p noComp)) 0)) p (otherOf p (getD heads (sendsAt w l (getD (now .c) p noComp)) 0))))
+        (count + 1) (p + 1)
+    going-fires d = subst (λ m. Going w l st next (set heads s (poppedOf x (getD nexts q 0))) nexts (set acts count (recBy k p q)) (count + m) (p + 1)) (some-one k d) going-turn
+
+  -- a position where nothing fires is passed, and nothing changes
+  module _ (idle : kindAt w l (getD (now .c) p noComp) (getD heads (sendsAt w l (getD (now .c) p noComp)) 0) ≡ 0) where
+    -- the visit that leaves both as they were
+    stays : Visit
+    stays = record { x = getD (now .c) p noComp; y = getD (now .c) (otherOf p (getD heads (sendsAt w l (getD (now .c) p noComp)) 0)) noComp }
+
+    performed : (k : ℕ) → k ≡ 0 → Performed w k (getD (now .c) p noComp) (getD (now .c) (otherOf p (getD heads (sendsAt w l (getD (now .c) p noComp)) 0)) noComp) stays
+    unfolding stays
+    performed k e = record { none = λ z. (refl, refl); call = λ z. absurd (omega arith); move = λ z. absurd (omega arith); pair = λ z. absurd (omega arith) }
+
+    kept : (y : ℕ) → getD heads (sendsAt w l (getD (now .c) p noComp)) 0 ≡ y → y ≡ 0 → set (set (now .c) p (getD (now .c) p noComp)) (otherOf p y) (getD (now .c) (otherOf p y) noComp) ≡ now .c
+    kept zero e z = ap (λ cs. set cs p (getD (now .c) p noComp)) (set-getD (now .c) p noComp) ∙ set-getD (now .c) p noComp
+    kept (suc q) e z = absurd (omega arith)
+
+    pub going-idle : Going w l st now heads nexts acts count (p + 1)
+    unfolding stays
+    going-idle =
+        let g = going-turn stays (performed _ idle) in
+        let z = kept _ refl (idle-link w l c x idle no-channel) in
+        record {
+          few-p = g .few-p;
+          few-count = omega (arith, i .few-count);
+          size = i .size;
+          same = i .same;
+          room = i .room;
+          fine = i .fine;
+          queue = i .queue;
+          actions =
+              ap (λ cs. cs ++ map recOf (sweepAt w l (p + 1) (st .n - (p + 1)) (compsOf now) .actions)) (sym (take-rec acts count (kindAt w l c x) p (otherOf p x) (omega (arith, i .room, i .few-count)) ∙ ap (λ k. take count acts ++ recsOf k p (otherOf p x)) idle ∙ append-nil (take count acts)))
+              ∙ subst (λ cs. take (count + someOf (kindAt w l c x)) (set acts count (recBy (kindAt w l c x) p (otherOf p x))) ++ map recOf (sweepAt w l (p + 1) (st .n - (p + 1)) (compsOf (record { c = cs; n = now .n })) .actions) ≡ map recOf (sweepAt w l 0 (st .n) (compsOf st) .actions)) z (g .actions);
+          comps = subst (λ cs. sweepAt w l (p + 1) (st .n - (p + 1)) (compsOf (record { c = cs; n = now .n })) .comps ≡ sweepAt w l 0 (st .n) (compsOf st) .comps) z (g .comps);
+        }
 
 pub going-begin : (w : List ℕ) (l : ℕ) (st : State) (heads nexts : List ℕ) (acts : List Rec) → length (st .c) ≡ 256 → length acts ≡ 256 → every (compOk w) (compsOf st) ≡ true → Queued w l 0 (compsOf st) heads nexts → Going w l st st heads nexts acts 0 0
 going-begin w l st heads nexts acts e r f q =

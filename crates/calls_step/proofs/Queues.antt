@@ -23,9 +23,10 @@ use Rattle.table.specs.declared.State.{State}
 use Rattle.table.specs.Meaning.{compsOf}
 use Rattle.calls_act.specs.Acted.{noComp}
 use Rattle.calls_act.proofs.Positions.{length-comps}
-use Rattle.calls_tick.proofs.Hearing.{ear-fits, inEar}
+use Rattle.calls_tick.specs.Heard.{heardOn, hearsAt}
+use Rattle.calls_tick.proofs.Hearing.{ear-fits, inEar, hears-own}
 use Rattle.calls_step.specs.Sweep.{hearers, Chain, Queued}
-use Rattle.calls_step.specs.Visit.{heardOn, sentOn, hearsAt, sendsAt, link, otherOf, poppedOf, someOf}
+use Rattle.calls_step.specs.Visit.{sentOn, sendsAt, link, otherOf, poppedOf}
 
 -- ── positions of a chain ──
 abbrev Above : ℕ → List ℕ → Type 0
@@ -51,22 +52,6 @@ frame nexts i v x [] a c = c
 frame nexts i v x (q ∷ qs) a c = (c .0, frame nexts i v _ qs (a .1) (subst (λ z. Chain nexts z qs) (sym (getD-set-other nexts i q v 0 (λ e. omega (arith, a .0)))) (c .1)))
 
 -- ── one more component in front ──
--- a channel is heard exactly if it is the component's own
-hears-own : (w : List ℕ) (l g : ℕ) (c : Comp) → g < 64 → (readyAt l c && hears g (headAt w (c .place))) ≡ eqb g (hearsAt w l c)
-unfolding hearsAt
-hears-own w l g c h = go (readyAt l c) (headAt w (c .place))
-  where
-    none : false ≡ eqb g 64
-    none = sym (ne-eqb g 64 (λ e. omega arith))
-
-    go : (b : Bool) (x : Head) → (b && hears g x) ≡ eqb g (cond b (heardOn x) 64)
-    go false x = none
-    go true Stop = unfold hears heardOn in none
-    go true (Go t v p) = unfold hears heardOn in none
-    go true (Out d t v p q) = unfold hears heardOn in none
-    go true (In d t k p q) = unfold hears heardOn in refl
-    go true (Call d n a₀ a₁ a₂ a₃) = unfold hears heardOn in none
-
 heard-small : (g : Head) → inEar 64 g → heardOn g ≤ 64
 unfolding heardOn
 heard-small Stop i = omega arith
@@ -189,10 +174,6 @@ other-some p (suc q) h = omega arith
 pub popped-some : (x nx : ℕ) → (x ≡ 0 → ⊥) → nx ≡ poppedOf x nx
 popped-some zero nx h = absurd (h refl)
 popped-some (suc q) nx h = refl
-
-pub some-some : (k : ℕ) → (k ≡ 0 → ⊥) → 1 ≡ someOf k
-some-some zero h = absurd (h refl)
-some-some (suc k) h = refl
 
 -- ── from the last position down ──
 pub dropped-all : (st : State) → length (st .c) ≡ 256 → st .n ≤ 256 → drop (st .n) (compsOf st) ≡ []

@@ -21,14 +21,6 @@ use Rattle.calls_step.specs.declared.Visit.{Visit}
 use Rattle.calls_step.specs.declared.Swept.{Swept}
 use Rattle.calls_step.specs.Sweep.{SweptAt, sweepAt, recOf}
 
--- the channel of an input; 64 for none
-unfoldable pub heardOn : Head → ℕ
-heardOn Stop = 64
-heardOn (Go t v p) = 64
-heardOn (Out h t v p q) = 64
-heardOn (In h t k p q) = h
-heardOn (Call d n a₀ a₁ a₂ a₃) = 64
-
 -- the channel of an output; 64 for none
 unfoldable pub sentOn : Head → ℕ
 sentOn Stop = 64
@@ -38,9 +30,6 @@ sentOn (In h t k p q) = 64
 sentOn (Call d n a₀ a₁ a₂ a₃) = 64
 
 -- of a component that is ready at l
-unfoldable pub hearsAt : List ℕ → ℕ → Comp → ℕ
-hearsAt w l c = cond (readyAt l c) (heardOn (headAt w (c .place))) 64
-
 unfoldable pub sendsAt : List ℕ → ℕ → Comp → ℕ
 sendsAt w l c = cond (readyAt l c) (sentOn (headAt w (c .place))) 64
 
@@ -76,13 +65,9 @@ abbrev pub poppedOf : ℕ → ℕ → ℕ
 poppedOf zero nx = 0
 poppedOf (suc q) nx = nx
 
--- the record of an action of kind k; 1 if there is one
+-- the record of an action of kind k
 abbrev pub recBy : ℕ → ℕ → ℕ → Rec
 recBy k p q = record { kind = k; p = p; q = cond (eqb k 3) q 0 }
-
-abbrev pub someOf : ℕ → ℕ
-someOf zero = 0
-someOf (suc k) = 1
 
 -- the sweep over all positions: its records, how many, and the components it leaves
 pub record SweepsAs (w : List ℕ) (l : ℕ) (st : State) (r : Swept) : Type 0 where

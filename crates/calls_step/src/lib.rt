@@ -34,8 +34,8 @@ pub struct Visit {
 // The actions of a step, how many, and the state that they leave.
 pub struct Swept {
     pub state: State,
-    pub acts: [Rec; 256],
     pub count: usize,
+    pub acts: [Rec; 256],
 }
 
 // The answer of a step: code 0 with the number of actions and the next state, or the number of the question answered by no with the state as it was.

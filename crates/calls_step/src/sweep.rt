@@ -2,10 +2,8 @@
 ghost use mathlib.Core.Path.{_≡_};
 ghost use mathlib.Core.Bool.{true};
 ghost use Prim.Native.Nat.{_<_, _≤_};
-ghost use Rattle.table.specs.Meaning.{compsOf};
 ghost use Rattle.table.specs.Valid.{scriptOk, compOk, valid};
-ghost use Rattle.calls_step.specs.Sweep.{Queued};
-ghost use Rattle.calls_step.specs.Visit.{heardOn, sentOn, hearsAt, sendsAt, link, kindBy, kindAt, Performed, otherOf, poppedOf, recBy, someOf, SweepsAs};
+ghost use Rattle.calls_step.specs.Visit.{sentOn, sendsAt, link, kindBy, kindAt, Performed, otherOf, poppedOf, recBy, SweepsAs};
 use super::Queue;
 use super::Rec;
 use super::Swept;
@@ -17,18 +15,6 @@ use table::Head;
 use table::State;
 use table::words;
 
-fn heard_on(h: Head) -> u32
-    ensures { λ r. ⌜ r ≡ heardOn h ⌝ }
-{
-    match h {
-        Head::In(d, _, _, _, _) => d,
-        Head::Stop => 64,
-        Head::Go(_, _, _) => 64,
-        Head::Out(_, _, _, _, _) => 64,
-        Head::Call(_, _, _, _, _, _) => 64,
-    }
-}
-
 fn sent_on(h: Head) -> u32
     ensures { λ r. ⌜ r ≡ sentOn h ⌝ }
 {
@@ -39,17 +25,6 @@ fn sent_on(h: Head) -> u32
         Head::In(_, _, _, _, _) => 64,
         Head::Call(_, _, _, _, _, _) => 64,
     }
-}
-
-fn hears_at(w: &[u32; 99592], l: u32, c: Comp) -> u32
-    requires { ⌜ (scriptOk (now w) ≡ true) × (compOk (now w) c ≡ true) ⌝ }
-    ensures { λ r. ⌜ r ≡ hearsAt (now (w .entry)) l c ⌝ }
-{
-    if forced::ready_at(l, c) {
-        let h = words::head_at(w, words::wide(c.place));
-        return heard_on(h);
-    }
-    64
 }
 
 fn sends_at(w: &[u32; 99592], l: u32, c: Comp) -> u32
@@ -165,43 +140,27 @@ fn rec_by(k: u32, p: usize, q: usize) -> Rec
     }
 }
 
-fn some_of(k: u32) -> usize
-    ensures { λ r. ⌜ r ≡ someOf k ⌝ }
-{
-    if k == 0 {
-        return 0;
-    }
-    1
-}
-
-fn queue_of(w: &[u32; 99592], st: State, l: u32) -> Queue
-    requires { ⌜ valid (now w) st ≡ true ⌝ }
-    ensures { λ r. ⌜ Queued (now (w .entry)) l 0 (compsOf st) (r .heads) (r .nexts) ⌝ }
-{
-    let mut out = Queue {
-        heads: [0u32; 65],
-        nexts: [0u32; 256],
-    };
-    let mut j = st.n;
-    while 0 < j {
-        let i = j - 1;
-        let c = st.c[i];
-        let h = words::wide(hears_at(w, l, c));
-        let old = out.heads[h];
-        out.nexts[i] = old;
-        out.heads[h] = link_to(h, i);
-        j = i;
-    }
-    out
-}
-
+// The chains are made and the positions gone through in one function, since a state that goes into a function is copied.
 pub fn sweep(w: &[u32; 99592], st: State, l: u32) -> Swept
     requires { ⌜ valid (now w) st ≡ true ⌝ }
     ensures { λ r. ⌜ SweepsAs (now (w .entry)) l st r ⌝ }
 {
     let n = st.n;
-    let mut queue = queue_of(w, st, l);
     let mut state = st;
+    let mut queue = Queue {
+        heads: [0u32; 65],
+        nexts: [0u32; 256],
+    };
+    let mut j = n;
+    while 0 < j {
+        let i = j - 1;
+        let c = state.c[i];
+        let h = words::wide(forced::hears_at(w, l, c));
+        let old = queue.heads[h];
+        queue.nexts[i] = old;
+        queue.heads[h] = link_to(h, i);
+        j = i;
+    }
     let mut acts = [Rec {
         kind: 0,
         p: 0,
@@ -213,23 +172,27 @@ pub fn sweep(w: &[u32; 99592], st: State, l: u32) -> Swept
         let c = state.c[p];
         let s = words::wide(sends_at(w, l, c));
         let x = queue.heads[s];
+        let k = kind_at(w, l, c, x);
+        if k == 0 {
+            p += 1;
+            continue;
+        }
         let q = other_of(p, x);
         let e = state.c[q];
-        let k = kind_at(w, l, c, x);
         let v = perform(w, k, c, e);
         let a = v.x;
         let b = v.y;
         state.c[p] = a;
         state.c[q] = b;
         acts[count] = rec_by(k, p, q);
-        count += some_of(k);
+        count += 1;
         let nx = queue.nexts[q];
         queue.heads[s] = popped_of(x, nx);
         p += 1;
     }
     Swept {
         state: state,
-        acts: acts,
         count: count,
+        acts: acts,
     }
 }

@@ -25,7 +25,7 @@ use Rattle.table.proofs.Tests.{script-fine, part-fine, comp-fine}
 use Rattle.table.proofs.Places.{out-fine, in-fine}
 use Rattle.calls_act.proofs.Positions.{at-take, valid-parts}
 use Rattle.calls_act.specs.Acted.{noComp}
-use Rattle.calls_tick.specs.Heard.{withEar, heardBy, Heard, pressesBy, pressedBy}
+use Rattle.calls_tick.specs.Heard.{heardOn, hearsAt, Heard, pressesBy, pressedBy}
 
 -- ── lists ──
 pub some-append : {A : Type 0} (f : A → Bool) (xs ys : List A) → some f (xs ++ ys) ≡ (some f xs || some f ys)
@@ -68,37 +68,21 @@ ear-small w i (Call d m a₀ a₁ a₂ a₃) e n = tt
 pub ear-fits : (w : List ℕ) (c : Comp) → scriptOk w ≡ true → compOk w c ≡ true → inEar 64 (headAt w (c .place))
 ear-fits w c e f = ear-small w (c .place) (headAt w (c .place)) (part-fine w e (c .place) (comp-fine w c f .place) .head) (script-fine w e .chans)
 
-ear-length : (h : Head) (ys : List ℕ) → length (withEar h ys) ≡ length ys
-unfolding withEar
-ear-length Stop ys = refl
-ear-length (Go t v p) ys = refl
-ear-length (Out h t v p q) ys = refl
-ear-length (In h t k p q) ys = length-set ys h 1
-ear-length (Call d n a₀ a₁ a₂ a₃) ys = refl
-
-pub heard-length : (w : List ℕ) (l : ℕ) (c : Comp) (ys : List ℕ) → length (heardBy w l c ys) ≡ length ys
-unfolding heardBy
-heard-length w l c ys = go (readyAt l c)
+-- a channel is heard exactly if it is the component's own
+pub hears-own : (w : List ℕ) (l g : ℕ) (c : Comp) → g < 64 → (readyAt l c && hears g (headAt w (c .place))) ≡ eqb g (hearsAt w l c)
+unfolding hearsAt
+hears-own w l g c h = go (readyAt l c) (headAt w (c .place))
   where
-    go : (b : Bool) → length (cond b (withEar (headAt w (c .place)) ys) ys) ≡ length ys
-    go true = ear-length (headAt w (c .place)) ys
-    go false = refl
+    none : false ≡ eqb g 64
+    none = sym (ne-eqb g 64 (λ e. omega arith))
 
-ear-at : (g : Head) (ys : List ℕ) (h : ℕ) → length ys ≡ 64 → inEar 64 g → eqb (getD (withEar g ys) h 0) 1 ≡ (eqb (getD ys h 0) 1 || hears h g)
-unfolding withEar hears
-ear-at Stop ys h n i = sym (or-none _)
-ear-at (Go t v p) ys h n i = sym (or-none _)
-ear-at (Out d t v p q) ys h n i = sym (or-none _)
-ear-at (Call d m a₀ a₁ a₂ a₃) ys h n i = sym (or-none _)
-ear-at (In d t k p q) ys h n i = go (eqb h d) refl
-  where
-    go : (b : Bool) → eqb h d ≡ b → eqb (getD (set ys d 1) h 0) 1 ≡ (eqb (getD ys h 0) 1 || b)
-    go true e = rw (eqb-true h d e, getD-set-same ys d 1 0 (omega arith)) (yes-or (eqb (getD ys d 0) 1))
-      where
-        yes-or : (b : Bool) → eqb 1 1 ≡ (b || true)
-        yes-or true = refl
-        yes-or false = refl
-    go false e = rw (getD-set-other ys d h 1 0 (eqb-false h d e)) (sym (or-none (eqb (getD ys h 0) 1)))
+    go : (b : Bool) (x : Head) → (b && hears g x) ≡ eqb g (cond b (heardOn x) 64)
+    go false x = none
+    go true Stop = unfold hears heardOn in none
+    go true (Go t v p) = unfold hears heardOn in none
+    go true (Out d t v p q) = unfold hears heardOn in none
+    go true (In d t k p q) = unfold hears heardOn in refl
+    go true (Call d n a₀ a₁ a₂ a₃) = unfold hears heardOn in none
 
 pub heard-none : (w : List ℕ) (l : ℕ) → Heard w l [] (replicate 64 0)
 unfolding some
@@ -109,20 +93,27 @@ heard-none w l h k = zeros 64 h
     zeros (suc n) zero = refl
     zeros (suc n) (suc h) = zeros n h
 
--- one more component is looked at
-pub heard-more : (w : List ℕ) (l : ℕ) (xs : List Comp) (j : ℕ) (d : Comp) (ys : List ℕ) → j < length xs → length ys ≡ 64 → scriptOk w ≡ true → compOk w (getD xs j d) ≡ true
-    → Heard w l (take j xs) ys → Heard w l (take (j + 1) xs) (heardBy w l (getD xs j d) ys)
-unfolding heardBy
-heard-more w l xs j d ys b n e f p h k =
-    go (readyAt l (getD xs j d)) refl
-  where
-    go : (r : Bool) → readyAt l (getD xs j d) ≡ r
-        → eqb (getD (cond r (withEar (headAt w (getD xs j d .place)) ys) ys) h 0) 1 ≡ some (λ e. readyAt l e && hears h (headAt w (e .place))) (take (j + 1) xs)
-    go false q = p h k ∙ sym (some-more (λ e. readyAt l e && hears h (headAt w (e .place))) xs j d b ∙ rw q (or-none _))
-    go true q =
-        ear-at (headAt w (getD xs j d .place)) ys h n (ear-fits w (getD xs j d) e f)
-        ∙ ap (λ z. z || hears h (headAt w (getD xs j d .place))) (p h k)
-        ∙ sym (some-more (λ e. readyAt l e && hears h (headAt w (e .place))) xs j d b ∙ rw q)
+-- one more component is looked at, which hears a channel, or none
+module _ (w : List ℕ) (l : ℕ) (xs : List Comp) (j : ℕ) (d : Comp) (ys : List ℕ) (b : j < length xs) (n : length ys ≡ 64) (p : Heard w l (take j xs) ys) where
+  one-more : (h : ℕ) → h < 64 → some (λ e. readyAt l e && hears h (headAt w (e .place))) (take (j + 1) xs) ≡ (eqb (getD ys h 0) 1 || eqb h (hearsAt w l (getD xs j d)))
+  one-more h k =
+      some-more (λ e. readyAt l e && hears h (headAt w (e .place))) xs j d b
+      ∙ ap (λ z. z || (readyAt l (getD xs j d) && hears h (headAt w (getD xs j d .place)))) (sym (p h k))
+      ∙ ap (λ z. eqb (getD ys h 0) 1 || z) (hears-own w l h (getD xs j d) k)
+
+  pub heard-more : hearsAt w l (getD xs j d) < 64 → Heard w l (take (j + 1) xs) (set ys (hearsAt w l (getD xs j d)) 1)
+  heard-more m h k = go (eqb h (hearsAt w l (getD xs j d))) refl ∙ sym (one-more h k)
+    where
+      yes-or : (b : Bool) → eqb 1 1 ≡ (b || true)
+      yes-or true = refl
+      yes-or false = refl
+
+      go : (t : Bool) → eqb h (hearsAt w l (getD xs j d)) ≡ t → eqb (getD (set ys (hearsAt w l (getD xs j d)) 1) h 0) 1 ≡ (eqb (getD ys h 0) 1 || eqb h (hearsAt w l (getD xs j d)))
+      go true e = ap (λ z. eqb (getD (set ys (hearsAt w l (getD xs j d)) 1) z 0) 1) (eqb-true h _ e) ∙ ap (λ z. eqb z 1) (getD-set-same ys (hearsAt w l (getD xs j d)) 1 0 (omega arith)) ∙ rw e (yes-or (eqb (getD ys h 0) 1))
+      go false e = ap (λ z. eqb z 1) (getD-set-other ys (hearsAt w l (getD xs j d)) h 1 0 (eqb-false h _ e)) ∙ rw e (sym (or-none (eqb (getD ys h 0) 1)))
+
+  pub heard-past : 64 ≤ hearsAt w l (getD xs j d) → Heard w l (take (j + 1) xs) ys
+  heard-past m h k = sym (one-more h k ∙ rw (ne-eqb h (hearsAt w l (getD xs j d)) (λ e. omega arith)) (or-none (eqb (getD ys h 0) 1)))
 
 -- ── what presses ──
 presses-heard : (w : List ℕ) (l : ℕ) (cs : List Comp) (ys : List ℕ) (t : ℕ) (g : Head) → inEar 64 g → Heard w l cs ys → pressesBy ys t g ≡ pressesAt w l cs t g

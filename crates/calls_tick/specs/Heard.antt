@@ -4,7 +4,7 @@ use mathlib.Core.List.{List, [], _∷_}
 use mathlib.Core.Bool.{Bool, true, false, cond, _&&_}
 use mathlib.Core.Path.{_≡_}
 use lib.Dec.{eqb}
-use lib.ListN.{getD, set, take}
+use lib.ListN.{getD}
 use Rattle.terms.specs.Rules.{some}
 use Rattle.table.specs.declared.Comp.{Comp}
 use Rattle.table.specs.declared.Head.{Head}
@@ -12,17 +12,17 @@ use Rattle.table.specs.declared.Head.the-variants.{Stop, Go, Out, In, Call}
 use Rattle.table.specs.Words.{headAt}
 use Rattle.table.specs.Fire.{readyAt, hears}
 
--- ys with a 1 at the channel that the head hears
-unfoldable pub withEar : Head → List ℕ → List ℕ
-withEar Stop ys = ys
-withEar (Go t v p) ys = ys
-withEar (Out h t v p q) ys = ys
-withEar (In h t k p q) ys = set ys h 1
-withEar (Call d n a₀ a₁ a₂ a₃) ys = ys
+-- the channel of an input; 64 for none
+unfoldable pub heardOn : Head → ℕ
+heardOn Stop = 64
+heardOn (Go t v p) = 64
+heardOn (Out h t v p q) = 64
+heardOn (In h t k p q) = h
+heardOn (Call d n a₀ a₁ a₂ a₃) = 64
 
--- ys with the channel that c hears if it is ready at l
-unfoldable pub heardBy : List ℕ → ℕ → Comp → List ℕ → List ℕ
-heardBy w l c ys = cond (readyAt l c) (withEar (headAt w (c .place)) ys) ys
+-- the channel that c hears if it is ready at l
+unfoldable pub hearsAt : List ℕ → ℕ → Comp → ℕ
+hearsAt w l c = cond (readyAt l c) (heardOn (headAt w (c .place))) 64
 
 -- ys has a 1 for each channel that one of cs, ready at l, hears
 abbrev pub Heard : List ℕ → ℕ → List Comp → List ℕ → Type 0

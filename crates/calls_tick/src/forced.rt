@@ -7,8 +7,7 @@ ghost use lib.ListN.{getD};
 ghost use Rattle.table.specs.Meaning.{compsOf};
 ghost use Rattle.table.specs.Valid.{scriptOk, compOk, valid};
 ghost use Rattle.table.specs.Fire.{readyAt, forcedAt};
-ghost use Rattle.calls_tick.specs.Heard.{withEar, heardBy, Heard, pressesBy, pressedBy};
-use super::Ears;
+ghost use Rattle.calls_tick.specs.Heard.{heardOn, hearsAt, Heard, pressesBy, pressedBy};
 use table::Comp;
 use table::Head;
 use table::State;
@@ -23,54 +22,50 @@ pub fn ready_at(l: u32, c: Comp) -> bool
     c.loc == l
 }
 
-fn with_ear(h: Head, ears: Ears) -> Ears
-    ensures { λ r. ⌜ r .y ≡ withEar h (ears .y) ⌝ }
+fn heard_on(h: Head) -> u32
+    ensures { λ r. ⌜ r ≡ heardOn h ⌝ }
 {
     match h {
-        Head::In(d, _, _, _, _) => {
-            let k = words::wide(d);
-            let mut out = ears;
-            if k < 64 {
-                out.y[k] = 1;
-                return out;
-            }
-            ears
-        }
-        Head::Stop => ears,
-        Head::Go(_, _, _) => ears,
-        Head::Out(_, _, _, _, _) => ears,
-        Head::Call(_, _, _, _, _, _) => ears,
+        Head::In(d, _, _, _, _) => d,
+        Head::Stop => 64,
+        Head::Go(_, _, _) => 64,
+        Head::Out(_, _, _, _, _) => 64,
+        Head::Call(_, _, _, _, _, _) => 64,
     }
 }
 
-fn heard_by(w: &[u32; 99592], l: u32, c: Comp, ears: Ears) -> Ears
+pub fn hears_at(w: &[u32; 99592], l: u32, c: Comp) -> u32
     requires { ⌜ (scriptOk (now w) ≡ true) × (compOk (now w) c ≡ true) ⌝ }
-    ensures { λ r. ⌜ r .y ≡ heardBy (now (w .entry)) l c (ears .y) ⌝ }
+    ensures { λ r. ⌜ r ≡ hearsAt (now (w .entry)) l c ⌝ }
 {
     if ready_at(l, c) {
         let h = words::head_at(w, words::wide(c.place));
-        return with_ear(h, ears);
+        return heard_on(h);
     }
-    ears
+    64
 }
 
-fn heard_at(w: &[u32; 99592], st: State, l: u32) -> Ears
+// The channels that are heard: a 1 for each.
+fn heard_at(w: &[u32; 99592], st: State, l: u32) -> [u32; 64]
     requires { ⌜ valid (now w) st ≡ true ⌝ }
-    ensures { λ r. ⌜ Heard (now (w .entry)) l (compsOf st) (r .y) ⌝ }
+    ensures { λ r. ⌜ Heard (now (w .entry)) l (compsOf st) r ⌝ }
 {
     let n = st.n;
-    let mut out = Ears { y: [0u32; 64] };
+    let mut out = [0u32; 64];
     let mut j: usize = 0;
     while j < n {
         let c = st.c[j];
-        out = heard_by(w, l, c, out);
+        let k = words::wide(hears_at(w, l, c));
+        if k < 64 {
+            out[k] = 1;
+        }
         j += 1;
     }
     out
 }
 
-fn presses_by(ears: Ears, t: u32, h: Head) -> bool
-    ensures { λ r. ⌜ r ≡ pressesBy (ears .y) t h ⌝ }
+fn presses_by(ears: &[u32; 64], t: u32, h: Head) -> bool
+    ensures { λ r. ⌜ r ≡ pressesBy (now (ears .entry)) t h ⌝ }
 {
     match h {
         Head::Stop => false,
@@ -81,18 +76,18 @@ fn presses_by(ears: Ears, t: u32, h: Head) -> bool
     }
 }
 
-fn is_heard(ears: Ears, k: usize) -> bool
-    ensures { λ r. ⌜ r ≡ eqb (getD (ears .y) k 0) 1 ⌝ }
+fn is_heard(ears: &[u32], k: usize) -> bool
+    ensures { λ r. ⌜ r ≡ eqb (getD (now (ears .entry)) k 0) 1 ⌝ }
 {
-    if k < 64 {
-        return ears.y[k] == 1;
+    if k < ears.len() {
+        return ears[k] == 1;
     }
     false
 }
 
-fn pressed_by(w: &[u32; 99592], l: u32, ears: Ears, c: Comp) -> bool
+fn pressed_by(w: &[u32; 99592], l: u32, ears: &[u32; 64], c: Comp) -> bool
     requires { ⌜ (scriptOk (now w) ≡ true) × (compOk (now w) c ≡ true) ⌝ }
-    ensures { λ r. ⌜ r ≡ pressedBy (now (w .entry)) l (ears .y) c ⌝ }
+    ensures { λ r. ⌜ r ≡ pressedBy (now (w .entry)) l (now (ears .entry)) c ⌝ }
 {
     if ready_at(l, c) {
         let h = words::head_at(w, words::wide(c.place));
@@ -110,7 +105,7 @@ pub(crate) fn forced_at(w: &[u32; 99592], st: State, l: u32) -> bool
     let mut j: usize = 0;
     while j < n {
         let c = st.c[j];
-        if pressed_by(w, l, ears, c) {
+        if pressed_by(w, l, &ears, c) {
             return true;
         }
         j += 1;

@@ -13,11 +13,6 @@ pub mod tick;
 use table::Comp;
 use table::State;
 
-// The channels that are heard: a 1 for each.
-pub struct Ears {
-    pub y: [u32; 64],
-}
-
 // One turn of a component in a tick: the component written, the place and one of the part that comes next or 0, and 1 once it is done with.
 pub struct Turn {
     pub comp: Comp,
@@ -27,8 +22,8 @@ pub struct Turn {
 
 // Every component in a tick; full where they are more than 256.
 pub struct Passed {
-    pub full: bool,
     pub state: State,
+    pub full: bool,
 }
 
 // The answer of a tick: code 0 with the next state, or the number of the question answered by no with the state as it was.

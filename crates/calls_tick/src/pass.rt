@@ -156,8 +156,8 @@ pub fn pass_all(w: &[u32; 99592], st: State, l: u32) -> Passed
     while i < n {
         if 256 <= k {
             return Passed {
+                state: out,
                 full: true,
-                state: st,
             };
         }
         let c = st.c[i];
@@ -170,7 +170,7 @@ pub fn pass_all(w: &[u32; 99592], st: State, l: u32) -> Passed
     }
     out.n = k;
     Passed {
-        full: false,
         state: out,
+        full: false,
     }
 }

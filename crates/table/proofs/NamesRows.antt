@@ -4,16 +4,21 @@ use Prim.Native.Nat.{ℕ, suc, _+_, _*_, _-_, _≤_, _<_}
 use native.Mathlib.Nat.{mul-le-mul}
 use native.Mathlib.Omega.{arith}
 use native.Mathlib.Numerals.{add-one}
-use mathlib.Core.List.{[]}
+use mathlib.Core.List.{List, []}
 use mathlib.Core.Bool.{Bool, true, false}
-use mathlib.Core.Path.{_≡_, ap, sym, _∙_}
-use lib.ListN.{length, getD, drop, length-drop}
-use lib.Seq.{getD-drop}
+use mathlib.Core.Path.{_≡_, refl, ap, sym, subst, _∙_}
+use lib.Bits.{bitXor}
+use lib.ListN.{length, getD, set, drop, length-drop}
+use lib.Seq.{getD-drop, getD-set-same, getD-set-other}
+use borrow.Author.Count.{below-more}
 use Rattle.terms.specs.Names.{Name, sameName}
 use Rattle.terms.specs.Same.{every}
 use Rattle.terms.specs.Letters.{member}
+use Rattle.terms.proofs.Names.{name-eq}
 use Rattle.table.specs.Meaning.{listFrom}
+use Rattle.table.specs.Tests.{Mixed}
 use Rattle.table.specs.Valid.{distinct}
+use Rattle.table.proofs.Names.{Words, key-injective}
 use Rattle.table.proofs.ValidLists.{every-all, every-miss, member-hit, member-none, distinct-all, distinct-miss, listFrom-length, listFrom-at}
 
 -- the distance of a name from the first
@@ -61,3 +66,23 @@ module _ (n : ℕ) (f : ℕ → Name) where
 
   pub apart-miss : (k : ℕ) → k < n → member (f k) (drop (k + 1) (listFrom 0 n f)) ≡ true → distinct (listFrom 0 n f) ≡ false
   apart-miss k b e = distinct-miss (listFrom 0 n f) k (omega (arith, listFrom-length 0 n f)) (apart-at k b true e)
+
+-- ── the words of each name as one ──
+pub mixed-apart : {x y : Name} {m n : ℕ} → Mixed x m → Mixed y n → (n ≡ m → ⊥) → sameName x y ≡ false
+mixed-apart {x} {y} {m} {n} p q d = go (sameName x y) refl
+  where
+    words : {z : Name} {k : ℕ} (h : Mixed z k) → Words (h .key)
+    words h = record { wa = h .small .0; wb = h .small .1; wc = h .small .2; wd = h .small .3 }
+
+    go : (t : Bool) → sameName x y ≡ t → t ≡ false
+    go true e =
+        let z : p .key ≡ q .key = key-injective (p .key) (q .key) (words p) (words q) (p .name ∙ name-eq x y e ∙ sym (q .name)) in
+        absurd (d (q .mix ∙ ap (λ k. bitXor (bitXor (bitXor (k .a) (k .b)) (k .c)) (k .d)) (sym z) ∙ sym (p .mix)))
+    go false e = refl
+
+pub stored-more : {A : Type 0} (P : ℕ → A → Type 0) (l : List A) (j : ℕ) (v d : A) → j < length l → ((k : ℕ) → k < j → P k (getD l k d)) → P j v
+    → (k : ℕ) → k < j + 1 → P k (getD (set l j v) k d)
+stored-more P l j v d b h p =
+    below-more (λ k. P k (getD (set l j v) k d)) j
+    (λ k c. subst (P k) (sym (getD-set-other l j k v d (λ e. omega arith))) (h k c))
+    (subst (P j) (sym (getD-set-same l j v d b)) p)

@@ -3,6 +3,7 @@ use Prim.Native.Nat.{ℕ, suc, _+_, _*_, _≤_, _<_}
 use mathlib.Core.List.{List, [], _∷_}
 use mathlib.Core.Bool.{Bool, _&&_, _||_}
 use mathlib.Core.Path.{_≡_}
+use lib.Bits.{bitXor}
 use lib.Dec.{eqb, leb, ltb}
 use Rattle.terms.specs.Names.{Name}
 use Rattle.terms.specs.Letters.{Class, isCapital, isLittle}
@@ -27,6 +28,13 @@ firstOf Identifier c = isCapital c || isLittle c
 -- name j of those that stand s words apart from o on
 unfoldable pub rowName : List ℕ → ℕ → ℕ → ℕ → Name
 rowName w o s j = nameAt w (o + j * s)
+
+-- m is the four words of the name x as one
+pub record Mixed (x : Name) (m : ℕ) : Type 0 where
+  pub key : Key
+  pub small : (key .a < 4_294_967_296) × (key .b < 4_294_967_296) × (key .c < 4_294_967_296) × (key .d < 4_294_967_296)
+  pub name : keyName key ≡ x
+  pub mix : m ≡ bitXor (bitXor (bitXor (key .a) (key .b)) (key .c)) (key .d)
 
 -- ── counts ──
 unfoldable pub countsOk : List ℕ → Bool

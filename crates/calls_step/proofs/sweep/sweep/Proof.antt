@@ -1,345 +1,266 @@
--- `sweep` meets its contract. The loop's invariant: the records written and the sweep over the positions left are the whole sweep (Going).
-use Prim.Native.Nat.{_-_}
-use lib.ListN.{length}
-use Rattle.calls_act.proofs.Positions.{mapped, few-comps, valid-parts}
-use Rattle.calls_step.proofs.Going.{Going, going-begin, going-turn, going-end, good-at, channel-fits, other-fits, some-fits}
+-- `sweep` meets its contract. First loop: the chains are those of the components from the position on (Queues).
+-- Second loop: the records written and the sweep over the positions left are the whole sweep (Going).
+use Prim.Native.Nat.{ℕ, suc, _-_, _≤_, _<_}
 use native.Mathlib.Omega.{arith}
-use mathlib.Core.Path.{_≡_, refl, sym, ap, subst, _∙_}
-use borrow.Author.Tests.{lt-ltb, le-ltb, le-leb, lt-leb, eq-eqb, ne-eqb}
+use mathlib.Core.List.{[]}
+use mathlib.Core.Bool.{true}
+use mathlib.Core.Path.{_≡_, refl, sym, subst, _∙_}
+use lib.ListN.{length, getD, drop}
 use borrow.Author.Needs.{needs}
+use Rattle.table.specs.Meaning.{compsOf}
+use Rattle.table.specs.Valid.{scriptOk, compOk}
+use Rattle.calls_act.specs.Acted.{noComp}
+use Rattle.calls_act.proofs.Positions.{mapped, few-comps, valid-parts, comp-good}
+use Rattle.calls_step.specs.Sweep.{Queued}
+use Rattle.calls_step.specs.Visit.{sendsAt, otherOf}
+use Rattle.calls_step.proofs.Queues.{queue-none, hears-fits, dropped-all, queue-turn}
+use Rattle.calls_step.proofs.Going.{Going, going-begin, going-fires, going-idle, going-end, good-at, channel-fits, other-fits}
 use Rattle.calls_step.proofs.sweep.sweep.Statement.{statement}
 use Rattle.calls_step.proofs.sweep.sweep.Tie as tie
-use Rattle.calls_step.proofs.sweep.sweep.Reads as reads
-use Rattle.calls_step.proofs.sweep.sweep.Lts as lts
-use Rattle.calls_step.proofs.sweep.kind_at.Reads as kind-at-reads
-use Rattle.calls_step.proofs.sweep.other_of.Reads as other-of-reads
-use Rattle.calls_step.proofs.sweep.perform.Reads as perform-reads
-use Rattle.calls_step.proofs.sweep.popped_of.Reads as popped-of-reads
-use Rattle.calls_step.proofs.sweep.queue_of.Reads as queue-of-reads
-use Rattle.calls_step.proofs.sweep.rec_by.Reads as rec-by-reads
-use Rattle.calls_step.proofs.sweep.sends_at.Reads as sends-at-reads
-use Rattle.calls_step.proofs.sweep.some_of.Reads as some-of-reads
-use Rattle.table.proofs.words.wide.Reads as wide-reads
 
 abbrev Inv-loop : tie.InvT-loop
-Inv-loop w l n queue₀ state₀ acts₀ count₀ p₀ queue state acts count p = Going w l state₀ state (queue .heads) (queue .nexts) acts count p × (n ≡ state₀ .n)
+Inv-loop w l n state queue₀ j₀ queue j = (j ≤ state .n) × Queued w l j (drop j (compsOf state)) (queue .heads) (queue .nexts)
 
 abbrev μ-loop : tie.MeasureT-loop
-μ-loop w l n queue₀ state₀ acts₀ count₀ p₀ queue state acts count p = n - p
+μ-loop w l n state queue₀ j₀ queue j = j
 
--- src/sweep.rt:204:21
-queue-of-requires : tie.Need-queue-of-requires Inv-loop μ-loop
-queue-of-requires c κs = c .pre
+abbrev Inv-loop2 : tie.InvT-loop2
+Inv-loop2 w l n state₀ queue₀ j acts₀ count₀ p₀ state queue acts count p = Going w l state₀ state (queue .heads) (queue .nexts) acts count p × (n ≡ state₀ .n)
 
--- src/sweep.rt:213:5
-loop-holds : tie.Need-loop-holds Inv-loop μ-loop
+abbrev μ-loop2 : tie.MeasureT-loop2
+μ-loop2 w l n state₀ queue₀ j acts₀ count₀ p₀ state queue acts count p = n - p
+
+-- ── what is known at a position ──
+module _ (c : tie.In-loop2 Inv-loop μ-loop Inv-loop2 μ-loop2) where
+  few : c .before .before .before .before .args .st .n ≤ 256
+  few = few-comps _ _ (c .before .before .before .before .pre)
+
+  script : scriptOk (c .before .before .before .before .args .w .now) ≡ true
+  script = valid-parts _ _ (c .before .before .before .before .pre) .0
+
+  below : c .before .loop2 .p < c .before .before .before .before .args .st .n
+  below = c .loop2-test .taken
+
+  fine : (q : ℕ) → q < c .before .before .before .before .args .st .n → compOk (c .before .before .before .before .args .w .now) (getD (c .before .loop2 .state .c) q noComp) ≡ true
+  fine = good-at _ script _ _ _ _ _ _ _ _ few (c .before .loop2 .inv .0) below
+
+  channel : sendsAt (c .before .before .before .before .args .w .now) (c .before .before .before .before .args .l) (getD (c .before .loop2 .state .c) (c .before .loop2 .p) noComp) ≤ 64
+  channel = channel-fits _ script _ _ _ _ _ _ _ _ few (c .before .loop2 .inv .0) below
+
+  other :
+      otherOf (c .before .loop2 .p) (getD (c .before .loop2 .queue .heads) (sendsAt (c .before .before .before .before .args .w .now) (c .before .before .before .before .args .l) (getD (c .before .loop2 .state .c) (c .before .loop2 .p) noComp)) 0)
+      < c .before .before .before .before .args .st .n
+  other = other-fits _ script _ _ _ _ _ _ _ _ few (c .before .loop2 .inv .0) below
+
+loop-holds : tie.Need-loop-holds Inv-loop μ-loop Inv-loop2 μ-loop2
 loop-holds c =
-    let a = c .before .args in
-    let v = c .before .pre in
+    let a = c .args in
     let l : length (a .st .c) ≡ 256 = search (needs, mapped) in
-    (going-begin (a .w .now) (a .l) (a .st) _ _ _ l refl (valid-parts (a .w .now) (a .st) v .1 .each) (c .queue-of .ensures), refl)
+    let z : drop (a .st .n) (compsOf (a .st)) ≡ [] = dropped-all (a .st) l (few-comps (a .w .now) (a .st) (c .pre)) in
+    (omega arith, rw z (queue-none (a .w .now) (a .l) (a .st .n)))
 
--- src/sweep.rt:214:17
-mul-c : tie.Need-mul-c Inv-loop μ-loop
+sub-i : tie.Need-sub-i Inv-loop μ-loop Inv-loop2 μ-loop2
+sub-i c = omega arith
+
+mul-c : tie.Need-mul-c Inv-loop μ-loop Inv-loop2 μ-loop2
 mul-c c =
-    let a = c .before .before .before .args in
-    let v = c .before .before .before .pre in
-    let g = valid-parts (a .w .now) (a .st) v .0 in
-    let n = few-comps (a .w .now) (a .st) v in
-    let i = c .before .loop .inv .0 in
-    let b = c .loop-test .taken in
-    omega (arith, i .same, n)
+    let h = few-comps (c .before .before .args .w .now) (c .before .before .args .st) (c .before .before .pre) in
+    omega (arith, h, c .before .loop .inv .0)
 
--- src/sweep.rt:214:17
-element-copy-out-c : tie.Need-element-copy-out-c Inv-loop μ-loop
+element-copy-out-c : tie.Need-element-copy-out-c Inv-loop μ-loop Inv-loop2 μ-loop2
 element-copy-out-c c =
+    let h = few-comps (c .before .before .args .w .now) (c .before .before .args .st) (c .before .before .pre) in
+    omega (arith, h, c .before .loop .inv .0)
+
+hears-at-requires : tie.Need-hears-at-requires Inv-loop μ-loop Inv-loop2 μ-loop2
+hears-at-requires c κs =
     let a = c .before .before .before .args in
     let v = c .before .before .before .pre in
-    let g = valid-parts (a .w .now) (a .st) v .0 in
-    let n = few-comps (a .w .now) (a .st) v in
-    let i = c .before .loop .inv .0 in
-    let b = c .loop-test .taken in
-    omega (arith, i .same, n)
+    let l : length (a .st .c) ≡ 256 = search (needs, mapped) in
+    (valid-parts (a .w .now) (a .st) v .0, comp-good (a .w .now) (a .st) v l (c .before .before .loop .j - 1) (omega (arith, c .before .before .loop .inv .0)))
 
--- src/sweep.rt:215:29
-sends-at-requires : tie.Need-sends-at-requires Inv-loop μ-loop
-sends-at-requires c κs =
-    let a = c .before .before .before .before .args in
-    let v = c .before .before .before .before .pre in
-    let g = valid-parts (a .w .now) (a .st) v .0 in
-    let n = few-comps (a .w .now) (a .st) v in
-    let i = c .before .before .loop .inv .0 in
-    let b = c .before .loop-test .taken in
-    (g, good-at (a .w .now) g (a .l) (a .st) (c .before .before .loop .state) (c .before .before .loop .queue .heads) (c .before .before .loop .queue .nexts) (c .before .before .loop .acts) (c .before .before .loop .count) (c .before .before .loop .p) n i b (c .before .before .loop .p) b)
-
--- src/sweep.rt:215:13
-wide-requires : tie.Need-wide-requires Inv-loop μ-loop
+wide-requires : tie.Need-wide-requires Inv-loop μ-loop Inv-loop2 μ-loop2
 wide-requires c κs = search needs
 
--- src/sweep.rt:216:17
-mul-x : tie.Need-mul-x Inv-loop μ-loop
-mul-x c =
-    let a = c .before .before .before .before .before .before .args in
-    let v = c .before .before .before .before .before .before .pre in
-    let g = valid-parts (a .w .now) (a .st) v .0 in
-    let n = few-comps (a .w .now) (a .st) v in
-    let i = c .before .before .before .before .loop .inv .0 in
-    let b = c .before .before .before .loop-test .taken in
-    omega (arith, c .wide .ensures, c .before .sends-at .ensures, channel-fits (a .w .now) g (a .l) (a .st) (c .before .before .before .before .loop .state) (c .before .before .before .before .loop .queue .heads) (c .before .before .before .before .loop .queue .nexts) (c .before .before .before .before .loop .acts) (c .before .before .before .before .loop .count) (c .before .before .before .before .loop .p) n i b)
+mul-old : tie.Need-mul-old Inv-loop μ-loop Inv-loop2 μ-loop2
+mul-old c =
+    let a = c .before .before .before .before .before .args in
+    let v = c .before .before .before .before .before .pre in
+    let l : length (a .st .c) ≡ 256 = search (needs, mapped) in
+    let h = hears-fits (a .w .now) (a .l) _ (valid-parts (a .w .now) (a .st) v .0) (comp-good (a .w .now) (a .st) v l (c .before .before .before .before .loop .j - 1) (omega (arith, c .before .before .before .before .loop .inv .0))) in
+    omega (arith, c .wide .ensures, c .before .hears-at .ensures, h)
 
--- src/sweep.rt:216:17
-element-copy-out-x : tie.Need-element-copy-out-x Inv-loop μ-loop
-element-copy-out-x c =
-    let a = c .before .before .before .before .before .before .args in
-    let v = c .before .before .before .before .before .before .pre in
-    let g = valid-parts (a .w .now) (a .st) v .0 in
-    let n = few-comps (a .w .now) (a .st) v in
-    let i = c .before .before .before .before .loop .inv .0 in
-    let b = c .before .before .before .loop-test .taken in
-    omega (arith, c .wide .ensures, c .before .sends-at .ensures, channel-fits (a .w .now) g (a .l) (a .st) (c .before .before .before .before .loop .state) (c .before .before .before .before .loop .queue .heads) (c .before .before .before .before .loop .queue .nexts) (c .before .before .before .before .loop .acts) (c .before .before .before .before .loop .count) (c .before .before .before .before .loop .p) n i b)
+element-copy-out-old : tie.Need-element-copy-out-old Inv-loop μ-loop Inv-loop2 μ-loop2
+element-copy-out-old c =
+    let a = c .before .before .before .before .before .args in
+    let v = c .before .before .before .before .before .pre in
+    let l : length (a .st .c) ≡ 256 = search (needs, mapped) in
+    let h = hears-fits (a .w .now) (a .l) _ (valid-parts (a .w .now) (a .st) v .0) (comp-good (a .w .now) (a .st) v l (c .before .before .before .before .loop .j - 1) (omega (arith, c .before .before .before .before .loop .inv .0))) in
+    omega (arith, c .wide .ensures, c .before .hears-at .ensures, h)
 
--- src/sweep.rt:217:13
-other-of-requires : tie.Need-other-of-requires Inv-loop μ-loop
+mul-queue : tie.Need-mul-queue Inv-loop μ-loop Inv-loop2 μ-loop2
+mul-queue c =
+    let h = few-comps (c .before .before .before .before .before .before .args .w .now) (c .before .before .before .before .before .before .args .st) (c .before .before .before .before .before .before .pre) in
+    omega (arith, h, c .before .before .before .before .before .loop .inv .0)
+
+element-write-queue : tie.Need-element-write-queue Inv-loop μ-loop Inv-loop2 μ-loop2
+element-write-queue c =
+    let h = few-comps (c .before .before .before .before .before .before .args .w .now) (c .before .before .before .before .before .before .args .st) (c .before .before .before .before .before .before .pre) in
+    omega (arith, h, c .before .before .before .before .before .loop .inv .0)
+
+link-to-requires : tie.Need-link-to-requires Inv-loop μ-loop Inv-loop2 μ-loop2
+link-to-requires c κs =
+    let h = few-comps (c .before .before .before .before .before .before .args .w .now) (c .before .before .before .before .before .before .args .st) (c .before .before .before .before .before .before .pre) in
+    omega (arith, h, c .before .before .before .before .before .loop .inv .0)
+
+mul-queue-2 : tie.Need-mul-queue-2 Inv-loop μ-loop Inv-loop2 μ-loop2
+mul-queue-2 c =
+    let a = c .before .before .before .before .before .before .before .args in
+    let v = c .before .before .before .before .before .before .before .pre in
+    let l : length (a .st .c) ≡ 256 = search (needs, mapped) in
+    let h = hears-fits (a .w .now) (a .l) _ (valid-parts (a .w .now) (a .st) v .0) (comp-good (a .w .now) (a .st) v l (c .before .before .before .before .before .before .loop .j - 1) (omega (arith, c .before .before .before .before .before .before .loop .inv .0))) in
+    omega (arith, c .before .before .wide .ensures, c .before .before .before .hears-at .ensures, h)
+
+element-write-queue-2 : tie.Need-element-write-queue-2 Inv-loop μ-loop Inv-loop2 μ-loop2
+element-write-queue-2 c =
+    let a = c .before .before .before .before .before .before .before .args in
+    let v = c .before .before .before .before .before .before .before .pre in
+    let l : length (a .st .c) ≡ 256 = search (needs, mapped) in
+    let h = hears-fits (a .w .now) (a .l) _ (valid-parts (a .w .now) (a .st) v .0) (comp-good (a .w .now) (a .st) v l (c .before .before .before .before .before .before .loop .j - 1) (omega (arith, c .before .before .before .before .before .before .loop .inv .0))) in
+    omega (arith, c .before .before .wide .ensures, c .before .before .before .hears-at .ensures, h)
+
+loop-less : tie.Need-loop-less Inv-loop μ-loop Inv-loop2 μ-loop2
+loop-less c = omega arith
+
+loop-again : tie.Need-loop-again Inv-loop μ-loop Inv-loop2 μ-loop2
+loop-again c =
+    let a = c .before .before .before .before .before .before .before .args in
+    let v = c .before .before .before .before .before .before .before .pre in
+    let l : length (a .st .c) ≡ 256 = search (needs, mapped) in
+    let j = c .before .before .before .before .before .before .loop .j in
+    let o = c .before .before .before .before .before .before .loop .queue in
+    let n = few-comps (a .w .now) (a .st) v in
+    let z : j ≡ suc (j - 1) = omega arith in
+    let b : j - 1 < a .st .n = omega (arith, c .before .before .before .before .before .before .loop .inv .0) in
+    let g = valid-parts (a .w .now) (a .st) v .0 in
+    (omega (arith, c .before .before .before .before .before .before .loop .inv .0), rw (c .link-to .ensures, c .before .before .wide .ensures, c .before .before .before .hears-at .ensures) (queue-turn (a .w .now) (a .l) (a .st) (j - 1) (o .heads) (o .nexts) g (comp-good (a .w .now) (a .st) v l (j - 1) b) b n l (subst (λ m. Queued (a .w .now) (a .l) m (drop m (compsOf (a .st))) (o .heads) (o .nexts)) z (c .before .before .before .before .before .before .loop .inv .1))))
+
+loop2-holds : tie.Need-loop2-holds Inv-loop μ-loop Inv-loop2 μ-loop2
+loop2-holds c =
+    let a = c .before .before .args in
+    let v = c .before .before .pre in
+    let l : length (a .st .c) ≡ 256 = search (needs, mapped) in
+    let z : c .before .loop .j ≡ 0 = omega arith in
+    let q = subst (λ j. Queued (a .w .now) (a .l) j (drop j (compsOf (a .st))) (c .before .loop .queue .heads) (c .before .loop .queue .nexts)) z (c .before .loop .inv .1) in
+    (going-begin (a .w .now) (a .l) (a .st) _ _ _ l refl (valid-parts (a .w .now) (a .st) v .1 .each) q, refl)
+
+mul-c-2 : tie.Need-mul-c-2 Inv-loop μ-loop Inv-loop2 μ-loop2
+mul-c-2 c = omega (arith, few (c), c .before .loop2 .inv .0 .same)
+
+element-copy-out-c-2 : tie.Need-element-copy-out-c-2 Inv-loop μ-loop Inv-loop2 μ-loop2
+element-copy-out-c-2 c = omega (arith, few (c), c .before .loop2 .inv .0 .same)
+
+sends-at-requires : tie.Need-sends-at-requires Inv-loop μ-loop Inv-loop2 μ-loop2
+sends-at-requires c κs = (script (c .before), fine (c .before) _ (below (c .before)))
+
+wide-requires-2 : tie.Need-wide-requires-2 Inv-loop μ-loop Inv-loop2 μ-loop2
+wide-requires-2 c κs = search needs
+
+mul-x : tie.Need-mul-x Inv-loop μ-loop Inv-loop2 μ-loop2
+mul-x c = omega (arith, c .wide2 .ensures, c .before .sends-at .ensures, channel (c .before .before .before))
+
+element-copy-out-x : tie.Need-element-copy-out-x Inv-loop μ-loop Inv-loop2 μ-loop2
+element-copy-out-x c = omega (arith, c .wide2 .ensures, c .before .sends-at .ensures, channel (c .before .before .before))
+
+kind-at-requires : tie.Need-kind-at-requires Inv-loop μ-loop Inv-loop2 μ-loop2
+kind-at-requires c κs = (script (c .before .before .before .before), fine (c .before .before .before .before) _ (below (c .before .before .before .before)))
+
+add-p : tie.Need-add-p Inv-loop μ-loop Inv-loop2 μ-loop2
+add-p c = omega (arith, few (c .before .before .before .before .before .before))
+
+loop2-less : tie.Need-loop2-less Inv-loop μ-loop Inv-loop2 μ-loop2
+loop2-less c = omega arith
+
+loop2-again : tie.Need-loop2-again Inv-loop μ-loop Inv-loop2 μ-loop2
+loop2-again c =
+    let e = rw (c .before .before .before .wide2 .ensures, c .before .before .before .before .sends-at .ensures) at (sym (c .before .kind-at .ensures) ∙ c .if1 .taken) in
+    (going-idle _ (script (c .before .before .before .before .before .before)) _ _ _ _ _ _ _ _ (few (c .before .before .before .before .before .before)) (c .before .before .before .before .before .before .before .loop2 .inv .0) (below (c .before .before .before .before .before .before)) e, c .before .before .before .before .before .before .before .loop2 .inv .1)
+
+other-of-requires : tie.Need-other-of-requires Inv-loop μ-loop Inv-loop2 μ-loop2
 other-of-requires c κs = search needs
 
--- src/sweep.rt:218:17
-mul-e : tie.Need-mul-e Inv-loop μ-loop
-mul-e c =
-    let a = c .before .before .before .before .before .before .before .before .args in
-    let v = c .before .before .before .before .before .before .before .before .pre in
-    let g = valid-parts (a .w .now) (a .st) v .0 in
-    let n = few-comps (a .w .now) (a .st) v in
-    let i = c .before .before .before .before .before .before .loop .inv .0 in
-    let b = c .before .before .before .before .before .loop-test .taken in
-    let o = other-fits (a .w .now) g (a .l) (a .st) (c .before .before .before .before .before .before .loop .state) (c .before .before .before .before .before .before .loop .queue .heads) (c .before .before .before .before .before .before .loop .queue .nexts) (c .before .before .before .before .before .before .loop .acts) (c .before .before .before .before .before .before .loop .count) (c .before .before .before .before .before .before .loop .p) n i b in
-    let z = rw (c .before .before .wide .ensures, c .before .before .before .sends-at .ensures) at (c .other-of .ensures) in
-    omega (arith, z, o, n)
+mul-e : tie.Need-mul-e Inv-loop μ-loop Inv-loop2 μ-loop2
+mul-e c = let z = rw (c .before .before .before .before .wide2 .ensures, c .before .before .before .before .before .sends-at .ensures) at (c .other-of .ensures) in omega (arith, z, other (c .before .before .before .before .before .before .before), few (c .before .before .before .before .before .before .before))
 
--- src/sweep.rt:218:17
-element-copy-out-e : tie.Need-element-copy-out-e Inv-loop μ-loop
-element-copy-out-e c =
-    let a = c .before .before .before .before .before .before .before .before .args in
-    let v = c .before .before .before .before .before .before .before .before .pre in
-    let g = valid-parts (a .w .now) (a .st) v .0 in
-    let n = few-comps (a .w .now) (a .st) v in
-    let i = c .before .before .before .before .before .before .loop .inv .0 in
-    let b = c .before .before .before .before .before .loop-test .taken in
-    let o = other-fits (a .w .now) g (a .l) (a .st) (c .before .before .before .before .before .before .loop .state) (c .before .before .before .before .before .before .loop .queue .heads) (c .before .before .before .before .before .before .loop .queue .nexts) (c .before .before .before .before .before .before .loop .acts) (c .before .before .before .before .before .before .loop .count) (c .before .before .before .before .before .before .loop .p) n i b in
-    let z = rw (c .before .before .wide .ensures, c .before .before .before .sends-at .ensures) at (c .other-of .ensures) in
-    omega (arith, z, o, n)
+element-copy-out-e : tie.Need-element-copy-out-e Inv-loop μ-loop Inv-loop2 μ-loop2
+element-copy-out-e c = let z = rw (c .before .before .before .before .wide2 .ensures, c .before .before .before .before .before .sends-at .ensures) at (c .other-of .ensures) in omega (arith, z, other (c .before .before .before .before .before .before .before), few (c .before .before .before .before .before .before .before))
 
--- src/sweep.rt:219:13
-kind-at-requires : tie.Need-kind-at-requires Inv-loop μ-loop
-kind-at-requires c κs =
-    let a = c .before .before .before .before .before .before .before .before .before .args in
-    let v = c .before .before .before .before .before .before .before .before .before .pre in
-    let g = valid-parts (a .w .now) (a .st) v .0 in
-    let n = few-comps (a .w .now) (a .st) v in
-    let i = c .before .before .before .before .before .before .before .loop .inv .0 in
-    let b = c .before .before .before .before .before .before .loop-test .taken in
-    (g, good-at (a .w .now) g (a .l) (a .st) (c .before .before .before .before .before .before .before .loop .state) (c .before .before .before .before .before .before .before .loop .queue .heads) (c .before .before .before .before .before .before .before .loop .queue .nexts) (c .before .before .before .before .before .before .before .loop .acts) (c .before .before .before .before .before .before .before .loop .count) (c .before .before .before .before .before .before .before .loop .p) n i b (c .before .before .before .before .before .before .before .loop .p) b)
+perform-requires : tie.Need-perform-requires Inv-loop μ-loop Inv-loop2 μ-loop2
+perform-requires c κs = (
+  script (c .before .before .before .before .before .before .before .before),
+  fine (c .before .before .before .before .before .before .before .before) _ (below (c .before .before .before .before .before .before .before .before)),
+  rw (c .before .other-of .ensures, c .before .before .before .before .before .wide2 .ensures, c .before .before .before .before .before .before .sends-at .ensures) (fine (c .before .before .before .before .before .before .before .before) _ (other (c .before .before .before .before .before .before .before .before))),
+)
 
--- src/sweep.rt:220:13
-perform-requires : tie.Need-perform-requires Inv-loop μ-loop
-perform-requires c κs =
-    let a = c .before .before .before .before .before .before .before .before .before .before .args in
-    let v = c .before .before .before .before .before .before .before .before .before .before .pre in
-    let g = valid-parts (a .w .now) (a .st) v .0 in
-    let n = few-comps (a .w .now) (a .st) v in
-    let i = c .before .before .before .before .before .before .before .before .loop .inv .0 in
-    let b = c .before .before .before .before .before .before .before .loop-test .taken in
-    (g, good-at (a .w .now) g (a .l) (a .st) (c .before .before .before .before .before .before .before .before .loop .state) (c .before .before .before .before .before .before .before .before .loop .queue .heads) (c .before .before .before .before .before .before .before .before .loop .queue .nexts) (c .before .before .before .before .before .before .before .before .loop .acts) (c .before .before .before .before .before .before .before .before .loop .count) (c .before .before .before .before .before .before .before .before .loop .p) n i b (c .before .before .before .before .before .before .before .before .loop .p) b, rw (c .before .before .other-of .ensures, c .before .before .before .before .wide .ensures, c .before .before .before .before .before .sends-at .ensures) (good-at (a .w .now) g (a .l) (a .st) (c .before .before .before .before .before .before .before .before .loop .state) (c .before .before .before .before .before .before .before .before .loop .queue .heads) (c .before .before .before .before .before .before .before .before .loop .queue .nexts) (c .before .before .before .before .before .before .before .before .loop .acts) (c .before .before .before .before .before .before .before .before .loop .count) (c .before .before .before .before .before .before .before .before .loop .p) n i b _ (other-fits (a .w .now) g (a .l) (a .st) (c .before .before .before .before .before .before .before .before .loop .state) (c .before .before .before .before .before .before .before .before .loop .queue .heads) (c .before .before .before .before .before .before .before .before .loop .queue .nexts) (c .before .before .before .before .before .before .before .before .loop .acts) (c .before .before .before .before .before .before .before .before .loop .count) (c .before .before .before .before .before .before .before .before .loop .p) n i b)))
+mul-a : tie.Need-mul-a Inv-loop μ-loop Inv-loop2 μ-loop2
+mul-a c = omega (arith, few (c .before .before .before .before .before .before .before .before .before .before .before), c .before .before .before .before .before .before .before .before .before .before .before .before .loop2 .inv .0 .same)
 
--- src/sweep.rt:223:9
-mul-a : tie.Need-mul-a Inv-loop μ-loop
-mul-a c =
-    let a = c .before .before .before .before .before .before .before .before .before .before .before .before .before .args in
-    let v = c .before .before .before .before .before .before .before .before .before .before .before .before .before .pre in
-    let g = valid-parts (a .w .now) (a .st) v .0 in
-    let n = few-comps (a .w .now) (a .st) v in
-    let i = c .before .before .before .before .before .before .before .before .before .before .before .loop .inv .0 in
-    let b = c .before .before .before .before .before .before .before .before .before .before .loop-test .taken in
-    omega (arith, i .same, n)
+element-set-from-a : tie.Need-element-set-from-a Inv-loop μ-loop Inv-loop2 μ-loop2
+element-set-from-a c = omega (arith, few (c .before .before .before .before .before .before .before .before .before .before .before), c .before .before .before .before .before .before .before .before .before .before .before .before .loop2 .inv .0 .same)
 
--- src/sweep.rt:223:9
-element-set-from-a : tie.Need-element-set-from-a Inv-loop μ-loop
-element-set-from-a c =
-    let a = c .before .before .before .before .before .before .before .before .before .before .before .before .before .args in
-    let v = c .before .before .before .before .before .before .before .before .before .before .before .before .before .pre in
-    let g = valid-parts (a .w .now) (a .st) v .0 in
-    let n = few-comps (a .w .now) (a .st) v in
-    let i = c .before .before .before .before .before .before .before .before .before .before .before .loop .inv .0 in
-    let b = c .before .before .before .before .before .before .before .before .before .before .loop-test .taken in
-    omega (arith, i .same, n)
+mul-b : tie.Need-mul-b Inv-loop μ-loop Inv-loop2 μ-loop2
+mul-b c = let z = rw (c .before .before .before .before .before .before .before .before .wide2 .ensures, c .before .before .before .before .before .before .before .before .before .sends-at .ensures) at (c .before .before .before .before .other-of .ensures) in omega (arith, z, other (c .before .before .before .before .before .before .before .before .before .before .before), few (c .before .before .before .before .before .before .before .before .before .before .before))
 
--- src/sweep.rt:224:9
-mul-b : tie.Need-mul-b Inv-loop μ-loop
-mul-b c =
-    let a = c .before .before .before .before .before .before .before .before .before .before .before .before .before .args in
-    let v = c .before .before .before .before .before .before .before .before .before .before .before .before .before .pre in
-    let g = valid-parts (a .w .now) (a .st) v .0 in
-    let n = few-comps (a .w .now) (a .st) v in
-    let i = c .before .before .before .before .before .before .before .before .before .before .before .loop .inv .0 in
-    let b = c .before .before .before .before .before .before .before .before .before .before .loop-test .taken in
-    let o = other-fits (a .w .now) g (a .l) (a .st) (c .before .before .before .before .before .before .before .before .before .before .before .loop .state) (c .before .before .before .before .before .before .before .before .before .before .before .loop .queue .heads) (c .before .before .before .before .before .before .before .before .before .before .before .loop .queue .nexts) (c .before .before .before .before .before .before .before .before .before .before .before .loop .acts) (c .before .before .before .before .before .before .before .before .before .before .before .loop .count) (c .before .before .before .before .before .before .before .before .before .before .before .loop .p) n i b in
-    let z = rw (c .before .before .before .before .before .before .before .wide .ensures, c .before .before .before .before .before .before .before .before .sends-at .ensures) at (c .before .before .before .before .before .other-of .ensures) in
-    omega (arith, z, o, n)
+element-set-from-b : tie.Need-element-set-from-b Inv-loop μ-loop Inv-loop2 μ-loop2
+element-set-from-b c = let z = rw (c .before .before .before .before .before .before .before .before .wide2 .ensures, c .before .before .before .before .before .before .before .before .before .sends-at .ensures) at (c .before .before .before .before .other-of .ensures) in omega (arith, z, other (c .before .before .before .before .before .before .before .before .before .before .before), few (c .before .before .before .before .before .before .before .before .before .before .before))
 
--- src/sweep.rt:224:9
-element-set-from-b : tie.Need-element-set-from-b Inv-loop μ-loop
-element-set-from-b c =
-    let a = c .before .before .before .before .before .before .before .before .before .before .before .before .before .args in
-    let v = c .before .before .before .before .before .before .before .before .before .before .before .before .before .pre in
-    let g = valid-parts (a .w .now) (a .st) v .0 in
-    let n = few-comps (a .w .now) (a .st) v in
-    let i = c .before .before .before .before .before .before .before .before .before .before .before .loop .inv .0 in
-    let b = c .before .before .before .before .before .before .before .before .before .before .loop-test .taken in
-    let o = other-fits (a .w .now) g (a .l) (a .st) (c .before .before .before .before .before .before .before .before .before .before .before .loop .state) (c .before .before .before .before .before .before .before .before .before .before .before .loop .queue .heads) (c .before .before .before .before .before .before .before .before .before .before .before .loop .queue .nexts) (c .before .before .before .before .before .before .before .before .before .before .before .loop .acts) (c .before .before .before .before .before .before .before .before .before .before .before .loop .count) (c .before .before .before .before .before .before .before .before .before .before .before .loop .p) n i b in
-    let z = rw (c .before .before .before .before .before .before .before .wide .ensures, c .before .before .before .before .before .before .before .before .sends-at .ensures) at (c .before .before .before .before .before .other-of .ensures) in
-    omega (arith, z, o, n)
+rec-by-requires : tie.Need-rec-by-requires Inv-loop μ-loop Inv-loop2 μ-loop2
+rec-by-requires c κs = let z = rw (c .before .before .before .before .before .before .before .before .wide2 .ensures, c .before .before .before .before .before .before .before .before .before .sends-at .ensures) at (c .before .before .before .before .other-of .ensures) in (omega (arith, few (c .before .before .before .before .before .before .before .before .before .before .before)), omega (arith, z, other (c .before .before .before .before .before .before .before .before .before .before .before), few (c .before .before .before .before .before .before .before .before .before .before .before)))
 
--- src/sweep.rt:225:23
-rec-by-requires : tie.Need-rec-by-requires Inv-loop μ-loop
-rec-by-requires c κs =
-    let a = c .before .before .before .before .before .before .before .before .before .before .before .before .before .args in
-    let v = c .before .before .before .before .before .before .before .before .before .before .before .before .before .pre in
-    let g = valid-parts (a .w .now) (a .st) v .0 in
-    let n = few-comps (a .w .now) (a .st) v in
-    let i = c .before .before .before .before .before .before .before .before .before .before .before .loop .inv .0 in
-    let b = c .before .before .before .before .before .before .before .before .before .before .loop-test .taken in
-    let o = other-fits (a .w .now) g (a .l) (a .st) (c .before .before .before .before .before .before .before .before .before .before .before .loop .state) (c .before .before .before .before .before .before .before .before .before .before .before .loop .queue .heads) (c .before .before .before .before .before .before .before .before .before .before .before .loop .queue .nexts) (c .before .before .before .before .before .before .before .before .before .before .before .loop .acts) (c .before .before .before .before .before .before .before .before .before .before .before .loop .count) (c .before .before .before .before .before .before .before .before .before .before .before .loop .p) n i b in
-    let z = rw (c .before .before .before .before .before .before .before .wide .ensures, c .before .before .before .before .before .before .before .before .sends-at .ensures) at (c .before .before .before .before .before .other-of .ensures) in
-    (omega (arith, n), omega (arith, z, o, n))
+mul-acts : tie.Need-mul-acts Inv-loop μ-loop Inv-loop2 μ-loop2
+mul-acts c = omega (arith, few (c .before .before .before .before .before .before .before .before .before .before .before .before), c .before .before .before .before .before .before .before .before .before .before .before .before .before .loop2 .inv .0 .few-count, c .before .before .before .before .before .before .before .before .before .before .before .before .before .loop2 .inv .0 .room)
 
--- src/sweep.rt:225:9
-mul-acts : tie.Need-mul-acts Inv-loop μ-loop
-mul-acts c =
-    let a = c .before .before .before .before .before .before .before .before .before .before .before .before .before .before .args in
-    let v = c .before .before .before .before .before .before .before .before .before .before .before .before .before .before .pre in
-    let g = valid-parts (a .w .now) (a .st) v .0 in
-    let n = few-comps (a .w .now) (a .st) v in
-    let i = c .before .before .before .before .before .before .before .before .before .before .before .before .loop .inv .0 in
-    let b = c .before .before .before .before .before .before .before .before .before .before .before .loop-test .taken in
-    omega (arith, i .few-count, n)
+array-set-from-acts : tie.Need-array-set-from-acts Inv-loop μ-loop Inv-loop2 μ-loop2
+array-set-from-acts c = omega (arith, few (c .before .before .before .before .before .before .before .before .before .before .before .before), c .before .before .before .before .before .before .before .before .before .before .before .before .before .loop2 .inv .0 .few-count, c .before .before .before .before .before .before .before .before .before .before .before .before .before .loop2 .inv .0 .room)
 
--- src/sweep.rt:225:9
-array-set-from-acts : tie.Need-array-set-from-acts Inv-loop μ-loop
-array-set-from-acts c =
-    let a = c .before .before .before .before .before .before .before .before .before .before .before .before .before .before .args in
-    let v = c .before .before .before .before .before .before .before .before .before .before .before .before .before .before .pre in
-    let g = valid-parts (a .w .now) (a .st) v .0 in
-    let n = few-comps (a .w .now) (a .st) v in
-    let i = c .before .before .before .before .before .before .before .before .before .before .before .before .loop .inv .0 in
-    let b = c .before .before .before .before .before .before .before .before .before .before .before .loop-test .taken in
-    omega (arith, i .few-count, n)
+add-count : tie.Need-add-count Inv-loop μ-loop Inv-loop2 μ-loop2
+add-count c = omega (arith, few (c .before .before .before .before .before .before .before .before .before .before .before .before), c .before .before .before .before .before .before .before .before .before .before .before .before .before .loop2 .inv .0 .few-count, c .before .before .before .before .before .before .before .before .before .before .before .before .before .loop2 .inv .0 .room)
 
--- src/sweep.rt:226:18
-some-of-requires : tie.Need-some-of-requires Inv-loop μ-loop
-some-of-requires c κs = search needs
+mul-nx : tie.Need-mul-nx Inv-loop μ-loop Inv-loop2 μ-loop2
+mul-nx c = let z = rw (c .before .before .before .before .before .before .before .before .before .wide2 .ensures, c .before .before .before .before .before .before .before .before .before .before .sends-at .ensures) at (c .before .before .before .before .before .other-of .ensures) in omega (arith, z, other (c .before .before .before .before .before .before .before .before .before .before .before .before), few (c .before .before .before .before .before .before .before .before .before .before .before .before))
 
--- src/sweep.rt:226:9
-add-count : tie.Need-add-count Inv-loop μ-loop
-add-count c =
-    let a = c .before .before .before .before .before .before .before .before .before .before .before .before .before .before .before .args in
-    let v = c .before .before .before .before .before .before .before .before .before .before .before .before .before .before .before .pre in
-    let g = valid-parts (a .w .now) (a .st) v .0 in
-    let n = few-comps (a .w .now) (a .st) v in
-    let i = c .before .before .before .before .before .before .before .before .before .before .before .before .before .loop .inv .0 in
-    let b = c .before .before .before .before .before .before .before .before .before .before .before .before .loop-test .taken in
-    omega (arith, c .some-of .ensures, some-fits (c .before .before .before .before .before .kind-at .result), i .few-count, n)
+element-copy-out-nx : tie.Need-element-copy-out-nx Inv-loop μ-loop Inv-loop2 μ-loop2
+element-copy-out-nx c = let z = rw (c .before .before .before .before .before .before .before .before .before .wide2 .ensures, c .before .before .before .before .before .before .before .before .before .before .sends-at .ensures) at (c .before .before .before .before .before .other-of .ensures) in omega (arith, z, other (c .before .before .before .before .before .before .before .before .before .before .before .before), few (c .before .before .before .before .before .before .before .before .before .before .before .before))
 
--- src/sweep.rt:227:18
-mul-nx : tie.Need-mul-nx Inv-loop μ-loop
-mul-nx c =
-    let a = c .before .before .before .before .before .before .before .before .before .before .before .before .before .before .before .args in
-    let v = c .before .before .before .before .before .before .before .before .before .before .before .before .before .before .before .pre in
-    let g = valid-parts (a .w .now) (a .st) v .0 in
-    let n = few-comps (a .w .now) (a .st) v in
-    let i = c .before .before .before .before .before .before .before .before .before .before .before .before .before .loop .inv .0 in
-    let b = c .before .before .before .before .before .before .before .before .before .before .before .before .loop-test .taken in
-    let o = other-fits (a .w .now) g (a .l) (a .st) (c .before .before .before .before .before .before .before .before .before .before .before .before .before .loop .state) (c .before .before .before .before .before .before .before .before .before .before .before .before .before .loop .queue .heads) (c .before .before .before .before .before .before .before .before .before .before .before .before .before .loop .queue .nexts) (c .before .before .before .before .before .before .before .before .before .before .before .before .before .loop .acts) (c .before .before .before .before .before .before .before .before .before .before .before .before .before .loop .count) (c .before .before .before .before .before .before .before .before .before .before .before .before .before .loop .p) n i b in
-    let z = rw (c .before .before .before .before .before .before .before .before .before .wide .ensures, c .before .before .before .before .before .before .before .before .before .before .sends-at .ensures) at (c .before .before .before .before .before .before .before .other-of .ensures) in
-    omega (arith, z, o, n)
-
--- src/sweep.rt:227:18
-element-copy-out-nx : tie.Need-element-copy-out-nx Inv-loop μ-loop
-element-copy-out-nx c =
-    let a = c .before .before .before .before .before .before .before .before .before .before .before .before .before .before .before .args in
-    let v = c .before .before .before .before .before .before .before .before .before .before .before .before .before .before .before .pre in
-    let g = valid-parts (a .w .now) (a .st) v .0 in
-    let n = few-comps (a .w .now) (a .st) v in
-    let i = c .before .before .before .before .before .before .before .before .before .before .before .before .before .loop .inv .0 in
-    let b = c .before .before .before .before .before .before .before .before .before .before .before .before .loop-test .taken in
-    let o = other-fits (a .w .now) g (a .l) (a .st) (c .before .before .before .before .before .before .before .before .before .before .before .before .before .loop .state) (c .before .before .before .before .before .before .before .before .before .before .before .before .before .loop .queue .heads) (c .before .before .before .before .before .before .before .before .before .before .before .before .before .loop .queue .nexts) (c .before .before .before .before .before .before .before .before .before .before .before .before .before .loop .acts) (c .before .before .before .before .before .before .before .before .before .before .before .before .before .loop .count) (c .before .before .before .before .before .before .before .before .before .before .before .before .before .loop .p) n i b in
-    let z = rw (c .before .before .before .before .before .before .before .before .before .wide .ensures, c .before .before .before .before .before .before .before .before .before .before .sends-at .ensures) at (c .before .before .before .before .before .before .before .other-of .ensures) in
-    omega (arith, z, o, n)
-
--- src/sweep.rt:228:26
-popped-of-requires : tie.Need-popped-of-requires Inv-loop μ-loop
+popped-of-requires : tie.Need-popped-of-requires Inv-loop μ-loop Inv-loop2 μ-loop2
 popped-of-requires c κs = search needs
 
--- src/sweep.rt:228:9
-mul-queue : tie.Need-mul-queue Inv-loop μ-loop
-mul-queue c =
-    let a = c .before .before .before .before .before .before .before .before .before .before .before .before .before .before .before .before .before .args in
-    let v = c .before .before .before .before .before .before .before .before .before .before .before .before .before .before .before .before .before .pre in
-    let g = valid-parts (a .w .now) (a .st) v .0 in
-    let n = few-comps (a .w .now) (a .st) v in
-    let i = c .before .before .before .before .before .before .before .before .before .before .before .before .before .before .before .loop .inv .0 in
-    let b = c .before .before .before .before .before .before .before .before .before .before .before .before .before .before .loop-test .taken in
-    omega (arith, c .before .before .before .before .before .before .before .before .before .before .before .wide .ensures, c .before .before .before .before .before .before .before .before .before .before .before .before .sends-at .ensures, channel-fits (a .w .now) g (a .l) (a .st) (c .before .before .before .before .before .before .before .before .before .before .before .before .before .before .before .loop .state) (c .before .before .before .before .before .before .before .before .before .before .before .before .before .before .before .loop .queue .heads) (c .before .before .before .before .before .before .before .before .before .before .before .before .before .before .before .loop .queue .nexts) (c .before .before .before .before .before .before .before .before .before .before .before .before .before .before .before .loop .acts) (c .before .before .before .before .before .before .before .before .before .before .before .before .before .before .before .loop .count) (c .before .before .before .before .before .before .before .before .before .before .before .before .before .before .before .loop .p) n i b)
+mul-queue-3 : tie.Need-mul-queue-3 Inv-loop μ-loop Inv-loop2 μ-loop2
+mul-queue-3 c = omega (arith, c .before .before .before .before .before .before .before .before .before .before .before .wide2 .ensures, c .before .before .before .before .before .before .before .before .before .before .before .before .sends-at .ensures, channel (c .before .before .before .before .before .before .before .before .before .before .before .before .before .before))
 
--- src/sweep.rt:228:9
-element-write-queue : tie.Need-element-write-queue Inv-loop μ-loop
-element-write-queue c =
-    let a = c .before .before .before .before .before .before .before .before .before .before .before .before .before .before .before .before .before .args in
-    let v = c .before .before .before .before .before .before .before .before .before .before .before .before .before .before .before .before .before .pre in
-    let g = valid-parts (a .w .now) (a .st) v .0 in
-    let n = few-comps (a .w .now) (a .st) v in
-    let i = c .before .before .before .before .before .before .before .before .before .before .before .before .before .before .before .loop .inv .0 in
-    let b = c .before .before .before .before .before .before .before .before .before .before .before .before .before .before .loop-test .taken in
-    omega (arith, c .before .before .before .before .before .before .before .before .before .before .before .wide .ensures, c .before .before .before .before .before .before .before .before .before .before .before .before .sends-at .ensures, channel-fits (a .w .now) g (a .l) (a .st) (c .before .before .before .before .before .before .before .before .before .before .before .before .before .before .before .loop .state) (c .before .before .before .before .before .before .before .before .before .before .before .before .before .before .before .loop .queue .heads) (c .before .before .before .before .before .before .before .before .before .before .before .before .before .before .before .loop .queue .nexts) (c .before .before .before .before .before .before .before .before .before .before .before .before .before .before .before .loop .acts) (c .before .before .before .before .before .before .before .before .before .before .before .before .before .before .before .loop .count) (c .before .before .before .before .before .before .before .before .before .before .before .before .before .before .before .loop .p) n i b)
+element-write-queue-3 : tie.Need-element-write-queue-3 Inv-loop μ-loop Inv-loop2 μ-loop2
+element-write-queue-3 c = omega (arith, c .before .before .before .before .before .before .before .before .before .before .before .wide2 .ensures, c .before .before .before .before .before .before .before .before .before .before .before .before .sends-at .ensures, channel (c .before .before .before .before .before .before .before .before .before .before .before .before .before .before))
 
--- src/sweep.rt:229:9
-add-p : tie.Need-add-p Inv-loop μ-loop
-add-p c =
-    let a = c .before .before .before .before .before .before .before .before .before .before .before .before .before .before .before .before .before .args in
-    let v = c .before .before .before .before .before .before .before .before .before .before .before .before .before .before .before .before .before .pre in
-    let g = valid-parts (a .w .now) (a .st) v .0 in
-    let n = few-comps (a .w .now) (a .st) v in
-    let i = c .before .before .before .before .before .before .before .before .before .before .before .before .before .before .before .loop .inv .0 in
-    let b = c .before .before .before .before .before .before .before .before .before .before .before .before .before .before .loop-test .taken in
-    omega (arith, n)
+add-p-2 : tie.Need-add-p-2 Inv-loop μ-loop Inv-loop2 μ-loop2
+add-p-2 c = omega (arith, few (c .before .before .before .before .before .before .before .before .before .before .before .before .before .before))
 
--- src/sweep.rt:213:5
-loop-less : tie.Need-loop-less Inv-loop μ-loop
-loop-less c =
-    let a = c .before .before .before .before .before .before .before .before .before .before .before .before .before .before .before .before .before .args in
-    let v = c .before .before .before .before .before .before .before .before .before .before .before .before .before .before .before .before .before .pre in
-    let g = valid-parts (a .w .now) (a .st) v .0 in
-    let n = few-comps (a .w .now) (a .st) v in
-    let i = c .before .before .before .before .before .before .before .before .before .before .before .before .before .before .before .loop .inv .0 in
-    let b = c .before .before .before .before .before .before .before .before .before .before .before .before .before .before .loop-test .taken in
-    omega arith
+loop2-less-2 : tie.Need-loop2-less-2 Inv-loop μ-loop Inv-loop2 μ-loop2
+loop2-less-2 c = omega arith
 
--- src/sweep.rt:213:5
-loop-again : tie.Need-loop-again Inv-loop μ-loop
-loop-again c =
-    let a = c .before .before .before .before .before .before .before .before .before .before .before .before .before .before .before .before .before .args in
-    let v = c .before .before .before .before .before .before .before .before .before .before .before .before .before .before .before .before .before .pre in
-    let g = valid-parts (a .w .now) (a .st) v .0 in
-    let n = few-comps (a .w .now) (a .st) v in
-    let i = c .before .before .before .before .before .before .before .before .before .before .before .before .before .before .before .loop .inv .0 in
-    let b = c .before .before .before .before .before .before .before .before .before .before .before .before .before .before .loop-test .taken in
-    let f = rw (c .before .before .before .before .before .before .before .kind-at .ensures, c .before .before .before .before .before .before .before .before .before .other-of .ensures, c .before .before .before .before .before .before .before .before .before .before .before .wide .ensures, c .before .before .before .before .before .before .before .before .before .before .before .before .sends-at .ensures) at (c .before .before .before .before .before .before .perform .ensures) in
-    (rw (c .popped-of .ensures, c .before .before .some-of .ensures, c .before .before .before .rec-by .ensures, c .before .before .before .before .before .before .before .kind-at .ensures, c .before .before .before .before .before .before .before .before .before .other-of .ensures, c .before .before .before .before .before .before .before .before .before .before .before .wide .ensures, c .before .before .before .before .before .before .before .before .before .before .before .before .sends-at .ensures) (going-turn (a .w .now) g (a .l) (a .st) (c .before .before .before .before .before .before .before .before .before .before .before .before .before .before .before .loop .state) (c .before .before .before .before .before .before .before .before .before .before .before .before .before .before .before .loop .queue .heads) (c .before .before .before .before .before .before .before .before .before .before .before .before .before .before .before .loop .queue .nexts) (c .before .before .before .before .before .before .before .before .before .before .before .before .before .before .before .loop .acts) (c .before .before .before .before .before .before .before .before .before .before .before .before .before .before .before .loop .count) (c .before .before .before .before .before .before .before .before .before .before .before .before .before .before .before .loop .p) n i b (c .before .before .before .before .before .before .perform .result) f), c .before .before .before .before .before .before .before .before .before .before .before .before .before .before .before .loop .inv .1)
+loop2-again-2 : tie.Need-loop2-again-2 Inv-loop μ-loop Inv-loop2 μ-loop2
+loop2-again-2 c =
+    let f = rw (c .before .before .before .before .before .before .before .before .before .kind-at .ensures, c .before .before .before .before .before .before .before .other-of .ensures, c .before .before .before .before .before .before .before .before .before .before .before .wide2 .ensures, c .before .before .before .before .before .before .before .before .before .before .before .before .sends-at .ensures) at (c .before .before .before .before .before .perform .ensures) in
+    let e = rw (c .before .before .before .before .before .before .before .before .before .before .before .wide2 .ensures, c .before .before .before .before .before .before .before .before .before .before .before .before .sends-at .ensures) at (c .before .before .before .before .before .before .before .before .before .kind-at .ensures) in (
+      rw (c .popped-of .ensures, c .before .before .rec-by .ensures, c .before .before .before .before .before .before .before .before .before .kind-at .ensures, c .before .before .before .before .before .before .before .other-of .ensures, c .before .before .before .before .before .before .before .before .before .before .before .wide2 .ensures, c .before .before .before .before .before .before .before .before .before .before .before .before .sends-at .ensures)
+          (going-fires _ (script (c .before .before .before .before .before .before .before .before .before .before .before .before .before .before)) _ _ _ _ _ _ _ _ (few (c .before .before .before .before .before .before .before .before .before .before .before .before .before .before)) (c .before .before .before .before .before .before .before .before .before .before .before .before .before .before .before .loop2 .inv .0) (below (c .before .before .before .before .before .before .before .before .before .before .before .before .before .before)) (c .before .before .before .before .before .perform .result) f (λ z. c .before .before .before .before .before .before .before .before .if1 .left (e ∙ z))),
+      c .before .before .before .before .before .before .before .before .before .before .before .before .before .before .before .loop2 .inv .1,
+    )
 
--- src/sweep.rt:199:1
-returns : tie.Need-returns Inv-loop μ-loop
+returns : tie.Need-returns Inv-loop μ-loop Inv-loop2 μ-loop2
 returns c =
-    let a = c .before .before .before .args in
-    let v = c .before .before .before .pre in
-    let i = c .before .loop .inv .0 in
+    let a = c .before .before .before .before .args in
+    let v = c .before .before .before .before .pre in
+    let i = c .before .loop2 .inv .0 in
     let e = going-end (a .w .now) (a .l) (a .st) _ _ _ _ _ _ i (omega arith) (few-comps (a .w .now) (a .st) v) in
     let l : length (a .st .c) ≡ 256 = search (needs, mapped) in
     record { records = e .0; number = e .1; few = omega (arith, i .few-count, i .few-p); comps = e .2; size = i .same; slots = l; slotted = i .size }
@@ -350,18 +271,37 @@ sweep-spec =
     (tie.spec
     Inv-loop
     μ-loop
-    queue-of-requires
+    Inv-loop2
+    μ-loop2
     loop-holds
+    sub-i
     mul-c
     element-copy-out-c
-    sends-at-requires
+    hears-at-requires
     wide-requires
+    mul-old
+    element-copy-out-old
+    mul-queue
+    element-write-queue
+    link-to-requires
+    mul-queue-2
+    element-write-queue-2
+    loop-less
+    loop-again
+    loop2-holds
+    mul-c-2
+    element-copy-out-c-2
+    sends-at-requires
+    wide-requires-2
     mul-x
     element-copy-out-x
+    kind-at-requires
+    add-p
+    loop2-less
+    loop2-again
     other-of-requires
     mul-e
     element-copy-out-e
-    kind-at-requires
     perform-requires
     mul-a
     element-set-from-a
@@ -370,14 +310,13 @@ sweep-spec =
     rec-by-requires
     mul-acts
     array-set-from-acts
-    some-of-requires
     add-count
     mul-nx
     element-copy-out-nx
     popped-of-requires
-    mul-queue
-    element-write-queue
-    add-p
-    loop-less
-    loop-again
+    mul-queue-3
+    element-write-queue-3
+    add-p-2
+    loop2-less-2
+    loop2-again-2
     returns)

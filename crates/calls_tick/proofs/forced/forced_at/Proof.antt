@@ -45,21 +45,21 @@ element-copy-out-c c = omega (arith, few-comps (c .before .before .before .args 
 -- src/forced.rt:114:12
 pressed-by-requires : tie.Need-pressed-by-requires Inv-loop μ-loop
 pressed-by-requires c κs =
-    let a = c .before .before .before .before .args in
+    let a = c .before .before .before .before .before .args in
     let l : length (a .t2 .c) ≡ 256 = search (needs, mapped) in
-    (valid-parts (a .w .now) (a .t2) (c .before .before .before .before .pre) .0, comp-good (a .w .now) (a .t2) (c .before .before .before .before .pre) l (c .before .before .loop .j) (c .before .loop-test .taken))
+    (valid-parts (a .w .now) (a .t2) (c .before .before .before .before .before .pre) .0, comp-good (a .w .now) (a .t2) (c .before .before .before .before .before .pre) l (c .before .before .before .loop .j) (c .before .before .loop-test .taken))
 
 -- src/forced.rt:115:13
 returns : tie.Need-returns Inv-loop μ-loop
 unfolding forcedAt compsOf
 returns c =
-    let a = c .before .before .before .before .before .before .args in
-    let v = c .before .before .before .before .before .before .pre in
-    let j = c .before .before .before .before .loop .j in
+    let a = c .before .before .before .before .before .before .before .args in
+    let v = c .before .before .before .before .before .before .before .pre in
+    let j = c .before .before .before .before .before .loop .j in
     let l : length (a .t2 .c) ≡ 256 = search (needs, mapped) in
     let n = few-comps (a .w .now) (a .t2) v in
-    let g = comp-good (a .w .now) (a .t2) v l j (c .before .before .before .loop-test .taken) in
-    sym (some-getD _ (a .t2 .c) (a .t2 .n) j noComp (c .before .before .before .loop-test .taken) (omega arith) (sym (pressed-is (a .w .now) (a .l) (compsOf (a .t2)) (c .before .before .before .before .before .heard-at .result .y) (getD (a .t2 .c) j noComp) (valid-parts (a .w .now) (a .t2) v .0) g (c .before .before .before .before .before .heard-at .ensures)) ∙ sym (c .before .pressed-by .ensures) ∙ c .if1 .taken))
+    let g = comp-good (a .w .now) (a .t2) v l j (c .before .before .before .before .loop-test .taken) in
+    sym (some-getD _ (a .t2 .c) (a .t2 .n) j noComp (c .before .before .before .before .loop-test .taken) (omega arith) (sym (pressed-is (a .w .now) (a .l) (compsOf (a .t2)) (c .before .before .before .before .before .before .heard-at .result) (getD (a .t2 .c) j noComp) (valid-parts (a .w .now) (a .t2) v .0) g (c .before .before .before .before .before .before .heard-at .ensures)) ∙ sym (c .before .pressed-by .ensures) ∙ c .if1 .taken))
 
 -- src/forced.rt:117:9
 add-j : tie.Need-add-j Inv-loop μ-loop
@@ -72,13 +72,13 @@ loop-less c = omega arith
 -- src/forced.rt:112:5
 loop-again : tie.Need-loop-again Inv-loop μ-loop
 loop-again c =
-    let a = c .before .before .before .before .before .before .args in
-    let v = c .before .before .before .before .before .before .pre in
-    let j = c .before .before .before .before .loop .j in
+    let a = c .before .before .before .before .before .before .before .args in
+    let v = c .before .before .before .before .before .before .before .pre in
+    let j = c .before .before .before .before .before .loop .j in
     let l : length (a .t2 .c) ≡ 256 = search (needs, mapped) in
     let n = few-comps (a .w .now) (a .t2) v in
-    let g = comp-good (a .w .now) (a .t2) v l j (c .before .before .before .loop-test .taken) in
-    (omega arith, quiet-more (a .w .now) (a .l) (compsOf (a .t2)) (a .t2 .c) j noComp (omega arith) (c .before .before .before .before .loop .inv .1) (sym (pressed-is (a .w .now) (a .l) (compsOf (a .t2)) (c .before .before .before .before .before .heard-at .result .y) (getD (a .t2 .c) j noComp) (valid-parts (a .w .now) (a .t2) v .0) g (c .before .before .before .before .before .heard-at .ensures)) ∙ sym (c .before .pressed-by .ensures) ∙ c .if1 .left))
+    let g = comp-good (a .w .now) (a .t2) v l j (c .before .before .before .before .loop-test .taken) in
+    (omega arith, quiet-more (a .w .now) (a .l) (compsOf (a .t2)) (a .t2 .c) j noComp (omega arith) (c .before .before .before .before .before .loop .inv .1) (sym (pressed-is (a .w .now) (a .l) (compsOf (a .t2)) (c .before .before .before .before .before .before .heard-at .result) (getD (a .t2 .c) j noComp) (valid-parts (a .w .now) (a .t2) v .0) g (c .before .before .before .before .before .before .heard-at .ensures)) ∙ sym (c .before .pressed-by .ensures) ∙ c .if1 .left))
 
 -- src/forced.rt:105:1
 returns-2 : tie.Need-returns-2 Inv-loop μ-loop

@@ -39,7 +39,7 @@ returns : tie.Need-returns
 unfolding pressedBy
 returns c =
     let a = c .before .before .before .before .before .args in
-    rw (sym (c .before .before .before .before .ready-at .ensures) ∙ c .before .before .before .if1 .taken) (c .presses-by .ensures ∙ ap (pressesBy (a .ears .y) (a .c .timer)) (c .before .head-at .ensures ∙ ap (headAt (a .w .now)) (c .before .before .wide .ensures)))
+    rw (sym (c .before .before .before .before .ready-at .ensures) ∙ c .before .before .before .if1 .taken) (c .presses-by .ensures ∙ ap (pressesBy (a .ears .now) (a .c .timer)) (c .before .head-at .ensures ∙ ap (headAt (a .w .now)) (c .before .before .wide .ensures)))
 
 -- src/forced.rt:94:1
 returns-2 : tie.Need-returns-2

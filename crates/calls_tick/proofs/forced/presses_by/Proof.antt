@@ -46,35 +46,35 @@ returns : tie.Need-returns
 unfolding pressesBy
 returns c =
     let a = c .before .before .args in
-    sym (ap (pressesBy (a .ears .y) (a .t)) (c .enum-told .given .1))
+    sym (ap (pressesBy (a .ears .now) (a .t)) (c .enum-told .given .1))
 
 -- src/forced.rt:73:1
 returns-2 : tie.Need-returns-2
 unfolding pressesBy
 returns-2 c =
     let a = c .before .before .args in
-    sym (ap (pressesBy (a .ears .y) (a .t)) (c .enum-told2 .given .1))
+    sym (ap (pressesBy (a .ears .now) (a .t)) (c .enum-told2 .given .1))
 
 -- src/forced.rt:73:1
 returns-3 : tie.Need-returns-3
 unfolding pressesBy
 returns-3 c =
-    let a = c .before .before .before .before .before .args in
-    c .is-heard .ensures ∙ ap (λ k. eqb (getD (a .ears .y) k 0) 1) (c .before .wide .ensures) ∙ sym (ap (pressesBy (a .ears .y) (a .t)) (c .before .before .before .h .given .1))
+    let a = c .before .before .before .before .before .before .args in
+    c .is-heard .ensures ∙ ap (λ k. eqb (getD (a .ears .now) k 0) 1) (c .before .wide .ensures) ∙ sym (ap (pressesBy (a .ears .now) (a .t)) (c .before .before .before .before .h .given .1))
 
 -- src/forced.rt:73:1
 returns-4 : tie.Need-returns-4
 unfolding pressesBy
 returns-4 c =
     let a = c .before .before .args in
-    sym (ap (pressesBy (a .ears .y) (a .t)) (c .enum-told3 .given .1))
+    sym (ap (pressesBy (a .ears .now) (a .t)) (c .enum-told3 .given .1))
 
 -- src/forced.rt:73:1
 returns-5 : tie.Need-returns-5
 unfolding pressesBy
 returns-5 c =
     let a = c .before .before .args in
-    sym (ap (pressesBy (a .ears .y) (a .t)) (c .enum-told4 .given .1))
+    sym (ap (pressesBy (a .ears .now) (a .t)) (c .enum-told4 .given .1))
 
 pub presses-by-spec : {M : Type 1} → statement M
 presses-by-spec =

@@ -1,92 +1,29 @@
--- The name is compared with each that comes after it.
--- By the invariant that no name passed is the same.
-use Prim.Native.Nat.{ℕ, _-_, _≤_, _<_}
+-- Names are compared where the numbers leave it open; where no number stands again, no name does.
+-- By the law that names whose numbers differ are different.
 use native.Mathlib.Omega.{arith}
-use mathlib.Core.Path.{_≡_, sym, ap, _∙_}
-use mathlib.Core.Bool.{false}
+use mathlib.Core.Path.{sym}
 use borrow.Author.Needs.{needs}
-use borrow.Author.Count.{below-more}
-use Rattle.terms.specs.Names.{sameName}
-use Rattle.table.specs.Tests.{keyName, rowName}
-use Rattle.table.proofs.Names.{name-sym}
-use Rattle.table.proofs.NamesRows.{row-near, again-hit, again-none}
+use Rattle.table.specs.Tests.{rowName}
+use Rattle.table.proofs.NamesRows.{again-none, mixed-apart}
 use Rattle.table.proofs.valid.held_again.Statement.{statement}
 use Rattle.table.proofs.valid.held_again.Tie as tie
 
-abbrev Inv-loop : tie.InvT-loop
-Inv-loop w o s n i x j₀ j = (i < j) × (j ≤ n) × (keyName x ≡ rowName w o s i) × ((k : ℕ) → k < j → i < k → sameName (rowName w o s i) (rowName w o s k) ≡ false)
+mixed-again-requires : tie.Need-mixed-again-requires
+mixed-again-requires c κs = search needs
 
-abbrev μ-loop : tie.MeasureT-loop
-μ-loop w o s n i x j₀ j = n - j
+named-again-requires : tie.Need-named-again-requires
+named-again-requires c κs = search needs
 
-mul-key-at : tie.Need-mul-key-at Inv-loop μ-loop
-mul-key-at c = let a = c .args in let r = row-near (a .s) (a .n) (a .i) (c .pre .1) (c .pre .2) (omega arith) in omega (arith, r, c .pre .0)
+returns : tie.Need-returns
+returns c = c .named-again .ensures
 
-add-key-at : tie.Need-add-key-at Inv-loop μ-loop
-add-key-at c = let a = c .args in let r = row-near (a .s) (a .n) (a .i) (c .pre .1) (c .pre .2) (omega arith) in omega (arith, r, c .pre .0)
-
-key-at-requires : tie.Need-key-at-requires Inv-loop μ-loop
-key-at-requires c κs = search needs
-
-add-j : tie.Need-add-j Inv-loop μ-loop
-add-j c = omega arith
-
-loop-holds : tie.Need-loop-holds Inv-loop μ-loop
-unfolding rowName
-loop-holds c = (omega arith, omega arith, c .key-at .ensures, λ k b d. absurd (omega arith))
-
-mul-is-named : tie.Need-mul-is-named Inv-loop μ-loop
-mul-is-named c = let a = c .before .before .before .args in let r = row-near (a .s) (a .n) (c .before .loop .j) (c .before .before .before .pre .1) (c .before .before .before .pre .2) (omega arith) in omega (arith, r, c .before .before .before .pre .0)
-
-add-is-named : tie.Need-add-is-named Inv-loop μ-loop
-add-is-named c = let a = c .before .before .before .args in let r = row-near (a .s) (a .n) (c .before .loop .j) (c .before .before .before .pre .1) (c .before .before .before .pre .2) (omega arith) in omega (arith, r, c .before .before .before .pre .0)
-
-is-named-requires : tie.Need-is-named-requires Inv-loop μ-loop
-is-named-requires c κs = search needs
-
-returns : tie.Need-returns Inv-loop μ-loop
-unfolding rowName
-returns c =
-    let a = c .before .before .before .before .before .args in
-    let l = c .before .before .before .loop in
-    let e : c .before .is-named .result ≡ sameName (rowName (a .w .now) (a .o) (a .s) (a .i)) (rowName (a .w .now) (a .o) (a .s) (l .j)) = c .before .is-named .ensures ∙ name-sym _ _ ∙ ap (λ x. sameName x (rowName (a .w .now) (a .o) (a .s) (l .j))) (l .inv .2) in
-    sym (again-hit (a .n) (rowName (a .w .now) (a .o) (a .s)) (rowName (a .w .now) (a .o) (a .s) (a .i)) (a .i) (l .j) (l .inv .0) (omega arith) (sym e ∙ c .if1 .taken))
-
-add-j-2 : tie.Need-add-j-2 Inv-loop μ-loop
-add-j-2 c = omega arith
-
-loop-less : tie.Need-loop-less Inv-loop μ-loop
-loop-less c = omega arith
-
-loop-again : tie.Need-loop-again Inv-loop μ-loop
-unfolding rowName
-loop-again c =
-    let a = c .before .before .before .before .before .args in
-    let l = c .before .before .before .loop in
-    let e : c .before .is-named .result ≡ sameName (rowName (a .w .now) (a .o) (a .s) (a .i)) (rowName (a .w .now) (a .o) (a .s) (l .j)) = c .before .is-named .ensures ∙ name-sym _ _ ∙ ap (λ x. sameName x (rowName (a .w .now) (a .o) (a .s) (l .j))) (l .inv .2) in
-    (omega (arith, l .inv .0), omega arith, l .inv .2, below-more (λ k. a .i < k → sameName (rowName (a .w .now) (a .o) (a .s) (a .i)) (rowName (a .w .now) (a .o) (a .s) k) ≡ false) (l .j) (l .inv .3) (λ d. sym e ∙ c .if1 .left))
-
-returns-2 : tie.Need-returns-2 Inv-loop μ-loop
+returns-2 : tie.Need-returns-2
 returns-2 c =
-    let a = c .before .before .before .args in
-    sym (again-none (a .n) (rowName (a .w .now) (a .o) (a .s)) (rowName (a .w .now) (a .o) (a .s) (a .i)) (a .i) (λ k b d. c .before .loop .inv .3 k (omega arith) d))
+    let a = c .before .before .args in
+    let p = c .before .before .pre in
+    let f = rowName (a .w .now) (a .o) (a .s) in
+    sym (again-none (a .n) f (f (a .i)) (a .i) (λ k b d. mixed-apart (p .4 (a .i) (p .3)) (p .4 k b) (c .before .mixed-again .ensures (c .if1 .left) k b d)))
 
 pub held-again-spec : {M : Type 1} → statement M
 held-again-spec =
-    tie.close
-    (tie.spec
-    Inv-loop
-    μ-loop
-    mul-key-at
-    add-key-at
-    key-at-requires
-    add-j
-    loop-holds
-    mul-is-named
-    add-is-named
-    is-named-requires
-    returns
-    add-j-2
-    loop-less
-    loop-again
-    returns-2)
+    tie.close (tie.spec mixed-again-requires named-again-requires returns returns-2)

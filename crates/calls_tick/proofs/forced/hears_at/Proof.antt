@@ -3,45 +3,39 @@ use native.Mathlib.Omega.{arith}
 use mathlib.Core.Path.{_≡_, refl, sym, ap, subst, _∙_}
 use borrow.Author.Tests.{lt-ltb, le-ltb, le-leb, lt-leb, eq-eqb, ne-eqb}
 use Rattle.table.specs.Words.{headAt}
-use Rattle.calls_step.specs.Visit.{heardOn, hearsAt}
+use Rattle.calls_tick.specs.Heard.{heardOn, hearsAt}
 use Rattle.calls_act.proofs.Heads.{place-fits}
 use borrow.Author.Needs.{needs}
-use Rattle.calls_step.proofs.sweep.hears_at.Statement.{statement}
-use Rattle.calls_step.proofs.sweep.hears_at.Tie as tie
-use Rattle.calls_step.proofs.sweep.hears_at.Reads as reads
-use Rattle.calls_step.proofs.sweep.hears_at.Lts as lts
-use Rattle.calls_step.proofs.sweep.heard_on.Reads as heard-on-reads
+use Rattle.calls_tick.proofs.forced.hears_at.Statement.{statement}
+use Rattle.calls_tick.proofs.forced.hears_at.Tie as tie
+use Rattle.calls_tick.proofs.forced.hears_at.Reads as reads
+use Rattle.calls_tick.proofs.forced.hears_at.Lts as lts
+use Rattle.calls_tick.proofs.forced.heard_on.Reads as heard-on-reads
 use Rattle.calls_tick.proofs.forced.ready_at.Reads as ready-at-reads
 use Rattle.table.proofs.words.head_at.Reads as head-at-reads
 use Rattle.table.proofs.words.wide.Reads as wide-reads
 
--- src/sweep.rt:49:8
 ready-at-requires : tie.Need-ready-at-requires
 ready-at-requires c κs = search needs
 
--- src/sweep.rt:50:35
 wide-requires : tie.Need-wide-requires
 wide-requires c κs = search needs
 
--- src/sweep.rt:50:13
 head-at-requires : tie.Need-head-at-requires
 head-at-requires c κs =
     let a = c .before .before .before .args in
     let q = c .before .before .before .pre in
     rw (c .wide .ensures) (place-fits (a .w .now) (a .c) (q .0) (q .1))
 
--- src/sweep.rt:51:9
 heard-on-requires : tie.Need-heard-on-requires
 heard-on-requires c κs = search needs
 
--- src/sweep.rt:51:9
 returns : tie.Need-returns
 unfolding hearsAt
 returns c =
     let a = c .before .before .before .before .before .args in
     rw (sym (c .before .before .before .before .ready-at .ensures) ∙ c .before .before .before .if1 .taken) (c .heard-on .ensures ∙ ap heardOn (c .before .head-at .ensures ∙ ap (headAt (a .w .now)) (c .before .before .wide .ensures)))
 
--- src/sweep.rt:45:1
 returns-2 : tie.Need-returns-2
 unfolding hearsAt
 returns-2 c = rw (sym (c .before .ready-at .ensures) ∙ c .if1 .left)

@@ -2,54 +2,44 @@
 use native.Mathlib.Omega.{arith}
 use mathlib.Core.Path.{_≡_, refl, sym, ap, subst, _∙_}
 use borrow.Author.Tests.{lt-ltb, le-ltb, le-leb, lt-leb, eq-eqb, ne-eqb}
-use Rattle.calls_step.specs.Visit.{heardOn}
+use Rattle.calls_tick.specs.Heard.{heardOn}
 use borrow.Author.Needs.{needs}
-use Rattle.calls_step.proofs.sweep.heard_on.Statement.{statement}
-use Rattle.calls_step.proofs.sweep.heard_on.Tie as tie
-use Rattle.calls_step.proofs.sweep.heard_on.Reads as reads
-use Rattle.calls_step.proofs.sweep.heard_on.Lts as lts
+use Rattle.calls_tick.proofs.forced.heard_on.Statement.{statement}
+use Rattle.calls_tick.proofs.forced.heard_on.Tie as tie
+use Rattle.calls_tick.proofs.forced.heard_on.Reads as reads
+use Rattle.calls_tick.proofs.forced.heard_on.Lts as lts
 
--- src/sweep.rt:25:18
 enum-known-h : tie.Need-enum-known-h
 enum-known-h c = search needs
 
--- src/sweep.rt:26:23
 enum-told : tie.Need-enum-told
 enum-told c = search needs
 
--- src/sweep.rt:27:30
 enum-told-2 : tie.Need-enum-told-2
 enum-told-2 c = search needs
 
--- src/sweep.rt:28:37
 enum-told-3 : tie.Need-enum-told-3
 enum-told-3 c = search needs
 
--- src/sweep.rt:29:41
 enum-told-4 : tie.Need-enum-told-4
 enum-told-4 c = search needs
 
--- src/sweep.rt:21:1
 returns : tie.Need-returns
 unfolding heardOn
 returns c = sym (ap heardOn (c .before .h .given .1))
 
--- src/sweep.rt:21:1
 returns-2 : tie.Need-returns-2
 unfolding heardOn
 returns-2 c = sym (ap heardOn (c .enum-told .given .1))
 
--- src/sweep.rt:21:1
 returns-3 : tie.Need-returns-3
 unfolding heardOn
 returns-3 c = sym (ap heardOn (c .enum-told2 .given .1))
 
--- src/sweep.rt:21:1
 returns-4 : tie.Need-returns-4
 unfolding heardOn
 returns-4 c = sym (ap heardOn (c .enum-told3 .given .1))
 
--- src/sweep.rt:21:1
 returns-5 : tie.Need-returns-5
 unfolding heardOn
 returns-5 c = sym (ap heardOn (c .enum-told4 .given .1))
