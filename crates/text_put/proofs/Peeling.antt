@@ -5,10 +5,13 @@ use native.Mathlib.Omega.{arith}
 use mathlib.Core.Bool.{Bool, true, false, cond, _||_, false≢true}
 use mathlib.Core.List.{List, [], _∷_}
 use mathlib.Core.Path.{_≡_, refl, sym, ap, _∙_}
-use borrow.Author.Tests.{eq-eqb}
-use lib.Dec.{eqb}
+use borrow.Author.Tests.{eq-eqb, leb-false}
+use lib.Dec.{eqb, leb}
 use lib.ListN.{length, take, drop, getD}
 use Rattle.terms.specs.Names.{Name, bytes, sameName}
+use Rattle.terms.specs.declared.Timer.{Timer as CodeTimer}
+use Rattle.terms.specs.declared.Made.the-variants.{Valid, TooLarge}
+use Rattle.terms.specs.Clock.{madeOf}
 use Rattle.terms.specs.Terms.{Timer}
 use Rattle.terms.specs.Terms.Timer.{ticks, inf}
 use Rattle.text.specs.Characters.{Class, within, classOf, isCapital}
@@ -114,3 +117,36 @@ timer-ticks (ticks n) us w f g e r k =
     let j : number w ≡ n = ap number i ∙ digits-number n in
     k (omega arith) ∙ j
 timer-ticks inf us w f g e r k = let i : w ≡ bytes "inf" = cc in absurd (false≢true (sym e ∙ ap (λ x. sameName x (bytes "inf")) i))
+
+-- the timer's constructor takes the number of a timer of a text, and keeps it
+made-is : (n : ℕ) (x : CodeTimer) → madeOf n ≡ Valid x → x .raw ≡ n
+unfolding madeOf
+made-is n x e = go (leb n 1_000_000) e
+  where
+    go : (b : Bool) → cond b (Valid (record { raw = n })) TooLarge ≡ Valid x → x .raw ≡ n
+    go true e = let f : record { raw = n } ≡ x = cc in sym (ap (λ y. y .raw) f)
+    go false e = let z : _≡_ {A = ℕ} 0 1 = cc in absurd (omega arith)
+
+made-not : (n : ℕ) → madeOf n ≡ TooLarge → 1_000_000 < n
+unfolding madeOf
+made-not n e = go (leb n 1_000_000) refl e
+  where
+    go : (b : Bool) → leb n 1_000_000 ≡ b → cond b (Valid (record { raw = n })) TooLarge ≡ TooLarge → 1_000_000 < n
+    go true f e = let z : _≡_ {A = ℕ} 0 1 = cc in absurd (omega arith)
+    go false f e = leb-false n 1_000_000 f
+
+module _ (t : Timer) (us : List Token) (w : Name) (f : WellTimer t) (g : word w ∷ us ≡ timerT t us) (e : sameName w (bytes "inf") ≡ false) (n : ℕ) (k : number w ≤ 1_000_000 → n ≡ number w) where
+  pub timer-made : (x : CodeTimer) → madeOf n ≡ Valid x → x .raw ≡ timerWord t
+  timer-made x m = timer-ticks t us w f g e (x .raw) (λ h. made-is n x m ∙ k h)
+
+  pub timer-large : madeOf n ≡ TooLarge → 0 ≡ timerWord t
+  unfolding timerWord sameName
+  timer-large m = go t f g
+    where
+      go : (t : Timer) → WellTimer t → word w ∷ us ≡ timerT t us → 0 ≡ timerWord t
+      go (ticks j) f g =
+          let i : w ≡ digits j = cc in
+          let q : number w ≡ j = ap number i ∙ digits-number j in
+          let r = k (omega arith) in
+          absurd (omega (arith, made-not n m))
+      go inf f g = let i : w ≡ bytes "inf" = cc in absurd (false≢true (sym e ∙ ap (λ x. sameName x (bytes "inf")) i))

@@ -62,14 +62,17 @@ pub fn name_at(s: &[u8], at: usize) -> Named
     }
 }
 
-// The word of a timer in a row.
+// The word of a timer in a row, by the timer's own constructor: a text that has the form has no number above its range.
 fn timer_of(w: &[u8]) -> u32
     ensures { λ r. ⌜ ((t : Timer) (us : List Token) → WellTimer t → word (now (w .entry)) ∷ us ≡ timerT t us → r ≡ timerWord t) ⌝ }
 {
     if text_words::is_same(w, b"inf") {
-        return 1000001;
+        return terms::Timer::INF.raw;
     }
-    text_words::number_of(w)
+    match terms::Timer::new(text_words::number_of(w)) {
+        terms::Made::Valid(t) => t.raw,
+        terms::Made::TooLarge => 0,
+    }
 }
 
 // The next word, as a timer.

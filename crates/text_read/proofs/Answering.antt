@@ -32,11 +32,11 @@ use Rattle.table.specs.Meaning.{networkOf as tableNetwork}
 use Rattle.table.specs.Valid.{valid}
 use Rattle.table.proofs.Size.{sizeP}
 use Rattle.text_build.specs.Rows.{placeKnown}
-use Rattle.text_tree.specs.Pass.{heads, bodies, afterBodies, brackets, spots, started, top, defined, behind, scriptOf, spotsOf}
+use Rattle.text_tree.specs.Pass.{Within, heads, bodies, afterBodies, brackets, spots, started, top, defined, behind, scriptOf, spotsOf}
 use Rattle.text_tree.specs.Asked.{roomy, apart, callsHeld, allBound, compOf}
 use Rattle.text_tree.proofs.Whole.{Whole}
 use Rattle.text_tree.proofs.Heads.{heads-under, heads-stand}
-use Rattle.text_tree.proofs.Reading.{Within, few-params, started-long, whole as stands}
+use Rattle.text_tree.proofs.Reading.{few-params, started-long, whole as stands}
 use Rattle.text_tree.proofs.Fitting.{roomy-is}
 use Rattle.text_tree.proofs.Network.{network-is, valid-is, count-is}
 use Rattle.text_tree.proofs.AskedApart.{apart-is}

@@ -53,7 +53,6 @@ use Rattle.text_put.specs.Found.{NameIs}
 use Rattle.text_put.specs.Opened.{ProcessAt, ProcessPut}
 use Rattle.text_put.proofs.Peeling.{ended-ok, peel-sign, peel-some, sign-next}
 use Rattle.text_tree.specs.Pass.{putParams, putHead, heads, noScope, enterAt, paramsFrom, afterBodies}
-use Rattle.text_tree.proofs.Reading.{Within}
 use Rattle.text_read.specs.declared.Passed.{Passed}
 use Rattle.text_read.specs.Ready.{Ready, DefAt, NamesAt, ParamsAt, HeadPut, BodyPut, bodiesBy, BodiesPut}
 

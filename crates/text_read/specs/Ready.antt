@@ -15,8 +15,7 @@ use Rattle.text.specs.Write.{nameT, joinedT, listT, defT, networkT, tokens}
 use Rattle.text.specs.WellFormed.{WellDef, WellTree}
 use Rattle.table.proofs.Size.{sizeP}
 use Rattle.text_build.specs.Put.{put}
-use Rattle.text_tree.proofs.Reading.{Within}
-use Rattle.text_tree.specs.Pass.{putHead, heads, paramsFrom, noScope, afterBodies, brackets, spots}
+use Rattle.text_tree.specs.Pass.{Within, putHead, heads, paramsFrom, noScope, afterBodies, brackets, spots}
 use Rattle.text_read.specs.declared.Passed.{Passed}
 use Rattle.text_read.specs.Spread.{Spread}
 

@@ -30,7 +30,7 @@ use Rattle.text_build.proofs.Numbers.{names-entered}
 use Rattle.text_build.proofs.Places.{PartFit, Fit, every-split, sizeP-some}
 use Rattle.text_build.proofs.Numbering.{flat-append}
 use Rattle.text_build.proofs.Puts.{leaf-fit, go-fit, out-fit, in-fit, par-fit}
-use Rattle.text_tree.specs.Pass.{noScope, paramScope, bodies, putLocated, brackets, top, defined, behind, scriptOf}
+use Rattle.text_tree.specs.Pass.{Within, noScope, paramScope, bodies, putLocated, brackets, top, defined, behind, scriptOf}
 use Rattle.text_tree.specs.Asked.{roomy}
 use Rattle.text_tree.proofs.Whole.{DefsStand, AllStand}
 use Rattle.text_tree.proofs.Sizes.{sizeDefs, sizeLocated, parts-are, behind-is}
@@ -38,7 +38,7 @@ use Rattle.text_tree.proofs.Heads.{FewParams, HeadsStand, heads-kept}
 use Rattle.text_tree.proofs.Params.{param-scope, param-eight, param-settled}
 use Rattle.text_tree.proofs.Bodies.{body-went, body-numbered}
 use Rattle.text_tree.proofs.Located.{loc-entered, none-eight, located-went, located-numbered}
-use Rattle.text_tree.proofs.Reading.{Within, headed, few, headed-few, headed-making, headed-clear, headed-locs, headed-chans, headed-stand, bodies-after, whole}
+use Rattle.text_tree.proofs.Reading.{headed, few, headed-few, headed-making, headed-clear, headed-locs, headed-chans, headed-stand, bodies-after, whole}
 use Rattle.text_tree.proofs.Room.{Fits, fits-front, fits-rest, FitsAt, at-front, at-rest, loc-room, few8, Ready}
 use Rattle.text_tree.proofs.Roomy.{put-roomy}
 

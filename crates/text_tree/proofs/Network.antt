@@ -41,13 +41,13 @@ use Rattle.text_build.specs.Growth.{locListed}
 use Rattle.text_build.proofs.Numbers.{timer-is, loc-number}
 use Rattle.text_build.proofs.Places.{Fit, size-some, sizeP-some, every-split, fit-par}
 use Rattle.text_build.proofs.Stands.{known-first, process-means}
-use Rattle.text_tree.specs.Pass.{partSpots, spots, top, behind, putLocated, scriptOf, spotsOf}
+use Rattle.text_tree.specs.Pass.{Within, partSpots, spots, top, behind, putLocated, scriptOf, spotsOf}
 use Rattle.text_tree.specs.Asked.{compOf}
 use Rattle.text_tree.proofs.Whole.{AllStand}
 use Rattle.text_tree.proofs.Sizes.{sizeDefs, sizeLocated, parts-are, behind-is}
 use Rattle.text_tree.proofs.Timers.{Timely}
 use Rattle.text_tree.proofs.Located.{spotsIn}
-use Rattle.text_tree.proofs.Reading.{Within, whole, spots-are, timers-small}
+use Rattle.text_tree.proofs.Reading.{whole, spots-are, timers-small}
 use Rattle.text_tree.proofs.Passing.{script-ok, defs-are, known-located}
 
 -- ── the first part of a process ──

@@ -32,13 +32,13 @@ use Rattle.text_build.proofs.RowWords.{side}
 use Rattle.text_build.proofs.Stands.{process-means}
 use Rattle.text_build.proofs.Passes.{stands-scope, pass}
 use Rattle.text_build.proofs.Puts.{every-also}
-use Rattle.text_tree.specs.Pass.{paramScope, top, behind}
+use Rattle.text_tree.specs.Pass.{Within, paramScope, top, behind}
 use Rattle.text_tree.proofs.Whole.{Whole, DefStands, DefsStand, AllStand}
 use Rattle.text_tree.proofs.Sizes.{sizeDefs, sizeLocated, parts-are, behind-is}
 use Rattle.text_tree.proofs.Once.{differ-same, locations-well, channels-well, locations-differ, channels-differ}
 use Rattle.text_tree.proofs.Heads.{HeadStands, FewParams}
 use Rattle.text_tree.proofs.Params.{param-offsets}
-use Rattle.text_tree.proofs.Reading.{Within, few-params}
+use Rattle.text_tree.proofs.Reading.{few-params}
 
 -- ── names ──
 sort-ok : (f g : Name → Bool) → ((x : Name) → f x ≡ g x) → (xs : List Name) → every f xs ≡ true → differ xs ≡ true → sortOk g xs ≡ true

@@ -21,7 +21,7 @@ use Rattle.text_build.specs.Growth.{Making}
 use Rattle.text_build.proofs.Writes.{set-out}
 use Rattle.text_build.proofs.Grows.{grown-none}
 use Rattle.text_build.proofs.Numbering.{flat-append, Numbered, numbered-then}
-use Rattle.text_tree.specs.Pass.{heads, bodies, started, top, defined, behind, scriptOf, spotsOf}
+use Rattle.text_tree.specs.Pass.{Within, heads, bodies, started, top, defined, behind, scriptOf, spotsOf}
 use Rattle.text_tree.proofs.Whole.{Whole}
 use Rattle.text_tree.proofs.Sizes.{sizeDefs, parts-are, behind-is}
 use Rattle.text_tree.proofs.Heads.{FewParams, HeadsStand, heads-long, heads-under, heads-past, heads-stand}
@@ -29,13 +29,6 @@ use Rattle.text_tree.proofs.Timers.{Timely}
 use Rattle.text_tree.proofs.Went.{defs-on}
 use Rattle.text_tree.proofs.Bodies.{Bodies, bodies-are}
 use Rattle.text_tree.proofs.Located.{brackets-back, Brackets, brackets-are, spotsIn}
-
--- the counts that the first pass finds within their limits
-pub record Within (t : Tree) : Type 0 where
-  pub definitions : definitionCount t ≤ 32
-  pub parameters : parameterCount t ≤ 4
-  pub parts : partCount t ≤ 4_096
-  pub components : componentCount t ≤ 256
 
 pub few-params : (ds : List Def) → most (λ d. length (params d)) ds ≤ 4 → FewParams ds
 unfolding most

@@ -1,6 +1,6 @@
 -- The second pass of reading over a whole text: document 01, *Reading*. First the heads of all definitions, so that every call finds its definition;
 -- then their bodies, then the located processes, in text order: the first part of the text stands at the highest place.
-use Prim.Native.Nat.{ℕ, zero, suc, _+_, _-_, _*_}
+use Prim.Native.Nat.{ℕ, zero, suc, _+_, _-_, _*_, _≤_}
 use mathlib.Core.List.{List, [], _∷_, _++_, map}
 use mathlib.Core.Bool.{Bool, true, false, cond}
 use lib.Dec.{ltb}
@@ -12,7 +12,7 @@ use Rattle.terms.specs.Terms.Process.{one, _∥_}
 use Rattle.terms.specs.Terms.Def.{define}
 use Rattle.text.specs.Tree.{Located, Tree}
 use Rattle.text.specs.Tree.Located.{at}
-use Rattle.text.specs.Questions.{partCount, definitionCount}
+use Rattle.text.specs.Questions.{definitionCount, parameterCount, partCount, componentCount}
 use Rattle.table.specs.declared.Comp.{Comp}
 use Rattle.table.specs.Words.{field, arityOf, nameAt}
 use Rattle.table.specs.Valid.{index}
@@ -22,6 +22,13 @@ use Rattle.text_build.specs.Keys.{keyOf}
 use Rattle.text_build.specs.Tables.{keyWords}
 use Rattle.text_build.specs.Rows.{scopeNames}
 use Rattle.text_build.specs.Put.{offsets, locNumber, enterLoc, put}
+
+-- the counts that the first pass finds within their limits
+pub record Within (t : Tree) : Type 0 where
+  pub definitions : definitionCount t ≤ 32
+  pub parameters : parameterCount t ≤ 4
+  pub parts : partCount t ≤ 4_096
+  pub components : componentCount t ≤ 256
 
 -- ── heads of definitions: number of parameters, place of the body, identifier, parameters ──
 -- the parameters us of the definition k, from the j-th on

@@ -1,6 +1,6 @@
--- `inf` is the only timer of letters; the digits of a number stand for it.
+-- `inf` is the only timer of letters; the constructor takes the number of any other.
 use mathlib.Core.Path.{_≡_, refl, sym, ap, _∙_}
-use Rattle.text_put.proofs.Peeling.{timer-inf, timer-ticks}
+use Rattle.text_put.proofs.Peeling.{timer-inf, timer-made, timer-large}
 use borrow.Author.Needs.{needs}
 use Rattle.text_put.proofs.words.timer_of.Statement.{statement}
 use Rattle.text_put.proofs.words.timer_of.Tie as tie
@@ -17,10 +17,31 @@ returns c = λ t us f g. timer-inf t us _ f g (sym (c .before .is-same .ensures)
 number-of-requires : tie.Need-number-of-requires
 number-of-requires c κs = search needs
 
+new-requires : tie.Need-new-requires
+new-requires c κs = search needs
+
+enum-known-t : tie.Need-enum-known-t
+enum-known-t c = search needs
+
+enum-told : tie.Need-enum-told
+enum-told c = search needs
+
 returns-2 : tie.Need-returns-2
-returns-2 c = λ t us f g. timer-ticks t us _ f g (sym (c .before .before .is-same .ensures) ∙ c .before .if1 .left) _ (c .number-of .ensures .exact)
+returns-2 c = λ t us f g. timer-made t us _ f g (sym (c .before .before .before .before .before .before .is-same .ensures) ∙ c .before .before .before .before .before .if1 .left) _ (c .before .before .before .before .number-of .ensures .exact) _ (sym (c .before .before .before .new .ensures) ∙ c .before .t .given .1)
+
+returns-3 : tie.Need-returns-3
+returns-3 c = λ t us f g. timer-large t us _ f g (sym (c .before .before .before .before .before .is-same .ensures) ∙ c .before .before .before .before .if1 .left) _ (c .before .before .before .number-of .ensures .exact) (sym (c .before .before .new .ensures) ∙ c .enum-told .given .1)
 
 pub timer-of-spec : {M : Type 1} → statement M
 timer-of-spec =
     tie.close
-    (tie.spec slice-aggregate-is-same is-same-requires returns number-of-requires returns-2)
+    (tie.spec
+    slice-aggregate-is-same
+    is-same-requires
+    returns
+    number-of-requires
+    new-requires
+    enum-known-t
+    enum-told
+    returns-2
+    returns-3)

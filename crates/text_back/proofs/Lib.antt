@@ -1,0 +1,4 @@
+pub mod Scope
+pub mod Process
+pub mod Tables
+pub mod RoundTrip
