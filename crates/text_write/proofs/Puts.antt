@@ -69,19 +69,6 @@ pub one-full : (d : List ℕ) (at b : ℕ) → length d ≤ at → 9_223_372_036
 one-full d at b h k = unfold over after next in record { bytes = sym (set-out d at b h); place = rw (le-ltb at 9_223_372_036_854_775_808 k) }
 
 -- ── a whole text ──
-pub over-length : (d : List ℕ) (at : ℕ) (s : List ℕ) → length (over d at s) ≡ length d
-unfolding over
-over-length d at [] = refl
-over-length d at (b ∷ s) = over-length (set d at b) (next at) s ∙ length-set d at b
-
--- a buffer of no bytes stays one
-pub none-put : {s e : List ℕ} {at r : ℕ} → Wrote [] at s e r → e ≡ []
-none-put {s} {e} {at} x = go e (ap length (x .bytes) ∙ over-length [] at s)
-  where
-    go : (l : List ℕ) → length l ≡ 0 → l ≡ []
-    go [] q = refl
-    go (b ∷ l) q = absurd (omega arith)
-
 next-room : (at : ℕ) → at < 9_223_372_036_854_775_808 → next at ≡ suc at
 unfolding next
 next-room at h = rw (lt-ltb at 9_223_372_036_854_775_808 h) (omega arith)

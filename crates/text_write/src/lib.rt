@@ -14,7 +14,9 @@ pub mod put;
 
 ghost use mathlib.Core.Path.{_≡_};
 ghost use mathlib.Core.Bool.{true};
-ghost use lib.ListN.{length};
+ghost use mathlib.Core.List.{_++_};
+ghost use Prim.Native.Nat.{_≤_};
+ghost use lib.ListN.{length, take, drop};
 ghost use Rattle.table.specs.Valid.{valid};
 ghost use Rattle.text_write.specs.Answer.{writeAnswer, Answers};
 use network::all_unmarked;
@@ -39,7 +41,20 @@ pub fn write(w: &[u32; 99592], st: State, buf: &mut [u8]) -> Written
     write_valid(w, st, buf)
 }
 
-// The same on a network that passes question 17: 14, then 15, for which the text is measured in no bytes of the buffer, then the text.
+// The first n bytes of s to the front of the buffer.
+fn copy_front(s: &[u8], n: usize, buf: &mut [u8])
+    requires { ⌜ (n ≤ length (now s)) × (n ≤ length (now buf)) ⌝ }
+    ensures { λ r. ⌜ now (buf .exit) ≡ take n (now (s .entry)) ++ drop n (now (buf .entry)) ⌝ }
+{
+    let mut i = 0;
+    while i < n {
+        buf[i] = s[i];
+        i += 1;
+    }
+}
+
+// The same on a network that passes question 17: 14, then 15, for which the text is written beside the buffer, then the text. Only a text that is longer than
+// any that can be read is written a second time.
 fn write_valid(w: &[u32; 99592], st: State, buf: &mut [u8]) -> Written
     requires { ⌜ valid (now w) st ≡ true ⌝ }
     ensures { λ r. ⌜ Answers (writeAnswer (now (w .entry)) st (length (now (buf .entry)))) (now (buf .entry)) r (now (buf .exit)) ⌝ }
@@ -47,10 +62,15 @@ fn write_valid(w: &[u32; 99592], st: State, buf: &mut [u8]) -> Written
     if !all_unmarked(st) {
         return Written { code: 14, len: 0 };
     }
-    let n = write_text(w, st, &mut buf[..0]);
+    let mut text = [0; 65536];
+    let n = write_text(w, st, &mut text);
     if buf.len() < n {
         return Written { code: 15, len: 0 };
     }
-    write_text(w, st, buf);
+    if 65536 < n {
+        write_text(w, st, buf);
+        return Written { code: 0, len: n };
+    }
+    copy_front(&text, n, buf);
     Written { code: 0, len: n }
 }

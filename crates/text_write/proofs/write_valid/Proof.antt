@@ -1,11 +1,10 @@
 -- A valid network's text, or 14 or 15.
--- Idea: the measuring pass puts its bytes into no buffer, so that a refusal leaves the buffer as it was.
+-- Idea: the text is written beside the buffer first, so that a refusal leaves the buffer as it was.
 use native.Mathlib.Omega.{arith}
-use mathlib.Core.Path.{sym, _∙_}
+use mathlib.Core.Path.{_≡_, refl, sym, ap, _∙_}
 use borrow.Author.Tests.{not-true, not-false}
-use Rattle.text_write.proofs.Puts.{none-put}
 use Rattle.text_write.proofs.Networks.{valid-state, unmarked-table}
-use Rattle.text_write.proofs.Answered.{says-14, says-15, says-text}
+use Rattle.text_write.proofs.Answered.{says-14, says-15, says-text, says-copied}
 use borrow.Author.Needs.{needs}
 use Rattle.text_write.proofs.write_valid.Statement.{statement}
 use Rattle.text_write.proofs.write_valid.Tie as tie
@@ -14,12 +13,7 @@ all-unmarked-requires : tie.Need-all-unmarked-requires
 all-unmarked-requires c κs = valid-state (c .before .args .w .now) (c .before .args .st) (c .before .pre) .few
 
 returns : tie.Need-returns
-returns c =
-    let k = c .before .before .before .args in
-    says-14 (k .w .now) (k .st) (k .buf .now) (c .before .before .before .pre) (unmarked-table (k .w .now) (k .st) ∙ sym (c .before .all-unmarked .ensures) ∙ not-true _ (c .if1 .taken))
-
-slice-relend-prefix-write-text : tie.Need-slice-relend-prefix-write-text
-slice-relend-prefix-write-text c = search needs
+returns c = says-14 (c .before .before .before .args .w .now) (c .before .before .before .args .st) (c .before .before .before .args .buf .now) (c .before .before .before .pre) (unmarked-table (c .before .before .before .args .w .now) (c .before .before .before .args .st) ∙ sym (c .before .all-unmarked .ensures) ∙ not-true _ (c .if1 .taken))
 
 slice-aggregate-write-text : tie.Need-slice-aggregate-write-text
 slice-aggregate-write-text c = search needs
@@ -27,28 +21,31 @@ slice-aggregate-write-text c = search needs
 write-text-requires : tie.Need-write-text-requires
 write-text-requires c κs = (c .before .before .before .before .pre, unmarked-table (c .before .before .before .before .args .w .now) (c .before .before .before .before .args .st) ∙ sym (c .before .before .all-unmarked .ensures) ∙ not-false _ (c .before .if1 .left))
 
-same-length : tie.Need-same-length
-same-length c = search needs
-
 returns-2 : tie.Need-returns-2
-returns-2 c =
-    let k = c .before .before .before .before .before .before .before .before .args in
-    let e = none-put (c .before .before .before .write-text .ensures) in
-    rw e (says-15 (k .w .now) (k .st) (k .buf .now) (c .before .before .before .before .before .before .before .before .pre) (unmarked-table (k .w .now) (k .st) ∙ sym (c .before .before .before .before .before .before .all-unmarked .ensures) ∙ not-false _ (c .before .before .before .before .before .if1 .left))
-    (c .before .before .before .write-text .result) (c .before .before .before .write-text .ensures .place) (rw e at (c .if2 .taken)))
+returns-2 c = says-15 (c .before .before .before .before .before .before .before .args .w .now) (c .before .before .before .before .before .before .before .args .st) (c .before .before .before .before .before .before .before .args .buf .now) (c .before .before .before .before .before .before .before .pre) (unmarked-table (c .before .before .before .before .before .before .before .args .w .now) (c .before .before .before .before .before .before .before .args .st) ∙ sym (c .before .before .before .before .before .all-unmarked .ensures) ∙ not-false _ (c .before .before .before .before .if1 .left)) (c .before .before .write-text .result) (c .before .before .write-text .ensures .place) (c .if2 .taken)
 
 write-text-requires-2 : tie.Need-write-text-requires-2
 write-text-requires-2 c κs = (c .before .before .before .before .before .before .before .before .before .pre, unmarked-table (c .before .before .before .before .before .before .before .before .before .args .w .now) (c .before .before .before .before .before .before .before .before .before .args .st) ∙ sym (c .before .before .before .before .before .before .before .all-unmarked .ensures) ∙ not-false _ (c .before .before .before .before .before .before .if1 .left))
 
+same-length : tie.Need-same-length
+same-length c = search needs
+
+returns-3 : tie.Need-returns-3
+returns-3 c = says-text (c .before .before .before .before .before .before .before .before .before .before .before .before .args .w .now) (c .before .before .before .before .before .before .before .before .before .before .before .before .args .st) (c .before .before .before .before .before .before .before .before .before .before .before .before .args .buf .now) (c .before .before .before .before .before .before .before .before .before .before .before .before .pre) (unmarked-table (c .before .before .before .before .before .before .before .before .before .before .before .before .args .w .now) (c .before .before .before .before .before .before .before .before .before .before .before .before .args .st) ∙ sym (c .before .before .before .before .before .before .before .before .before .before .all-unmarked .ensures) ∙ not-false _ (c .before .before .before .before .before .before .before .before .before .if1 .left)) (c .before .before .before .before .before .before .before .write-text .result) (c .before .before .before .before .before .before .before .write-text .ensures .place) (c .before .before .before .before .before .if2 .left) (omega arith) (c .before .before .write-text2 .ensures)
+
+slice-aggregate-copy-front : tie.Need-slice-aggregate-copy-front
+slice-aggregate-copy-front c = search needs
+
+copy-front-requires : tie.Need-copy-front-requires
+copy-front-requires c κs = search needs
+
 same-length-2 : tie.Need-same-length-2
 same-length-2 c = search needs
 
-returns-3 : tie.Need-returns-3
-returns-3 c =
-    let k = c .before .before .before .before .before .before .before .before .before .before .before .before .args in
-    let e = none-put (c .before .before .before .before .before .before .before .write-text .ensures) in
-    says-text (k .w .now) (k .st) (k .buf .now) (c .before .before .before .before .before .before .before .before .before .before .before .before .pre) (unmarked-table (k .w .now) (k .st) ∙ sym (c .before .before .before .before .before .before .before .before .before .before .all-unmarked .ensures) ∙ not-false _ (c .before .before .before .before .before .before .before .before .before .if1 .left))
-    (c .before .before .before .before .before .before .before .write-text .result) (c .before .before .before .before .before .before .before .write-text .ensures .place) (rw e at (c .before .before .before .before .if2 .left)) (omega arith) (rw e at (c .before .before .write-text2 .ensures))
+returns-4 : tie.Need-returns-4
+returns-4 c =
+    let h = c .before .before .before .before .before .if3 .left in
+    says-copied (c .before .before .before .before .before .before .before .before .before .before .before .before .before .args .w .now) (c .before .before .before .before .before .before .before .before .before .before .before .before .before .args .st) (c .before .before .before .before .before .before .before .before .before .before .before .before .before .args .buf .now) (c .before .before .before .before .before .before .before .before .before .before .before .before .before .pre) (unmarked-table (c .before .before .before .before .before .before .before .before .before .before .before .before .before .args .w .now) (c .before .before .before .before .before .before .before .before .before .before .before .before .before .args .st) ∙ sym (c .before .before .before .before .before .before .before .before .before .before .before .all-unmarked .ensures) ∙ not-false _ (c .before .before .before .before .before .before .before .before .before .before .if1 .left)) (c .before .before .before .before .before .before .before .before .write-text .result) (c .before .before .before .before .before .before .before .before .write-text .ensures .place) (c .before .before .before .before .before .before .if2 .left) (omega arith) (omega arith) (omega arith) (c .before .before .before .before .before .before .before .before .write-text .ensures) (c .before .before .copy-front .ensures)
 
 pub write-valid-spec : {M : Type 1} → statement M
 write-valid-spec =
@@ -56,11 +53,13 @@ write-valid-spec =
     (tie.spec
     all-unmarked-requires
     returns
-    slice-relend-prefix-write-text
     slice-aggregate-write-text
     write-text-requires
-    same-length
     returns-2
     write-text-requires-2
+    same-length
+    returns-3
+    slice-aggregate-copy-front
+    copy-front-requires
     same-length-2
-    returns-3)
+    returns-4)
