@@ -1,7 +1,7 @@
 // Layer 3, calls: the outward calls on a network, each with question 17 first and with no `requires`.
 //
 //   specs/Run      a list of actions and ticks of any content
-//   specs/Examples examples 11 and 12 of document 01
+//   specs/Examples the twelve examples of document 01, by computation
 //   proofs/Demand3 its equality with the grouped run
 //   run            a list of calls one after another
 pub mod run;

@@ -16,7 +16,7 @@ use Rattle.terms.specs.Rules.Action.{single, pair}
 use Rattle.terms.proofs.Names.{and-inv, and-in}
 use Rattle.table.specs.declared.Comp.{Comp}
 use Rattle.table.specs.declared.State.{State}
-use Rattle.table.specs.Meaning.{defsOf, means, compsOf, netOf}
+use Rattle.table.specs.Meaning.{defsOf, means, compsOf, netOf, noComp}
 use Rattle.table.specs.Valid.{scriptOk, compOk, stateOk, valid}
 use Rattle.table.specs.Fire.{Left, ActedAt, labelOf, aloneAt, togetherAt, leftBy, actOn}
 use Rattle.table.proofs.Tests.{every-getD, StateFine, state-fine}
@@ -26,12 +26,10 @@ use Rattle.calls_act.specs.declared.Fired.{Fired}
 use Rattle.calls_act.specs.declared.Met.{Met}
 use Rattle.calls_act.specs.declared.Acted.{Acted}
 use Rattle.calls_act.specs.Fired.{tagOf, oneOf, twoOf}
-use Rattle.calls_act.specs.Acted.{refusal, Took, actsAs, Leaves, leaves, putAt, settledOne, settledTwo, noComp}
+use Rattle.calls_act.specs.Acted.{refusal, Took, actsAs, Leaves, leaves, putAt, settledOne, settledTwo}
+use Rattle.table.proofs.InUse.{comps-length, valid-script, valid-state, comp-held}
 
 -- ── lists ──
-pub mapped : {X Y : Type 0} (f : X → Y) (l : List X) (n : ℕ) → length (map f l) ≡ n → length l ≡ n
-mapped f l n p = sym (length-map l f) ∙ p
-
 pub at-take : {A : Type 0} (xs : List A) (n p : ℕ) (d : A) → p < n → n ≤ length xs → at (take n xs) p ≡ accepted (getD xs p d)
 unfolding at
 at-take xs zero p d h k = absurd (omega arith)
@@ -53,21 +51,17 @@ take-put (x ∷ xs) (suc n) zero y h = refl
 take-put (x ∷ xs) (suc n) (suc p) y h = rw (take-put xs n p y (omega arith))
 
 pub length-comps : (st : State) → length (st .c) ≡ 256 → st .n ≤ 256 → length (compsOf st) ≡ st .n
-unfolding compsOf
-length-comps st e h = simp length-take (omega arith)
+length-comps st e h = comps-length st (omega arith)
 
 -- ── what question 17 gives ──
 pub valid-parts : (w : List ℕ) (st : State) → valid w st ≡ true → (scriptOk w ≡ true) × (StateFine w st)
-unfolding valid
-valid-parts w st e = let a = and-inv (scriptOk w) _ e in (a .0, state-fine w st (a .1))
+valid-parts w st e = (valid-script w st e, valid-state w st e)
 
 pub few-comps : (w : List ℕ) (st : State) → valid w st ≡ true → st .n ≤ 256
 few-comps w st e = valid-parts w st e .1 .few
 
 pub comp-good : (w : List ℕ) (st : State) → valid w st ≡ true → length (st .c) ≡ 256 → (p : ℕ) → p < st .n → compOk w (getD (st .c) p noComp) ≡ true
-comp-good w st e l p h =
-    let f = valid-parts w st e .1 in
-    every-at (compOk w) (compsOf st) p _ (f .each) (unfold compsOf in at-take (st .c) (st .n) p noComp h (omega (arith, f .few)))
+comp-good w st e l = comp-held w st (omega (arith, few-comps w st e)) e
 
 -- ── from the table to the rules ──
 took : (w : List ℕ) (st : State) (a : ActedAt) (r : Acted) → valid w st ≡ true → goodActed w a ≡ true → Leaves st a r → Took w (actedOf w a) r

@@ -77,6 +77,3 @@ settledOne st p f = cond (eqb (f .code) 0) (record { code = 0; label = f .label;
 -- what an output at p and an input at q have become
 abbrev pub settledTwo : State → ℕ → ℕ → Met → Acted
 settledTwo st p q m = cond (eqb (m .code) 0) (record { code = 0; label = m .label; state = putAt (putAt st p (m .sender)) q (m .receiver) }) (refusal (m .code) st)
-
-abbrev pub noComp : Comp
-noComp = record { loc = 0; mark = 0; place = 0; timer = 0; vals = [] }

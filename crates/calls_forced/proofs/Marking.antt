@@ -11,20 +11,12 @@ use lib.Seq.{getD-set-same, getD-set-other}
 use borrow.Author.Tests.{eqb-true, eqb-false, ne-eqb}
 use Rattle.terms.specs.Rules.{some}
 use Rattle.table.specs.declared.Comp.{Comp}
-use Rattle.calls_tick.proofs.Hearing.{some-append, take-more}
+use Rattle.calls_tick.proofs.Hearing.{or-none, some-more}
 use Rattle.calls_forced.specs.Marked.{isMarked, Marked}
-
-or-none : (b : Bool) → (b || false) ≡ b
-or-none true = refl
-or-none false = refl
 
 or-yes : (b : Bool) → (b || true) ≡ true
 or-yes true = refl
 or-yes false = refl
-
-some-more : {A : Type 0} (f : A → Bool) (xs : List A) (j : ℕ) (d : A) → j < length xs → some f (take (j + 1) xs) ≡ (some f (take j xs) || f (getD xs j d))
-unfolding some
-some-more f xs j d h = ap (some f) (take-more xs j d h) ∙ some-append f (take j xs) (getD xs j d ∷ []) ∙ ap (λ b. some f (take j xs) || b) (or-none (f (getD xs j d)))
 
 pub marked-none : (n m : ℕ) (f : Comp → ℕ) → Marked n f [] (replicate m 0)
 unfolding some

@@ -33,7 +33,7 @@ fn ear_of(w: &[u32; 99592], c: Comp) -> usize
     ear_in(c.loc, h)
 }
 
-pub fn ears_in(w: &[u32; 99592], st: State) -> [u32; 4096]
+pub(crate) fn ears_in(w: &[u32; 99592], st: State) -> [u32; 4096]
     requires { ⌜ valid (now w) st ≡ true ⌝ }
     ensures { λ r. ⌜ Marked 4096 (earOf (now (w .entry))) (compsOf st) r ⌝ }
 {

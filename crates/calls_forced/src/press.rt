@@ -45,7 +45,7 @@ fn press_of(w: &[u32; 99592], ears: &[u32; 4096], c: Comp) -> usize
     64
 }
 
-pub fn pressed_in(w: &[u32; 99592], st: State, ears: &[u32; 4096]) -> [u32; 64]
+pub(crate) fn pressed_in(w: &[u32; 99592], st: State, ears: &[u32; 4096]) -> [u32; 64]
     requires { ⌜ valid (now w) st ≡ true ⌝ }
     ensures { λ r. ⌜ Marked 64 (pressOf (now (w .entry)) (now (ears .entry))) (compsOf st) r ⌝ }
 {

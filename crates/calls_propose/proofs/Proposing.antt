@@ -23,12 +23,12 @@ use Rattle.terms.proofs.Numbered.{numbered, bind-numbered, act-numbered, tick-n
 use Rattle.terms.proofs.Steps.{fires-here}
 use Rattle.table.specs.declared.State.{State}
 use Rattle.table.specs.Words.{locsIn, locName}
-use Rattle.table.specs.Meaning.{defsOf, means, compsOf, netOf}
+use Rattle.table.specs.Meaning.{defsOf, means, compsOf, netOf, noComp}
 use Rattle.table.specs.Valid.{valid}
 use Rattle.table.proofs.Tests.{script-fine, comp-fine, held-once}
 use Rattle.table.proofs.Fires.{mapA, at-map}
 use Rattle.calls_act.specs.declared.Acted.{Acted}
-use Rattle.calls_act.specs.Acted.{asked, actionOf, actionRule, noComp, actsAs}
+use Rattle.calls_act.specs.Acted.{asked, actionOf, actionRule, actsAs}
 use Rattle.calls_act.specs.Acted as A
 use Rattle.calls_act.proofs.Positions.{at-take, at-past, valid-parts, few-comps, comp-good}
 use Rattle.calls_tick.specs.declared.Ticked.{Ticked}

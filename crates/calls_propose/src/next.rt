@@ -14,7 +14,7 @@ use table::State;
 use table::words;
 
 // Question 8 of the location.
-pub fn begin(w: &[u32; 99592], st: State, l: u32) -> Ticked
+pub(crate) fn begin(w: &[u32; 99592], st: State, l: u32) -> Ticked
     requires { ⌜ valid (now w) st ≡ true ⌝ }
     ensures { λ r. ⌜ Next (now (w .entry)) l (begun (now (w .entry)) st l) r ⌝ }
 {
@@ -35,7 +35,7 @@ pub fn going(code: u32, i: usize, n: usize) -> bool
 }
 
 // One action, if those before it were accepted: questions 8 to 11, then 16. An action fires where its component at p stands.
-pub fn act_next(w: &[u32; 99592], out: Ticked, l: u32, r: Record) -> Ticked
+pub(crate) fn act_next(w: &[u32; 99592], out: Ticked, l: u32, r: Record) -> Ticked
     requires { ⌜ Held (now w) l out ⌝ }
     ensures { λ x. ⌜ Next (now (w .entry)) l (firedNext (now (w .entry)) l r (soFar (now (w .entry)) out)) x ⌝ }
 {
@@ -60,7 +60,7 @@ pub fn act_next(w: &[u32; 99592], out: Ticked, l: u32, r: Record) -> Ticked
 }
 
 // The tick, if all actions were accepted. A refusal has the state as it was before the first of them.
-pub fn finish(w: &[u32; 99592], st: State, out: Ticked, l: u32) -> Ticked
+pub(crate) fn finish(w: &[u32; 99592], st: State, out: Ticked, l: u32) -> Ticked
     requires { ⌜ Held (now w) l out ⌝ }
     ensures { λ r. ⌜ ticksAs (now (w .entry)) st (tickedLast (now (w .entry)) l (soFar (now (w .entry)) out)) r ⌝ }
 {

@@ -14,10 +14,10 @@ use Rattle.terms.proofs.Mixed.{perm-≈}
 use Rattle.terms.proofs.Same.{reordered-perm}
 use Rattle.table.specs.declared.Comp.{Comp}
 use Rattle.table.specs.declared.State.{State}
-use Rattle.table.specs.Meaning.{means, compsOf, netOf}
+use Rattle.table.specs.Meaning.{means, compsOf, netOf, noComp}
 use Rattle.table.specs.Valid.{compOk, valid}
 use Rattle.table.proofs.Tests.{every-getD}
-use Rattle.text_write.proofs.Networks.{valid-state, comps-length, in-use, comp-at}
+use Rattle.table.proofs.InUse.{valid-state, comps-length, in-use, comp-at, comp-held}
 use Rattle.calls_same.specs.Unused.{unused}
 
 -- ── how many ──
@@ -107,18 +107,9 @@ none-left {A} f us cs = go (unused us cs)
     go (d ∷ ds) e = absurd (omega arith)
 
 -- ── the components of two tables ──
--- what stands past the end of a table's components
-abbrev pub noComp : Comp
-noComp = record { loc = 0; mark = 0; place = 0; timer = 0; vals = [] }
-
 pub net-length : (w : List ℕ) (st : State) → st .n ≤ length (st .c) → length (netOf w st) ≡ st .n
 unfolding netOf
 net-length w st h = length-map (compsOf st) (means w) ∙ comps-length st h
-
-pub comp-held : (w : List ℕ) (st : State) → st .n ≤ length (st .c) → valid w st ≡ true → (k : ℕ) → k < st .n → compOk w (getD (st .c) k noComp) ≡ true
-comp-held w st h v k l =
-    let g = every-getD (compOk w) (compsOf st) noComp k (valid-state w st v .each) (omega (arith, comps-length st h)) in
-    rw (in-use st h noComp k l) at g
 
 -- the unused ones before the position n are not equal to c
 abbrev pub Unequal : List ℕ → Comp → List ℕ → State → List Bool → ℕ → Type 0

@@ -54,7 +54,7 @@ fn same_comp(w: &[u32; 99592], c: Comp, v: &[u32; 99592], d: Comp) -> bool
 }
 
 // The same components in any order, each as often: each of the first in order uses up the first equal one of the second.
-pub fn same_comps(w: &[u32; 99592], a: State, v: &[u32; 99592], b: State) -> bool
+pub(crate) fn same_comps(w: &[u32; 99592], a: State, v: &[u32; 99592], b: State) -> bool
     requires { ⌜ (valid (now w) a ≡ true) × (valid (now v) b ≡ true) ⌝ }
     ensures { λ r. ⌜ r ≡ reordered (netOf (now (w .entry)) a) (netOf (now (v .entry)) b) ⌝ }
 {
@@ -135,7 +135,7 @@ fn def_among(w: &[u32; 99592], d: usize, v: &[u32; 99592]) -> bool
 }
 
 // Is each definition of w among those of v?
-pub fn defs_within(w: &[u32; 99592], v: &[u32; 99592]) -> bool
+pub(crate) fn defs_within(w: &[u32; 99592], v: &[u32; 99592]) -> bool
     requires { ⌜ (scriptOk (now w) ≡ true) × (scriptOk (now v) ≡ true) ⌝ }
     ensures { λ r. ⌜ r ≡ within (defsOf (now (w .entry))) (defsOf (now (v .entry))) ⌝ }
 {

@@ -284,7 +284,7 @@ fn same_inner(
 }
 
 // The processes at i and j, part by part.
-pub fn same_process(
+pub(crate) fn same_process(
     w: &[u32; 99592],
     i: usize,
     vals: &[u32; 8],
@@ -318,7 +318,7 @@ pub fn same_process(
 }
 
 // The parts at i and j with the timers t and u.
-pub fn same_part(
+pub(crate) fn same_part(
     w: &[u32; 99592],
     i: usize,
     t: u32,

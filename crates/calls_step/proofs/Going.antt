@@ -20,13 +20,12 @@ use Rattle.table.specs.declared.State.{State}
 use Rattle.table.specs.declared.Head.{Head}
 use Rattle.table.specs.declared.Head.the-variants.{Stop, Go, Out, In, Call}
 use Rattle.table.specs.Words.{headAt}
-use Rattle.table.specs.Meaning.{compsOf}
+use Rattle.table.specs.Meaning.{compsOf, noComp}
 use Rattle.table.specs.Valid.{scriptOk, compOk, valid}
 use Rattle.table.specs.Fire.{ActedAt, actOn, readyAt, hears}
 use Rattle.table.proofs.Tests.{comp-fine}
 use Rattle.table.proofs.Fires.{every-at, map-append}
 use Rattle.table.proofs.Kept.{okA, goodActed, act-kept}
-use Rattle.calls_act.specs.Acted.{noComp}
 use Rattle.calls_act.proofs.Positions.{at-take, take-put, valid-parts, few-comps, length-comps}
 use Rattle.calls_step.specs.declared.Rec.{Rec}
 use Rattle.calls_step.specs.declared.Visit.{Visit}

@@ -20,13 +20,13 @@ use Rattle.table.specs.Words.{chansIn, headAt}
 use Rattle.table.specs.Valid.{scriptOk, compOk}
 use Rattle.table.specs.Fire.{readyAt, hears}
 use Rattle.table.specs.declared.State.{State}
-use Rattle.table.specs.Meaning.{compsOf}
-use Rattle.calls_act.specs.Acted.{noComp}
+use Rattle.table.specs.Meaning.{compsOf, noComp}
 use Rattle.calls_act.proofs.Positions.{length-comps}
 use Rattle.calls_tick.specs.Heard.{heardOn, hearsAt}
 use Rattle.calls_tick.proofs.Hearing.{ear-fits, inEar, hears-own}
 use Rattle.calls_step.specs.Sweep.{hearers, Chain, Queued}
 use Rattle.calls_step.specs.Visit.{sentOn, sendsAt, link, otherOf, poppedOf}
+use Rattle.table.proofs.InUse.{from-here}
 
 -- ── positions of a chain ──
 abbrev Above : ℕ → List ℕ → Type 0
@@ -179,12 +179,7 @@ popped-some (suc q) nx h = refl
 pub dropped-all : (st : State) → length (st .c) ≡ 256 → st .n ≤ 256 → drop (st .n) (compsOf st) ≡ []
 dropped-all st e h = ap (λ n. drop n (compsOf st)) (sym (length-comps st e h)) ∙ drop-length (compsOf st)
 
--- the components from a position on
-pub from-here : (st : State) (i : ℕ) → i < st .n → st .n ≤ 256 → length (st .c) ≡ 256 → drop i (compsOf st) ≡ getD (st .c) i noComp ∷ drop (suc i) (compsOf st)
-unfolding compsOf
-from-here st i h n e = drop-cons (take (st .n) (st .c)) i noComp (simp length-take (omega arith)) ∙ ap (λ c. c ∷ drop (suc i) (take (st .n) (st .c))) (getD-take (st .n) (st .c) i noComp h)
-
 pub queue-turn : (w : List ℕ) (l : ℕ) (st : State) (i : ℕ) (heads nexts : List ℕ) → scriptOk w ≡ true → compOk w (getD (st .c) i noComp) ≡ true → i < st .n → st .n ≤ 256 → length (st .c) ≡ 256
     → Queued w l (suc i) (drop (suc i) (compsOf st)) heads nexts
     → Queued w l i (drop i (compsOf st)) (set heads (hearsAt w l (getD (st .c) i noComp)) (link (hearsAt w l (getD (st .c) i noComp)) i)) (set nexts i (getD heads (hearsAt w l (getD (st .c) i noComp)) 0))
-queue-turn w l st i heads nexts e f h n s q = rw (from-here st i h n s) (queue-more w l i (getD (st .c) i noComp) (drop (suc i) (compsOf st)) heads nexts (hears-fits w l (getD (st .c) i noComp) e f) (omega arith) q)
+queue-turn w l st i heads nexts e f h n s q = rw (from-here st (omega arith) noComp i h) (queue-more w l i (getD (st .c) i noComp) (drop (suc i) (compsOf st)) heads nexts (hears-fits w l (getD (st .c) i noComp) e f) (omega arith) q)

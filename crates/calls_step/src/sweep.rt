@@ -141,7 +141,7 @@ fn rec_by(k: u32, p: usize, q: usize) -> Rec
 }
 
 // The chains are made and the positions gone through in one function, since a state that goes into a function is copied.
-pub fn sweep(w: &[u32; 99592], st: State, l: u32) -> Swept
+pub(crate) fn sweep(w: &[u32; 99592], st: State, l: u32) -> Swept
     requires { ⌜ valid (now w) st ≡ true ⌝ }
     ensures { λ r. ⌜ SweepsAs (now (w .entry)) l st r ⌝ }
 {

@@ -18,13 +18,12 @@ use Rattle.table.specs.declared.State.{State}
 use Rattle.table.specs.declared.Head.{Head}
 use Rattle.table.specs.declared.Head.the-variants.{Stop, Go, Out, In, Call}
 use Rattle.table.specs.Words.{chansIn, headAt}
-use Rattle.table.specs.Meaning.{compsOf}
+use Rattle.table.specs.Meaning.{compsOf, noComp}
 use Rattle.table.specs.Valid.{headOk, scriptOk, compOk, valid}
 use Rattle.table.specs.Fire.{readyAt, hears, pressesAt, forcedAt}
 use Rattle.table.proofs.Tests.{script-fine, part-fine, comp-fine}
 use Rattle.table.proofs.Places.{out-fine, in-fine}
 use Rattle.calls_act.proofs.Positions.{at-take, valid-parts}
-use Rattle.calls_act.specs.Acted.{noComp}
 use Rattle.calls_tick.specs.Heard.{heardOn, hearsAt, Heard, pressesBy, pressedBy}
 
 -- ── lists ──
@@ -37,7 +36,7 @@ some-append f (x ∷ xs) ys = go (f x) (some-append f xs ys)
     go true h = refl
     go false h = h
 
-or-none : (b : Bool) → (b || false) ≡ b
+pub or-none : (b : Bool) → (b || false) ≡ b
 or-none true = refl
 or-none false = refl
 
@@ -45,7 +44,7 @@ or-none false = refl
 pub take-more : {A : Type 0} (xs : List A) (j : ℕ) (d : A) → j < length xs → take (j + 1) xs ≡ take j xs ++ (getD xs j d ∷ [])
 take-more xs j d h = ap (λ k. take k xs) (add-one j) ∙ take-suc xs j d h
 
-some-more : {A : Type 0} (f : A → Bool) (xs : List A) (j : ℕ) (d : A) → j < length xs → some f (take (j + 1) xs) ≡ (some f (take j xs) || f (getD xs j d))
+pub some-more : {A : Type 0} (f : A → Bool) (xs : List A) (j : ℕ) (d : A) → j < length xs → some f (take (j + 1) xs) ≡ (some f (take j xs) || f (getD xs j d))
 unfolding some
 some-more f xs j d h = ap (some f) (take-more xs j d h) ∙ some-append f (take j xs) (getD xs j d ∷ []) ∙ ap (λ b. some f (take j xs) || b) (or-none (f (getD xs j d)))
 

@@ -11,17 +11,17 @@ use lib.Seq.{take-suc-set, drop-cons, drop-drop, getD-take, drop-length}
 use Rattle.table.specs.declared.Comp.{Comp}
 use Rattle.table.specs.declared.State.{State}
 use Rattle.table.specs.Words.{partsIn}
-use Rattle.table.specs.Meaning.{compsOf}
+use Rattle.table.specs.Meaning.{compsOf, noComp}
 use Rattle.table.specs.Valid.{scriptOk, compOk, valid}
 use Rattle.table.specs.Fire.{passedAll}
 use Rattle.table.proofs.Tests.{script-fine}
-use Rattle.calls_act.specs.Acted.{noComp}
 use Rattle.calls_act.proofs.Positions.{valid-parts, few-comps, comp-good, length-comps}
 use Rattle.calls_tick.specs.declared.Turn.{Turn}
 use Rattle.calls_tick.specs.declared.Passed.{Passed}
 use Rattle.calls_tick.specs.Turn.{stepOf, turnOf, remaining}
 use Rattle.calls_tick.specs.Ticked.{passes}
 use Rattle.calls_tick.proofs.Turns.{turn-next, remaining-begin, remaining-turn, remaining-some}
+use Rattle.table.proofs.InUse.{from-here}
 
 -- k components are written to out, i are done with, and of the next one the parts from next on are left
 pub record Passing (w : List ℕ) (l : ℕ) (st out : State) (k i next : ℕ) : Type 0 where
@@ -33,10 +33,6 @@ pub record Passing (w : List ℕ) (l : ℕ) (st out : State) (k i next : ℕ) : 
 
 pub passing-begin : (w : List ℕ) (l : ℕ) (st : State) → length (st .c) ≡ 256 → Passing w l st st 0 0 0
 passing-begin w l st e = record { few-k = omega arith; few-i = omega arith; size = e; part = omega arith; holds = remaining-begin w l (compsOf st) }
-
-drop-comps : (st : State) (i : ℕ) → i < st .n → st .n ≤ 256 → length (st .c) ≡ 256 → drop i (compsOf st) ≡ getD (st .c) i noComp ∷ drop (suc i) (compsOf st)
-unfolding compsOf
-drop-comps st i h n e = drop-cons (take (st .n) (st .c)) i noComp (simp length-take (omega arith)) ∙ ap (λ c. c ∷ drop (suc i) (take (st .n) (st .c))) (getD-take (st .n) (st .c) i noComp h)
 
 module _ (w : List ℕ) (l : ℕ) (st out : State) (k i next : ℕ) (v : valid w st ≡ true) (len : length (st .c) ≡ 256) (p : Passing w l st out k i next) (h : i < st .n) where
   fine : compOk w (getD (st .c) i noComp) ≡ true
@@ -73,11 +69,11 @@ module _ (w : List ℕ) (l : ℕ) (st out : State) (k i next : ℕ) (v : valid w
   }
     where
       dropped : drop (i + t .step) (compsOf st) ≡ drop (stepOf (t .next)) (getD (st .c) i noComp ∷ drop (suc i) (compsOf st))
-      dropped = ap (λ z. drop (i + z) (compsOf st)) (turn-range .1) ∙ sym (drop-drop (stepOf (t .next)) i (compsOf st)) ∙ ap (drop (stepOf (t .next))) (drop-comps st i h (few-comps w st v) len)
+      dropped = ap (λ z. drop (i + z) (compsOf st)) (turn-range .1) ∙ sym (drop-drop (stepOf (t .next)) i (compsOf st)) ∙ ap (drop (stepOf (t .next))) (from-here st (omega (arith, few-comps w st v)) noComp i h)
 
       left-over : remaining w l (drop i (compsOf st)) next ≡ t .comp ∷ remaining w l (drop (i + t .step) (compsOf st)) (t .next)
       left-over =
-          ap (λ z. remaining w l z next) (drop-comps st i h (few-comps w st v) len)
+          ap (λ z. remaining w l z next) (from-here st (omega (arith, few-comps w st v)) noComp i h)
           ∙ remaining-turn w good l (getD (st .c) i noComp) (drop (suc i) (compsOf st)) next i fine (p .part)
           ∙ ap (λ z. t .comp ∷ remaining w l z (t .next)) (sym dropped)
 
@@ -115,7 +111,7 @@ turn-less w l st out k i next v len p h =
 pub passing-full : (w : List ℕ) (l : ℕ) (st out : State) (k i next : ℕ) → valid w st ≡ true → length (st .c) ≡ 256 → Passing w l st out k i next → i < st .n → 256 ≤ k → 256 < length (passedAll w l (compsOf st))
 passing-full w l st out k i next v len p h b =
     let e = ap length (sym (p .holds)) ∙ length-append (take k (out .c)) _ in
-    let d = ap (λ z. length (remaining w l z next)) (drop-comps st i h (few-comps w st v) len) in
+    let d = ap (λ z. length (remaining w l z next)) (from-here st (omega (arith, few-comps w st v)) noComp i h) in
     omega (arith, e, d, remaining-some w l (getD (st .c) i noComp) (drop (suc i) (compsOf st)) next, length-take k (out .c), p .size, p .few-k)
 
 pub passing-done : (w : List ℕ) (l : ℕ) (st out : State) (k i next : ℕ) → length (st .c) ≡ 256 → st .n ≤ 256 → Passing w l st out k i next → st .n ≤ i

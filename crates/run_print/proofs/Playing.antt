@@ -25,11 +25,10 @@ use Rattle.text.specs.Questions.{ask, _>>_, short, whole, form, shallow, fits, 
 use Rattle.text.specs.Write.{write}
 use Rattle.table.specs.declared.State.{State}
 use Rattle.table.specs.Words.{locsIn, locName}
-use Rattle.table.specs.Meaning.{listFrom, defsOf, compsOf, netOf, networkOf as tableNetwork}
+use Rattle.table.specs.Meaning.{listFrom, defsOf, compsOf, netOf, networkOf as tableNetwork, noComp}
 use Rattle.table.specs.Valid.{compOk, stateOk, valid}
 use Rattle.table.proofs.Tests.{length-listFrom, getD-listFrom, script-fine, comp-fine}
 use Rattle.text_build.specs.Rows.{locsOf}
-use Rattle.calls_act.specs.Acted.{noComp}
 use Rattle.calls_act.proofs.Positions.{valid-parts, comp-good}
 use Rattle.calls_act.specs.Acted.{asked}
 use Rattle.calls_tick.specs.Ticked.{room}

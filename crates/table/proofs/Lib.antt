@@ -1,5 +1,6 @@
 pub mod Scopes
 pub mod Tests
+pub mod InUse
 pub mod Places
 pub mod Size
 pub mod Splits

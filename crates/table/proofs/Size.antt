@@ -15,22 +15,10 @@ use Rattle.table.specs.declared.Head.{Head}
 use Rattle.table.specs.declared.Head.the-variants.{Stop, Go, Out, In, Call}
 use Rattle.table.specs.Words.{partsIn, headAt, nextAt, lowAt, boundAt, namesAt}
 use Rattle.table.specs.Meaning.{partOf, joined, processAt, partAt}
+use Rattle.table.specs.Size.{size, sizeP}
 use Rattle.table.specs.Valid.{headOk, nextOk, stacked, floor, lowOk, treeOk, scriptOk}
 use Rattle.table.proofs.Tests.{inner, PartFine, part-fine}
 use Rattle.table.proofs.Places.{go-fine, out-fine, in-fine, process-is}
-
--- how many parts
-unfoldable mutual
-  pub size : Part → ℕ
-  size stop = 1
-  size (go t v p) = suc (sizeP p)
-  size (out c t v p q) = suc (sizeP p + sizeP q)
-  size (inp c t y p q) = suc (sizeP p + sizeP q)
-  size (call i vs) = 1
-
-  pub sizeP : Process → ℕ
-  sizeP (one a) = size a
-  sizeP (a ∥ p) = size a + sizeP p
 
 module _ (w : List ℕ) where
   abbrev P : ℕ → Process

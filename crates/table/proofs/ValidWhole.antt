@@ -7,7 +7,6 @@ use mathlib.Core.Bool.{Bool, true, false, _&&_, _||_}
 use mathlib.Core.Path.{_≡_, refl, ap, sym, _∙_}
 use lib.Dec.{eqb, leb, ltb}
 use lib.ListN.{length, getD, length-map}
-use lib.Seq.{length-take-le, getD-take}
 use borrow.Author.Tests.{leb-true, eq-eqb}
 use Rattle.terms.specs.Letters.{isName, isLocation, isSmall, isIdentifier}
 use Rattle.terms.specs.Same.{every}
@@ -17,10 +16,11 @@ use Rattle.table.specs.declared.State.{State}
 use Rattle.table.specs.declared.Sort.{Sort}
 use Rattle.table.specs.declared.Sort.the-variants.{Location, Small, Identifier}
 use Rattle.table.specs.Words.{partsIn, locsIn, chansIn, defsIn, locName, chanName, defName}
-use Rattle.table.specs.Meaning.{listFrom, compsOf}
+use Rattle.table.specs.Meaning.{listFrom, compsOf, noComp}
 use Rattle.table.specs.Valid.{distinct, timerOk, sortOk, markOk, compOk}
 use Rattle.table.specs.Tests.{firstOf, rowName, countsOk}
 use Rattle.table.proofs.ValidLists.{every-all, every-miss}
+use Rattle.table.proofs.InUse.{comps-length, in-use}
 
 -- ── counts ──
 pub record Counts (w : List ℕ) : Type 0 where
@@ -60,27 +60,18 @@ module _ (w : List ℕ) (n : ℕ) where
   identifiers-are = refl
 
 -- ── components ──
--- a component that stands past the end, which no code reads
-abbrev pub noComp : Comp
-noComp = record { loc = 0; mark = 0; place = 0; timer = 0; vals = [] }
-
 pub mapped : {X Y : Type 0} (f : X → Y) (l : List X) (n : ℕ) → length (map f l) ≡ n → length l ≡ n
 mapped f l n p = sym (length-map l f) ∙ p
 
 module _ (st : State) (f : Comp → Bool) (h : st .n ≤ 256) (l : length (st .c) ≡ 256) where
-  comps-length : length (compsOf st) ≡ st .n
-  unfolding compsOf
-  comps-length = length-take-le (st .n) (st .c) (omega arith)
-
-  comp-at : (k : ℕ) → k < st .n → getD (compsOf st) k noComp ≡ getD (st .c) k noComp
-  unfolding compsOf
-  comp-at k b = getD-take (st .n) (st .c) k noComp b
+  held : st .n ≤ length (st .c)
+  held = omega arith
 
   pub comps-all : ((k : ℕ) → k < st .n → f (getD (st .c) k noComp) ≡ true) → every f (compsOf st) ≡ true
-  comps-all e = every-all f noComp (compsOf st) (λ k b. let c : k < st .n = omega (arith, comps-length) in ap f (comp-at k c) ∙ e k c)
+  comps-all e = every-all f noComp (compsOf st) (λ k b. let c : k < st .n = omega (arith, comps-length st held) in ap f (in-use st held noComp k c) ∙ e k c)
 
   pub comps-miss : (k : ℕ) → k < st .n → f (getD (st .c) k noComp) ≡ false → every f (compsOf st) ≡ false
-  comps-miss k b e = every-miss f noComp (compsOf st) k (omega (arith, comps-length)) (ap f (comp-at k b) ∙ e)
+  comps-miss k b e = every-miss f noComp (compsOf st) k (omega (arith, comps-length st held)) (ap f (in-use st held noComp k b) ∙ e)
 
 pub comp-is : (w : List ℕ) (x : Comp) → ltb (x .loc) (locsIn w) ≡ true → (eqb (x .mark) 64 || ltb (x .mark) (locsIn w)) ≡ true
     → ltb (x .place) (partsIn w) ≡ true

@@ -1,5 +1,6 @@
 pub mod Words
 pub mod Meaning
+pub mod Size
 pub mod Valid
 pub mod Tests
 pub mod Split

@@ -91,6 +91,10 @@ processOf w c =
 unfoldable pub means : List ℕ → Comp → Component
 means w c = comp (locName w (c .loc)) (markOf w (c .mark)) (processOf w c)
 
+-- what a list of components gives past its end: no call reads there
+abbrev pub noComp : Comp
+noComp = record { loc = 0; mark = 0; place = 0; timer = 0; vals = [] }
+
 -- the components in use
 unfoldable pub compsOf : State → List Comp
 compsOf st = take (st .n) (st .c)

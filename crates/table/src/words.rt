@@ -80,7 +80,7 @@ pub fn next_at(w: &[u32; 99592], i: usize) -> u32
     field(w, i, 6)
 }
 
-pub fn low_at(w: &[u32; 99592], i: usize) -> u32
+pub(crate) fn low_at(w: &[u32; 99592], i: usize) -> u32
     requires { ⌜ i < 4096 ⌝ }
     ensures { λ r. ⌜ r ≡ lowAt (now (w .entry)) i ⌝ }
 {

@@ -8,10 +8,7 @@ use borrow.Author.Tests.{le-leb, lt-leb, ne-eqb, leb-true, eqb-true, eqb-false}
 use lib.Dec.{leb, eqb}
 use Rattle.text.specs.Characters.{Class, classOf, within, isDigit, isBlank, alnum, isAlnum}
 use Rattle.text.specs.Characters.Class.{capital, small, digit, bracket, blank, other}
-
-pub and-inv : (a b : Bool) → (a && b) ≡ true → (a ≡ true) × (b ≡ true)
-and-inv true b e = (refl, e)
-and-inv false b e = absurd (false≢true e)
+use Rattle.terms.proofs.Names.{and-inv}
 
 -- ── a number in or out of a range ──
 pub inside : (lo hi x : ℕ) → lo ≤ x → x ≤ hi → within lo hi x ≡ true

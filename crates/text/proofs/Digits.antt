@@ -12,7 +12,8 @@ use Rattle.terms.specs.Same.{every}
 use Rattle.text.specs.Characters.{classOf, Class, within, isDigit, isAlnum}
 use Rattle.text.specs.Characters.Class.{capital, small, digit, bracket, blank, other}
 use Rattle.text.specs.Tokens.{numberFrom, number, plain, isTicks, digitsOf, digits, lastDigit}
-use Rattle.text.proofs.Classes.{and-inv, digit-class, digit-bounds}
+use Rattle.terms.proofs.Names.{and-inv}
+use Rattle.text.proofs.Classes.{digit-class, digit-bounds}
 
 pub every-append : {A : Type 0} (p : A → Bool) (w v : List A) → every p w ≡ true → every p v ≡ true → every p (w ++ v) ≡ true
 unfolding every
@@ -89,7 +90,7 @@ digits-not-inf n = go (digits-lead n)
     go (leads {b} g l p) = rw (ne-eqb b 105 (λ e. omega arith))
 
 -- ── numbers: the digits of a number that is read are what was read ──
-enough : (f g n : ℕ) → n ≤ f → n ≤ g → digitsOf f n ≡ digitsOf g n
+pub enough : (f g n : ℕ) → n ≤ f → n ≤ g → digitsOf f n ≡ digitsOf g n
 unfolding digitsOf
 enough zero zero n h k = refl
 enough zero (suc g) n h k = rw (lt-ltb n 10 (omega arith))
@@ -120,7 +121,7 @@ digits-after n (b ∷ w) h e =
     let s : 48 + (b - 48) ≡ b = omega arith in
     digits-after (10 * n + (b - 48)) w (omega arith) (a .1) ∙ ap (λ x. x ++ w) (digits-snoc n (b - 48) h (omega arith) ∙ ap (λ x. digits n ++ (x ∷ [])) s) ∙ append-assoc (digits n) (b ∷ []) w
 
-digits-one : (n : ℕ) → n < 10 → digits n ≡ (48 + n) ∷ []
+pub digits-one : (n : ℕ) → n < 10 → digits n ≡ (48 + n) ∷ []
 unfolding digitsOf
 digits-one zero h = refl
 digits-one (suc n) h = rw (lt-ltb (suc n) 10 h)

@@ -28,7 +28,7 @@ use Rattle.text.specs.Grammar.Head.{stops, goes, sends, receives, calls,
 use Rattle.text.specs.Write.{Printer, nameT, timerT, valueT, joinedT, listT, partT, processT, defT, locatedT, networkT, textT, tokens}
 use Rattle.text.specs.WellFormed.{Is, WellTimer, WellValue, Each, WellPart, WellProcess, WellDef, WellLocated, NonEmpty, WellTree}
 use Rattle.text.specs.Questions.{form, whole}
-use Rattle.text.proofs.Classes.{and-inv}
+use Rattle.terms.proofs.Names.{and-inv}
 use Rattle.text.proofs.Digits.{ticks-exact}
 use Rattle.text.proofs.ReadBack.{tokens-back}
 
@@ -40,7 +40,7 @@ pub record Took {A : Type 0} (W : A → Type 0) (pr : Printer A) (ts : List Toke
 abbrev pub Exact : {A : Type 0} → (A → Type 0) → Reader A → Printer A → Type 0
 Exact {A} W r pr = (ts : List Token) (a : A) (us : List Token) → r ts ≡ ok a us → Took W pr ts a us
 
-clash : {A : Type 0} {B : Type 0} {a : A} {us : List Token} → bad ≡ ok a us → B
+pub clash : {A : Type 0} {B : Type 0} {a : A} {us : List Token} → bad ≡ ok a us → B
 clash e = let z : _≡_ {A = ℕ} 0 1 = cc in absurd (omega arith)
 
 -- a reader, then another: what was read is a variable from there on, and no `let` grows

@@ -27,7 +27,7 @@ use Rattle.text.specs.Grammar.Rest.{ok, bad}
 use Rattle.text.specs.Grammar.Head.{stops, goes, sends, receives, calls, nothing}
 use Rattle.text.specs.Write.{Printer, nameT, timerT, valueT, joinedT, listT, partT, processT, defT, locatedT, networkT, textT, tokens}
 use Rattle.text.specs.WellFormed.{Is, WellTimer, WellValue, Each, WellPart, WellProcess, WellDef, WellLocated, NonEmpty, WellTree}
-use Rattle.text.proofs.Classes.{and-inv}
+use Rattle.terms.proofs.Names.{and-inv}
 use Rattle.text.proofs.Digits.{digits-ticks, digits-number, digits-not-inf}
 
 eqb-same : (n : ℕ) → eqb n n ≡ true

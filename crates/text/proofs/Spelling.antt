@@ -23,7 +23,7 @@ use Rattle.text.specs.Tree.{Located, Tree}
 use Rattle.text.specs.Tree.Located.{at}
 use Rattle.text.specs.Write.{Printer, nameT, timerT, valueT, joinedT, listT, partT, processT, defT, locatedT, networkT, textT, tokens, spell, spelled}
 use Rattle.text.specs.WellFormed.{Is, WellTimer, WellValue, Each, WellPart, WellProcess, WellDef, WellLocated, NonEmpty, WellTree}
-use Rattle.text.proofs.Classes.{and-inv}
+use Rattle.terms.proofs.Names.{and-inv}
 use Rattle.text.proofs.Digits.{every-map, digits-digit, digits-lead, Leads, leads}
 
 -- ── words ──

@@ -30,7 +30,8 @@ use Rattle.table.proofs.Fires.{scope-length, names-length}
 use Rattle.text_build.proofs.Forms.{small-same}
 use Rattle.text_tree.proofs.Once.{differ-same}
 use Rattle.text_write.specs.Answer.{noMark}
-use Rattle.text_write.proofs.Networks.{valid-script, valid-state, unmarked-table, comps-length}
+use Rattle.table.proofs.InUse.{valid-script, valid-state, comps-length}
+use Rattle.text_write.proofs.Networks.{unmarked-table}
 use Rattle.text_back.proofs.Scope.{Covers, covers-none, covers-all, each-with, each-both, each-every, loc-form, loc-forms}
 use Rattle.text_back.proofs.Process.{FinePart, FineProcess, fine-one, fine-timer, timer-well, def-form, process-fits, part-at-fits}
 

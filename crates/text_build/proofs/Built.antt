@@ -10,7 +10,7 @@ use Rattle.text.specs.WellFormed.{WellProcess}
 use Rattle.table.specs.Words.{word}
 use Rattle.table.specs.Meaning.{processAt}
 use Rattle.table.specs.Valid.{partOk}
-use Rattle.table.proofs.Size.{sizeP}
+use Rattle.table.specs.Size.{sizeP}
 use Rattle.text_build.specs.declared.Scope.{Scope}
 use Rattle.text_build.specs.Rows.{scopeNames, placeKnown}
 use Rattle.text_build.specs.Growth.{Making}

@@ -13,7 +13,7 @@ use Rattle.terms.specs.Terms.Process.{one, _∥_}
 use Rattle.text.specs.WellFormed.{WellPart, WellProcess}
 use Rattle.text.specs.Questions.{Place, into, firsts, locOf, valuesOf, locationsAt, channelsAt, partPlaces, processPlaces}
 use Rattle.table.specs.Words.{word}
-use Rattle.table.proofs.Size.{size, sizeP}
+use Rattle.table.specs.Size.{size, sizeP}
 use Rattle.text_build.specs.declared.Scope.{Scope}
 use Rattle.text_build.specs.Rows.{locsOf, chansOf, firstPlace, secondPlace}
 use Rattle.text_build.specs.Growth.{Making}

@@ -18,7 +18,7 @@ use Rattle.text.specs.Questions.{Place, into, partPlaces, processPlaces}
 use Rattle.table.specs.declared.Head.{Head}
 use Rattle.table.specs.Words.{word, field, nameAt, headAt, nextAt, lowAt, ownAt, boundAt, scopeAt}
 use Rattle.table.specs.Valid.{index}
-use Rattle.table.proofs.Size.{size, sizeP}
+use Rattle.table.specs.Size.{size, sizeP}
 use Rattle.table.proofs.Fires.{map-append}
 use Rattle.text_build.specs.Rows.{Row, Below, Stands, locsOf, chansOf, idsOf, scopeNames, timerWord, valueWord, argWord, headOf, firstPlace, secondPlace, entering, chanKnown}
 use Rattle.text_build.specs.Growth.{locListed, valueListed, partListed, placeListed, Grown, SameRows}

@@ -20,7 +20,7 @@ use Rattle.table.specs.declared.Head.{Head}
 use Rattle.table.specs.Words.{locsIn, chansIn, defsIn, arityOf, field, headAt, nextAt, lowAt, ownAt, boundAt, scopeAt, namesAt}
 use Rattle.table.specs.Valid.{alike, index, timerOk, refOk, innerOk, entered, headOk, nextOk, scopeOk, stacked, floor, lowOk, treeOk, partOk}
 use Rattle.table.proofs.Tests.{every-append}
-use Rattle.table.proofs.Size.{size, sizeP}
+use Rattle.table.specs.Size.{size, sizeP}
 use Rattle.text_build.specs.Rows.{Row, Below, Stands, idsOf, scopeNames, headOf, firstPlace, secondPlace, entering, valueKnown, chanKnown, callKnown, partKnown, placeKnown}
 use Rattle.text_build.proofs.Numbers.{timer-ok, value-ok, args-ok, args-in, names-entered}
 use Rattle.text_build.proofs.Places.{PartFit, Fit, size-some, sizeP-some, fit-go, fit-out, fit-in, fit-par}

@@ -22,7 +22,7 @@ use Rattle.text.specs.Questions.{Place, into, partPlaces, processPlaces}
 use Rattle.table.specs.Words.{word, field, nameAt, ownAt, boundAt}
 use Rattle.table.specs.Valid.{index}
 use Rattle.table.proofs.Tests.{every-append}
-use Rattle.table.proofs.Size.{size, sizeP}
+use Rattle.table.specs.Size.{size, sizeP}
 use Rattle.text_build.specs.declared.Scope.{Scope}
 use Rattle.text_build.specs.Rows.{Row, Below, Stands, scopeNames, headOf, firstPlace, secondPlace, entering, chanKnown}
 use Rattle.text_build.specs.Growth.{valueListed, partListed, placeListed, Grown, Frame, Making}

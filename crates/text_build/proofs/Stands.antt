@@ -19,7 +19,7 @@ use Rattle.table.specs.declared.Head.{Head}
 use Rattle.table.specs.Valid.{index}
 use Rattle.table.specs.Words.{locsIn, chansIn, defsIn, arityOf, headAt, nextAt, boundAt, scopeAt, namesAt}
 use Rattle.table.specs.Meaning.{valuesOf, partOf, joined, deep, processAt, partAt}
-use Rattle.table.proofs.Size.{size, sizeP}
+use Rattle.table.specs.Size.{size, sizeP}
 use Rattle.text_build.specs.Rows.{Row, Below, idsOf, Stands, scopeNames, headOf, firstPlace, secondPlace, entering, valueKnown, chanKnown, callKnown, partKnown, placeKnown}
 use Rattle.text_build.proofs.Places.{PartFit, Fit, size-some, sizeP-some, fit-first, fit-go, fit-out, fit-in, fit-par}
 use Rattle.text_build.proofs.Numbers.{chan-number, id-number, timer-is, value-is, args-are, args-in, names-entered}

@@ -22,7 +22,7 @@ use Rattle.table.specs.declared.Head.the-variants.{Stop, Go, Out, In, Call}
 use Rattle.table.specs.Words.{locsIn, chansIn, defsIn, nameAt, locName, chanName, defName, arityOf, field, headAt, nextAt, lowAt, ownAt, boundAt, scopeAt}
 use Rattle.table.specs.Meaning.{listFrom}
 use Rattle.table.specs.Valid.{index}
-use Rattle.table.proofs.Size.{size, sizeP}
+use Rattle.table.specs.Size.{size, sizeP}
 
 -- ── the names that a script holds, by number ──
 unfoldable pub locsOf : List ℕ → List Name

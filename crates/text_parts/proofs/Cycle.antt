@@ -18,7 +18,8 @@ use Rattle.text_parts.specs.Counting.{partCounts, processCounts, closeFo
 use Rattle.text_parts.specs.Answers.{countOf, sized, joinedUpTo, joinedSize, after, closedSize}
 use Rattle.text_parts.specs.declared.Size.{Size}
 use Rattle.text_parts.proofs.Stops.{sum-on, max-on}
-use Rattle.text_parts.proofs.Rests.{clash, mapped-mapped, ended-not, ended-is, ended-zero}
+use Rattle.text.proofs.Exact.{clash}
+use Rattle.text_parts.proofs.Rests.{mapped-mapped, ended-not, ended-is, ended-zero}
 use Rattle.text_parts.proofs.Fields.{opening-less}
 use Rattle.text_parts.proofs.Gathering as gathering
 use Rattle.text_parts.proofs.Processes.{part-counts, process-counts, part-counts-less, process-counts-less}

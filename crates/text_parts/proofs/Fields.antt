@@ -22,7 +22,8 @@ use Rattle.text_parts.specs.Openings.{Opening, leaf, single, double, ope
 use Rattle.text_parts.specs.Counting.{namesForm, namesCount, listCount}
 use Rattle.text_parts.specs.Answers.{listed}
 use Rattle.text_parts.specs.declared.Names.{Names}
-use Rattle.text_parts.proofs.Rests.{clash, mapped-same, mapped-bind, mapped-after, mapped-give, bind-same, mapped-less, next-yes, next-no, ended-is, ended-zero}
+use Rattle.text.proofs.Exact.{clash}
+use Rattle.text_parts.proofs.Rests.{mapped-same, mapped-bind, mapped-after, mapped-give, bind-same, mapped-less, next-yes, next-no, ended-is, ended-zero}
 
 -- ── a timer, a value: a word that passes a test ──
 timer-field : (ts : List Token) → skim aTimer ts ≡ skim (named isTimer) ts

@@ -15,9 +15,7 @@ use Rattle.text.specs.Grammar.Rest.{ok, bad}
 use Rattle.text.proofs.Unbounded.{Less}
 use Rattle.text_words.specs.Bytes.{ended, mapped, skim}
 use Rattle.text_words.proofs.Positions.{ended-at, ended-bad}
-
-pub clash : {A B : Type 0} {a : A} {us : List Token} → bad ≡ ok a us → B
-clash e = let z : _≡_ {A = ℕ} 0 1 = cc in absurd (omega arith)
+use Rattle.text.proofs.Exact.{clash}
 
 -- ── changing what was read ──
 pub mapped-mapped : {A B C : Type 0} (f : B → C) (g : A → B) (x : Rest A) → mapped f (mapped g x) ≡ mapped (λ a. f (g a)) x

@@ -26,7 +26,8 @@ use Rattle.text.proofs.Digits.{digits-number, digits-not-inf}
 use Rattle.text_words.specs.Bytes.{afterBlanks, Run, ended}
 use Rattle.text_words.proofs.Positions.{word-is, word-none}
 use Rattle.text_build.specs.Rows.{timerWord}
-use Rattle.text_parts.proofs.Rests.{clash, next-yes, next-no, ended-is, ended-zero}
+use Rattle.text.proofs.Exact.{clash}
+use Rattle.text_parts.proofs.Rests.{next-yes, next-no, ended-is, ended-zero}
 
 -- ── signs ──
 pub the-sign : (c : ℕ) (us : List Token) → the c (sign c ∷ us) ≡ ok tt us

@@ -22,7 +22,7 @@ use Rattle.text.proofs.ReadBack.{timer-longer, value-longer, part-longer, proce
 use Rattle.text_words.specs.Bytes.{ended}
 use Rattle.text_words.proofs.Positions.{bytes-fall}
 use Rattle.table.specs.Words.{ownAt}
-use Rattle.table.proofs.Size.{size, sizeP}
+use Rattle.table.specs.Size.{size, sizeP}
 use Rattle.text_build.specs.declared.Scope.{Scope}
 use Rattle.text_build.specs.Rows.{firstPlace, secondPlace}
 use Rattle.text_build.specs.Put.{slotOf, opened, setSecond, linked, innerScope, scopeMark, putPart, put}

@@ -15,7 +15,7 @@ use Rattle.text.specs.WellFormed.{WellPart, WellProcess}
 use Rattle.text_words.specs.declared.Sort.{Sort}
 use Rattle.text_words.specs.Sorts.{sortOf}
 use Rattle.table.specs.declared.Key.{Key}
-use Rattle.table.proofs.Size.{size, sizeP}
+use Rattle.table.specs.Size.{size, sizeP}
 use Rattle.text_build.specs.declared.Scope.{Scope}
 use Rattle.text_build.specs.Keys.{keyOf}
 use Rattle.text_build.specs.Put.{opened, innerScope, scopeMark, putPart, put}

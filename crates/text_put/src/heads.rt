@@ -225,7 +225,7 @@ fn open_by(
 }
 
 // A part up to its first process.
-pub fn open_part(s: &[u8], at: usize, w: &mut [u32; 99592], i: usize, sc: Scope) -> Open
+pub(crate) fn open_part(s: &[u8], at: usize, w: &mut [u32; 99592], i: usize, sc: Scope) -> Open
     requires { ⌜ (i < 4096) × (sc .n ≤ 8) × PartAt (now s) at ⌝ }
     ensures { λ r. ⌜ ((x : PartAt (now (s .entry)) at) → OpenIs (now (s .entry)) (now (w .entry)) (now (w .exit)) i sc r (x .what) (x .left)) ⌝ }
 {

@@ -31,7 +31,7 @@ pub fn slot(w: &[u32; 99592], sc: Scope, k: Key) -> usize
 }
 
 // The number of the value with the name k, which is a location if it begins with a capital.
-pub fn value_in(w: &mut [u32; 99592], sc: Scope, k: Key, capital: bool) -> u32
+pub(crate) fn value_in(w: &mut [u32; 99592], sc: Scope, k: Key, capital: bool) -> u32
     requires { ⌜ sc .n ≤ 8 ⌝ }
     ensures { λ r. ⌜ ValueBy (now (w .entry)) (now (w .exit)) sc k capital r ⌝ }
 {
@@ -119,7 +119,7 @@ fn args_from(s: &[u8], at: usize, w: &mut [u32; 99592], sc: Scope) -> Args
 }
 
 // Nothing, or values in brackets.
-pub fn args(s: &[u8], at: usize, w: &mut [u32; 99592], sc: Scope) -> Args
+pub(crate) fn args(s: &[u8], at: usize, w: &mut [u32; 99592], sc: Scope) -> Args
     requires { ⌜ (sc .n ≤ 8) × ListAt (now s) at ⌝ }
     ensures { λ r. ⌜ ((x : ListAt (now (s .entry)) at) → ArgsAre (now (s .entry)) (now (w .entry)) (now (w .exit)) sc r (x .what) (x .left)) ⌝ }
 {

@@ -30,7 +30,7 @@ use Rattle.table.specs.declared.State.{State}
 use Rattle.table.specs.Words.{word}
 use Rattle.table.specs.Meaning.{networkOf as tableNetwork}
 use Rattle.table.specs.Valid.{valid}
-use Rattle.table.proofs.Size.{sizeP}
+use Rattle.table.specs.Size.{sizeP}
 use Rattle.text_build.specs.Rows.{placeKnown}
 use Rattle.text_tree.specs.Pass.{Within, heads, bodies, afterBodies, brackets, spots, started, top, defined, behind, scriptOf, spotsOf}
 use Rattle.text_tree.specs.Asked.{roomy, apart, callsHeld, allBound, compOf}

@@ -23,7 +23,7 @@ use Rattle.text_words.proofs.Positions.{bytes-fall}
 use Rattle.text_parts.proofs.Rests.{ended-is}
 use Rattle.table.specs.declared.Key.{Key}
 use Rattle.table.specs.Tests.{keyName}
-use Rattle.table.proofs.Size.{size, sizeP}
+use Rattle.table.specs.Size.{size, sizeP}
 use Rattle.text_build.specs.Keys.{keyOf}
 use Rattle.text_build.specs.Tables.{heldIn, numberIn, enlist, Enlisted}
 use Rattle.text_build.specs.Put.{locNumber, enterLoc, linked, put}

@@ -35,12 +35,13 @@ use Rattle.text_parts.specs.Counting.{listCount, processCounts}
 use Rattle.text_parts.specs.Answers.{listed, sized, countOf}
 use Rattle.text_parts.specs.declared.Names.{Names}
 use Rattle.text_parts.specs.declared.Size.{Size}
-use Rattle.text_parts.proofs.Rests.{clash, ended-is}
+use Rattle.text.proofs.Exact.{clash}
+use Rattle.text_parts.proofs.Rests.{ended-is}
 use Rattle.table.specs.declared.Key.{Key}
 use Rattle.table.specs.Words.{nameAt}
 use Rattle.table.specs.Tests.{keyName}
 use Rattle.table.specs.Valid.{index}
-use Rattle.table.proofs.Size.{size, sizeP}
+use Rattle.table.specs.Size.{size, sizeP}
 use Rattle.text_build.specs.declared.Scope.{Scope}
 use Rattle.text_build.specs.Keys.{keyOf}
 use Rattle.text_build.specs.Tables.{keyWords}

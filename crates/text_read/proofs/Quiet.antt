@@ -19,7 +19,7 @@ use Rattle.text.specs.Tree.Located.{at}
 use Rattle.table.specs.declared.Key.{Key}
 use Rattle.table.specs.Words.{word, arityOf}
 use Rattle.table.specs.Tests.{keyName}
-use Rattle.table.proofs.Size.{size, sizeP}
+use Rattle.table.specs.Size.{size, sizeP}
 use Rattle.text_build.specs.declared.Scope.{Scope}
 use Rattle.text_build.specs.Keys.{keyOf}
 use Rattle.text_build.specs.Tables.{keyWords, heldIn, numberIn, addKey, enlist}

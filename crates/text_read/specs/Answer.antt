@@ -21,8 +21,9 @@ use Rattle.text_tree.specs.Asked.{roomy, apart, callsHeld, allBound, compOf}
 use Rattle.text_read.specs.declared.Reading.{Reading}
 
 -- ── components ──
-abbrev pub noComp : Comp
-noComp = record { loc = 0; mark = 0; place = 0; timer = 0; vals = replicate 8 0 }
+-- a component of zeros, which stands where none was read
+abbrev pub zeroComp : Comp
+zeroComp = record { loc = 0; mark = 0; place = 0; timer = 0; vals = replicate 8 0 }
 
 -- the components at the places xs, and no others
 pub record StateIs (w : List ℕ) (xs : List (List ℕ)) (st : State) : Type 0 where
@@ -44,7 +45,7 @@ asked w = cond (roomy w) (cond (apart w) (cond (callsHeld w) (cond (allBound w) 
 
 -- ── the answer ──
 abbrev pub refusal : ℕ → Reading
-refusal n = record { code = n; state = record { c = replicate 256 noComp; n = 0 } }
+refusal n = record { code = n; state = record { c = replicate 256 zeroComp; n = 0 } }
 
 -- the locations and channels of a text that has a form, numbered by first place
 abbrev pub locationsIn : Answer Tree → List Name

@@ -11,7 +11,7 @@ use Rattle.text.specs.Tree.{Located}
 use Rattle.text.specs.Tree.Located.{at}
 use Rattle.text.specs.Write.{joinedT, locatedT}
 use Rattle.text.specs.WellFormed.{Each, WellLocated}
-use Rattle.table.proofs.Size.{sizeP}
+use Rattle.table.specs.Size.{sizeP}
 use Rattle.text_build.specs.Put.{locNumber}
 use Rattle.text_put.specs.Opened.{ProcessPut}
 use Rattle.text_tree.specs.Pass.{noScope, putLocated, partSpots, brackets, spots}

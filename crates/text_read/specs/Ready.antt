@@ -13,7 +13,7 @@ use Rattle.text.specs.Tree.{Tree}
 use Rattle.text.specs.Grammar.{next}
 use Rattle.text.specs.Write.{nameT, joinedT, listT, defT, networkT, tokens}
 use Rattle.text.specs.WellFormed.{WellDef, WellTree}
-use Rattle.table.proofs.Size.{sizeP}
+use Rattle.table.specs.Size.{sizeP}
 use Rattle.text_build.specs.Put.{put}
 use Rattle.text_tree.specs.Pass.{Within, putHead, heads, paramsFrom, noScope, afterBodies, brackets, spots}
 use Rattle.text_read.specs.declared.Passed.{Passed}

@@ -133,7 +133,7 @@ fn put_body(s: &[u8], at: usize, w: &mut [u32; 99592], k: usize, i: usize) -> Pa
 }
 
 // The heads of all definitions, the body of the first at i.
-pub fn put_heads(s: &[u8], w: &mut [u32; 99592], i: usize)
+pub(crate) fn put_heads(s: &[u8], w: &mut [u32; 99592], i: usize)
     requires { ⌜ (i < 4096) × Ready (now s) ⌝ }
     ensures { λ r. ⌜ ((x : Ready (now (s .entry))) → now (w .exit) ≡ heads (x .tree .defs) 0 i (now (w .entry))) ⌝ }
 {
@@ -149,7 +149,7 @@ pub fn put_heads(s: &[u8], w: &mut [u32; 99592], i: usize)
 }
 
 // The bodies of all definitions: where the network begins, and the place of its first part.
-pub fn put_bodies(s: &[u8], w: &mut [u32; 99592], i: usize) -> Passed
+pub(crate) fn put_bodies(s: &[u8], w: &mut [u32; 99592], i: usize) -> Passed
     requires { ⌜ (i < 4096) × Ready (now s) ⌝ }
     ensures { λ r. ⌜ ((x : Ready (now (s .entry))) → BodiesPut (now (s .entry)) (now (w .entry)) (now (w .exit)) i r (x .tree)) ⌝ }
 {

@@ -81,7 +81,7 @@ fn put_located(
 }
 
 // All located processes, the first at i: how many components there are.
-pub fn put_network(
+pub(crate) fn put_network(
     s: &[u8],
     at: usize,
     w: &mut [u32; 99592],

@@ -4,13 +4,13 @@ ghost use mathlib.Core.List.{[], _∷_, map};
 ghost use mathlib.Core.Path.{_≡_};
 ghost use lib.ListN.{length, take, replicate};
 ghost use Rattle.text_tree.specs.Asked.{compOf};
-ghost use Rattle.text_read.specs.Answer.{noComp, StateIs};
+ghost use Rattle.text_read.specs.Answer.{zeroComp, StateIs};
 use table::Comp;
 use table::State;
 
-// No component.
-fn no_comp() -> Comp
-    ensures { λ r. ⌜ r ≡ noComp ⌝ }
+// A component of zeros.
+fn zero_comp() -> Comp
+    ensures { λ r. ⌜ r ≡ zeroComp ⌝ }
 {
     Comp {
         loc: 0,
@@ -37,18 +37,18 @@ fn comp_at(w: &[u32; 99592], l: u32, i: u32) -> Comp
 
 // A network of no components.
 pub fn no_state() -> State
-    ensures { λ r. ⌜ r ≡ record { c = replicate 256 noComp; n = 0 } ⌝ }
+    ensures { λ r. ⌜ r ≡ record { c = replicate 256 zeroComp; n = 0 } ⌝ }
 {
-    let x = no_comp();
+    let x = zero_comp();
     State { c: [x; 256], n: 0 }
 }
 
 // The components at the first n places.
-pub fn state_of(w: &[u32; 99592], out: &[[u32; 2]], n: usize) -> State
+pub(crate) fn state_of(w: &[u32; 99592], out: &[[u32; 2]], n: usize) -> State
     requires { ⌜ (n ≤ 256) × (n ≤ length (now out)) ⌝ }
     ensures { λ r. ⌜ StateIs (now (w .entry)) (take n (now (out .entry))) r ⌝ }
 {
-    let x = no_comp();
+    let x = zero_comp();
     let mut st = State { c: [x; 256], n: n };
     let mut j = 0;
     while j < n {

@@ -16,7 +16,7 @@ use Rattle.text.specs.Grammar.{Rest, text}
 use Rattle.text.specs.Grammar.Rest.{ok, bad}
 use Rattle.text.specs.Questions.{form, whole, short, shallow, fits, nesting, definitionCount, parameterCount, partCount, componentCount, channels, locations, scopeSize}
 use Rattle.text_words.specs.Bytes.{mapped}
-use Rattle.text_parts.proofs.Rests.{clash}
+use Rattle.text.proofs.Exact.{clash}
 use Rattle.text_scan.specs.Totals.{Totals, treeTotals, cappedT}
 use Rattle.text_scan.specs.Counting.{textCounts}
 use Rattle.text_scan.specs.Answers.{totalsOf, totaled, unreadScan, scanned, scanOf}

@@ -23,7 +23,8 @@ use Rattle.text_parts.specs.Counting.{processCounts, listCount, namesCount}
 use Rattle.text_parts.specs.Answers.{countOf, sized, listed, after}
 use Rattle.text_parts.specs.declared.Size.{Size}
 use Rattle.text_parts.specs.declared.Names.{Names}
-use Rattle.text_parts.proofs.Rests.{clash, mapped-mapped, mapped-same, mapped-bind, mapped-after, mapped-give, mapped-less, next-yes, next-no, ended-not, ended-is, ended-zero}
+use Rattle.text.proofs.Exact.{clash}
+use Rattle.text_parts.proofs.Rests.{mapped-mapped, mapped-same, mapped-bind, mapped-after, mapped-give, mapped-less, next-yes, next-no, ended-not, ended-is, ended-zero}
 use Rattle.text_parts.proofs.Stops.{sum-on, max-on, max-assoc}
 use Rattle.text_parts.proofs.Gathering as gathering
 use Rattle.text_parts.proofs.Gathering.{moreOf}

@@ -15,7 +15,7 @@ use Rattle.text.specs.Questions.{params, identifier, differ, distinct, definiti
 use Rattle.table.specs.Words.{defsIn, defName, paramsOf}
 use Rattle.table.specs.Meaning.{listFrom}
 use Rattle.table.specs.Valid.{below, distinct as allApart}
-use Rattle.table.proofs.Size.{sizeP}
+use Rattle.table.specs.Size.{sizeP}
 use Rattle.text_build.specs.Rows.{idsOf}
 use Rattle.text_build.proofs.Forms.{member-same}
 use Rattle.text_tree.specs.Pass.{top}

@@ -19,7 +19,7 @@ use Rattle.text.specs.Tree.{Tree}
 use Rattle.text.specs.Questions.{params, identifier, most, parameterCount, definitionCount, differ, distinct, isFor, callMet, callsMet}
 use Rattle.table.specs.Words.{defsIn, arityOf, headAt}
 use Rattle.table.specs.Valid.{index}
-use Rattle.table.proofs.Size.{sizeP}
+use Rattle.table.specs.Size.{sizeP}
 use Rattle.text_build.specs.Rows.{idsOf, headOf}
 use Rattle.text_build.specs.Growth.{placeListed}
 use Rattle.table.proofs.Names.{name-sym}

@@ -15,7 +15,7 @@ use Rattle.text.specs.Tree.Located.{at}
 use Rattle.text.specs.Questions.{Place, firsts, processPlaces, defPlaces, locatedPlaces, places, partCount}
 use Rattle.table.specs.Words.{partsIn}
 use Rattle.table.specs.Valid.{below}
-use Rattle.table.proofs.Size.{sizeP}
+use Rattle.table.specs.Size.{sizeP}
 use Rattle.table.proofs.Tests.{every-append}
 use Rattle.text_build.specs.Growth.{placeListed}
 use Rattle.text_build.specs.Put.{offsets}

@@ -13,7 +13,7 @@ use Rattle.terms.specs.Terms.Process.{one, _∥_}
 use Rattle.terms.specs.Same.{every}
 use Rattle.text.specs.Questions.{Place, into, partPlaces, processPlaces}
 use Rattle.table.specs.Valid.{below}
-use Rattle.table.proofs.Size.{size, sizeP}
+use Rattle.table.specs.Size.{size, sizeP}
 use Rattle.text_build.specs.Rows.{Row, Below, Stands, scopeNames, headOf, firstPlace, secondPlace, entering}
 use Rattle.text_build.proofs.Places.{PartFit, Fit, here, fit-first, fit-go, fit-out, fit-in, fit-par}
 use Rattle.text_build.proofs.Numbers.{names-entered}

@@ -11,7 +11,7 @@ use Rattle.terms.specs.Terms.Def.{define}
 use Rattle.text.specs.WellFormed.{Each, WellDef}
 use Rattle.text.specs.Questions.{Place, firsts, defPlaces, locationsAt, channelsAt}
 use Rattle.table.specs.Words.{word}
-use Rattle.table.proofs.Size.{sizeP}
+use Rattle.table.specs.Size.{sizeP}
 use Rattle.text_build.specs.Rows.{scopeNames}
 use Rattle.text_build.specs.Growth.{Making}
 use Rattle.text_build.specs.Put.{offsets, put}

@@ -20,7 +20,7 @@ use Rattle.text.specs.Tree.Located.{at}
 use Rattle.text.specs.WellFormed.{Each, WellDef, WellLocated, WellTree}
 use Rattle.text.specs.Questions.{Place, firsts, partPlaces, processPlaces, defPlaces, locatedPlaces, places, locationsAt, channelsAt, locatedNames, channels, locations, most, definitionCount, parameterCount, partCount, componentCount, scopeSize, fits}
 use Rattle.table.specs.Words.{word, nameAt, locName, chanName, scopeAt}
-use Rattle.table.proofs.Size.{size, sizeP}
+use Rattle.table.specs.Size.{size, sizeP}
 use Rattle.table.proofs.Tests.{length-listFrom, every-append}
 use Rattle.table.proofs.ValidScopes.{any-length, at-most}
 use Rattle.text_build.specs.Rows.{Below, Stands, locsOf, chansOf, scopeNames, firstPlace, secondPlace, entering}

@@ -15,7 +15,7 @@ use Rattle.text.specs.Questions.{params}
 use Rattle.table.specs.Words.{word, nameAt, arityOf, bodyOf, defName, paramsOf}
 use Rattle.table.specs.Meaning.{listFrom}
 use Rattle.table.specs.Tests.{rowName}
-use Rattle.table.proofs.Size.{sizeP}
+use Rattle.table.specs.Size.{sizeP}
 use Rattle.table.proofs.ValidDefs.{params-names}
 use Rattle.text_build.specs.Keys.{keyOf}
 use Rattle.text_build.specs.Tables.{keyWords}

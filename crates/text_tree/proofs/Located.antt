@@ -15,7 +15,7 @@ use Rattle.text.specs.WellFormed.{Is, Each, WellLocated}
 use Rattle.text.specs.Questions.{firsts, locOf, locatedPlaces, locatedNames, channelsAt}
 use Rattle.table.specs.Words.{word}
 use Rattle.table.specs.Valid.{index}
-use Rattle.table.proofs.Size.{sizeP}
+use Rattle.table.specs.Size.{sizeP}
 use Rattle.text_build.specs.Rows.{locsOf, valueWord}
 use Rattle.text_build.specs.Growth.{locListed, valueListed, Grown, Making}
 use Rattle.text_build.specs.Put.{locNumber, enterLoc, valueNumber, enterValue}

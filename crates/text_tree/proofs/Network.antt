@@ -32,7 +32,7 @@ use Rattle.table.specs.declared.State.{State}
 use Rattle.table.specs.Words.{word, partsIn, locsIn, locName, field, headAt, nextAt, namesAt}
 use Rattle.table.specs.Meaning.{joined, processAt, partAt, withTimer, envAt, markOf, processOf, means, compsOf, netOf, networkOf}
 use Rattle.table.specs.Valid.{index, timerOk, markOk, compOk, stateOk, valid, scriptOk}
-use Rattle.table.proofs.Size.{size, sizeP}
+use Rattle.table.specs.Size.{size, sizeP}
 use Rattle.table.proofs.Tests.{every-append}
 use Rattle.table.proofs.Places.{process-is}
 use Rattle.table.proofs.Fires.{map-append}

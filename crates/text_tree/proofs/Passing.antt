@@ -22,7 +22,7 @@ use Rattle.text.specs.Questions.{params, identifier, differ, defPlaces, located
 use Rattle.table.specs.Words.{word, partsIn, locsIn, chansIn, defsIn, locName, chanName, defName, bodyOf}
 use Rattle.table.specs.Meaning.{listFrom, processAt, defOf, defsOf}
 use Rattle.table.specs.Valid.{below, distinct, sortOk, defOk, partOk, scriptOk}
-use Rattle.table.proofs.Size.{sizeP}
+use Rattle.table.specs.Size.{sizeP}
 use Rattle.table.proofs.ValidLists.{below-all, alike-all}
 use Rattle.text_build.specs.Rows.{locsOf, chansOf, scopeNames, placeKnown}
 use Rattle.text_build.specs.Put.{offsets}

@@ -10,7 +10,7 @@ use Rattle.terms.specs.Terms.Process.{one, _∥_}
 use Rattle.text.specs.WellFormed.{WellPart, WellProcess}
 use Rattle.text.specs.Questions.{Place, into, partPlaces, processPlaces}
 use Rattle.table.specs.Words.{word}
-use Rattle.table.proofs.Size.{size, sizeP}
+use Rattle.table.specs.Size.{size, sizeP}
 use Rattle.text_build.specs.declared.Scope.{Scope}
 use Rattle.text_build.specs.Rows.{firstPlace, secondPlace}
 use Rattle.text_build.specs.Put.{opened, innerScope, putPart, put}

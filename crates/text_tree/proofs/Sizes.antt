@@ -13,7 +13,7 @@ use Rattle.terms.specs.Terms.Def.{define}
 use Rattle.text.specs.Tree.{Located, Tree}
 use Rattle.text.specs.Tree.Located.{at}
 use Rattle.text.specs.Questions.{into, partPlaces, processPlaces, defPlaces, locatedPlaces, places, partCount}
-use Rattle.table.proofs.Size.{size, sizeP}
+use Rattle.table.specs.Size.{size, sizeP}
 use Rattle.text_tree.specs.Pass.{afterBodies}
 
 -- ── one process ──

@@ -19,7 +19,7 @@ use Rattle.text.specs.WellFormed.{WellTimer, WellPart, WellProcess}
 use Rattle.table.specs.declared.Key.{Key}
 use Rattle.table.specs.Words.{word, field}
 use Rattle.table.specs.Tests.{keyName}
-use Rattle.table.proofs.Size.{size, sizeP}
+use Rattle.table.specs.Size.{size, sizeP}
 use Rattle.text_build.specs.declared.Scope.{Scope}
 use Rattle.text_build.specs.Keys.{keyOf}
 use Rattle.text_build.specs.Tables.{keyWords, heldIn, numberIn, addKey, enlist}

@@ -11,7 +11,7 @@ use Rattle.terms.specs.Terms.Def.{define}
 use Rattle.text.specs.Tree.Located.{at}
 use Rattle.text.specs.Questions.{firsts}
 use Rattle.table.specs.Words.{word}
-use Rattle.table.proofs.Size.{sizeP}
+use Rattle.table.specs.Size.{sizeP}
 use Rattle.text_build.specs.Rows.{scopeNames, Stands}
 use Rattle.text_build.specs.Growth.{placeListed, Grown, SameRows, Making}
 use Rattle.text_build.specs.Put.{offsets}

@@ -11,7 +11,7 @@ use Rattle.text.specs.Tree.{Located, Tree}
 use Rattle.text.specs.Tree.Located.{at}
 use Rattle.text.specs.Questions.{firsts, channels, locations, partCount, definitionCount}
 use Rattle.table.specs.Words.{word, arityOf, bodyOf, defName, paramsOf}
-use Rattle.table.proofs.Size.{sizeP}
+use Rattle.table.specs.Size.{sizeP}
 use Rattle.text_build.specs.Rows.{locsOf, chansOf, scopeNames, Stands}
 use Rattle.text_build.specs.Growth.{locListed, placeListed, Making}
 use Rattle.text_build.specs.Put.{offsets}

@@ -16,7 +16,7 @@ use Rattle.text.specs.Questions.{definitionCount, parameterCount, partCount, co
 use Rattle.table.specs.declared.Comp.{Comp}
 use Rattle.table.specs.Words.{field, arityOf, nameAt}
 use Rattle.table.specs.Valid.{index}
-use Rattle.table.proofs.Size.{size, sizeP}
+use Rattle.table.specs.Size.{size, sizeP}
 use Rattle.text_build.specs.declared.Scope.{Scope}
 use Rattle.text_build.specs.Keys.{keyOf}
 use Rattle.text_build.specs.Tables.{keyWords}

@@ -15,7 +15,7 @@ use Rattle.text.specs.Characters.Class.{capital, small, digit, bracket, blank, 
 use Rattle.text.specs.Tokens.{tokenwise, member, reserved, firstIs, isName, isSmall, isLocation, isIdentifier, isTicks, plain, number}
 use Rattle.text.specs.Grammar.{Head, headOf, grammar}
 use Rattle.text.specs.Grammar.Head.{stops, goes, sends, receives, calls, nothing}
-use Rattle.text.proofs.Classes.{and-inv}
+use Rattle.terms.proofs.Names.{and-inv}
 use Rattle.text.proofs.Exact.{same-eq}
 use Rattle.text.proofs.ReadBack.{identifier-calls}
 use Rattle.text_words.specs.declared.Sort.{Sort}

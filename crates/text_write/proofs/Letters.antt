@@ -11,6 +11,7 @@ use Rattle.table.specs.declared.Key.{Key}
 use Rattle.table.specs.Words.{fourBytes, isZero, strip, letters}
 use Rattle.table.specs.Tests.{keyName}
 use Rattle.table.proofs.Names.{strip-injective, four-bytes}
+use Rattle.table.proofs.NamesForm.{strip-more}
 
 -- ── the last word ──
 pub last-none : strip (fourBytes 0 []) ≡ []
@@ -43,14 +44,6 @@ unfolding strip
 last-four x n h = rw (ne-eqb (x / 16_777_216 % 256) 0 (λ z. omega arith))
 
 -- ── the words before it ──
-strip-more : (b : ℕ) (l : List ℕ) → (strip l ≡ [] → ⊥) → strip (b ∷ l) ≡ b ∷ strip l
-unfolding strip
-strip-more b l n = go (strip l) n
-  where
-    go : (r : List ℕ) → (r ≡ [] → ⊥) → cond (isZero r b) [] (b ∷ r) ≡ b ∷ r
-    go [] n = absurd (n refl)
-    go (c ∷ r) n = refl
-
 some : (b : ℕ) (l : List ℕ) → (strip l ≡ [] → ⊥) → strip (b ∷ l) ≡ [] → ⊥
 some b l n e = let z : _≡_ {A = ℕ} 0 1 = ap (λ t. sizeOf t) (sym e ∙ strip-more b l n) in omega arith
   where

@@ -29,6 +29,7 @@ use Rattle.text_write.specs.Values.{partSeen, processSeen, Places}
 use Rattle.text_write.specs.Answer.{textOf, noMark}
 use Rattle.text_write.proofs.Values.{all-shown, none-shown}
 use Rattle.text_write.proofs.Spelled.{text-spelled, network-spelled}
+use Rattle.table.proofs.InUse.{valid-script, valid-state, comps-length, in-use, comp-at}
 
 -- ── definitions ──
 -- no slot holds a value
@@ -87,14 +88,6 @@ module _ (w : List ℕ) (good : scriptOk w ≡ true) (c : Comp) (fine : compOk w
       sym (ap compText (unmarked-is w c (le-ltb (c .mark) 64 h)) ∙ (unfold compText processText partText partSeen locName in rw e))
 
 -- ── all components ──
-pub valid-script : (w : List ℕ) (st : State) → valid w st ≡ true → scriptOk w ≡ true
-unfolding valid
-valid-script w st e = and-inv (scriptOk w) _ e .0
-
-pub valid-state : (w : List ℕ) (st : State) → valid w st ≡ true → StateFine w st
-unfolding valid
-valid-state w st e = state-fine w st (and-inv (scriptOk w) _ e .1)
-
 -- 14 on the table
 unmarked-one : (w : List ℕ) (c : Comp) (b : Bool) → ltb (c .mark) 64 ≡ b → unmarked (means w c) ≡ not b
 unfolding unmarked
@@ -109,19 +102,6 @@ unmarked-all w (c ∷ cs) = rw (unmarked-one w c (ltb (c .mark) 64) refl, unmark
 pub unmarked-table : (w : List ℕ) (st : State) → noMark w st ≡ every (λ c. not (ltb (c .mark) 64)) (compsOf st)
 unfolding noMark netOf
 unmarked-table w st = unmarked-all w (compsOf st)
-
--- ── the components in use, by position ──
-module _ (st : State) (h : st .n ≤ length (st .c)) where
-  pub comps-length : length (compsOf st) ≡ st .n
-  unfolding compsOf
-  comps-length = length-take-le (st .n) (st .c) h
-
-  pub in-use : (d : Comp) (k : ℕ) → k < st .n → getD (compsOf st) k d ≡ getD (st .c) k d
-  unfolding compsOf
-  in-use d k l = getD-take (st .n) (st .c) k d l
-
-  pub comp-at : (d : Comp) (k : ℕ) → k < st .n → drop k (compsOf st) ≡ getD (st .c) k d ∷ drop (k + 1) (compsOf st)
-  comp-at d k l = drop-cons (compsOf st) k d (omega (arith, comps-length)) ∙ rw (add-one k, in-use d k l)
 
 -- a test of the components from position k on
 module _ (f : Comp → Bool) (st : State) (h : st .n ≤ length (st .c)) where

@@ -27,7 +27,7 @@ use table::words::wide;
 use table::words::word;
 
 // The definition d, on a line.
-pub fn write_def(w: &[u32; 99592], d: usize, buf: &mut [u8], at: usize) -> usize
+fn write_def(w: &[u32; 99592], d: usize, buf: &mut [u8], at: usize) -> usize
     requires { ⌜ (scriptOk (now w) ≡ true) × (d < defsIn (now w)) ⌝ }
     ensures { λ r. ⌜ Wrote (now (buf .entry)) at (defText (defOf (now (w .entry)) d)) (now (buf .exit)) r ⌝ }
 {
@@ -41,7 +41,7 @@ pub fn write_def(w: &[u32; 99592], d: usize, buf: &mut [u8], at: usize) -> usize
 }
 
 // All definitions, in table order.
-pub fn write_defs(w: &[u32; 99592], buf: &mut [u8], at: usize) -> usize
+fn write_defs(w: &[u32; 99592], buf: &mut [u8], at: usize) -> usize
     requires { ⌜ scriptOk (now w) ≡ true ⌝ }
     ensures { λ r. ⌜ Wrote (now (buf .entry)) at (defsText (defsOf (now (w .entry)))) (now (buf .exit)) r ⌝ }
 {
@@ -56,7 +56,7 @@ pub fn write_defs(w: &[u32; 99592], buf: &mut [u8], at: usize) -> usize
 }
 
 // An unmarked component: its one part in brackets, after its location.
-pub fn write_comp(w: &[u32; 99592], c: Comp, buf: &mut [u8], at: usize) -> usize
+fn write_comp(w: &[u32; 99592], c: Comp, buf: &mut [u8], at: usize) -> usize
     requires { ⌜ (scriptOk (now w) ≡ true) × (compOk (now w) c ≡ true) × (64 ≤ c .mark) ⌝ }
     ensures { λ r. ⌜ Wrote (now (buf .entry)) at (compText (means (now (w .entry)) c)) (now (buf .exit)) r ⌝ }
 {
@@ -68,7 +68,7 @@ pub fn write_comp(w: &[u32; 99592], c: Comp, buf: &mut [u8], at: usize) -> usize
 }
 
 // The line of the components, in order.
-pub fn write_comps(w: &[u32; 99592], st: State, buf: &mut [u8], at: usize) -> usize
+fn write_comps(w: &[u32; 99592], st: State, buf: &mut [u8], at: usize) -> usize
     requires { ⌜ (valid (now w) st ≡ true) × (noMark (now w) st ≡ true) ⌝ }
     ensures { λ r. ⌜ Wrote (now (buf .entry)) at (netText (map compText (netOf (now (w .entry)) st))) (now (buf .exit)) r ⌝ }
 {
@@ -86,7 +86,7 @@ pub fn write_comps(w: &[u32; 99592], st: State, buf: &mut [u8], at: usize) -> us
 }
 
 // The whole text, from the start of the buffer on.
-pub fn write_text(w: &[u32; 99592], st: State, buf: &mut [u8]) -> usize
+pub(crate) fn write_text(w: &[u32; 99592], st: State, buf: &mut [u8]) -> usize
     requires { ⌜ (valid (now w) st ≡ true) × (noMark (now w) st ≡ true) ⌝ }
     ensures { λ r. ⌜ Wrote (now (buf .entry)) 0 (textOf (now (w .entry)) st) (now (buf .exit)) r ⌝ }
 {
@@ -95,7 +95,7 @@ pub fn write_text(w: &[u32; 99592], st: State, buf: &mut [u8]) -> usize
 }
 
 // 14: is no component marked?
-pub fn all_unmarked(st: State) -> bool
+pub(crate) fn all_unmarked(st: State) -> bool
     requires { ⌜ st .n ≤ 256 ⌝ }
     ensures { λ r. ⌜ r ≡ every (λ c. not (ltb (c .mark) 64)) (compsOf st) ⌝ }
 {

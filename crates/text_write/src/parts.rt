@@ -26,7 +26,7 @@ use table::words::next_at;
 use table::words::wide;
 
 // Where the name stands that a value at the part i is written as.
-pub fn value_at(w: &[u32; 99592], i: usize, vals: &[u32; 8], v: u32) -> usize
+fn value_at(w: &[u32; 99592], i: usize, vals: &[u32; 8], v: u32) -> usize
     requires { ⌜ (i < 4096) × (length (now vals) ≡ 8) ⌝ }
     ensures { λ r. ⌜ (refOk (now (w .entry)) (namesAt (now (w .entry)) i) v ≡ true → nameAt (now (w .entry)) r ≡ valueText (valueSeen (now (w .entry)) i (now (vals .entry)) v)) ⌝ }
 {
@@ -47,7 +47,7 @@ pub fn value_at(w: &[u32; 99592], i: usize, vals: &[u32; 8], v: u32) -> usize
 }
 
 // The values in the P of an input of the slot k: the slot holds none.
-pub fn without(vals: &[u32; 8], k: u32) -> [u32; 8]
+fn without(vals: &[u32; 8], k: u32) -> [u32; 8]
     requires { ⌜ length (now vals) ≡ 8 ⌝ }
     ensures { λ r. ⌜ r ≡ set (now (vals .entry)) k 64 ⌝ }
 {
@@ -117,7 +117,7 @@ fn put_open(w: &[u32; 99592], i: usize, t: u32, vals: &[u32; 8], buf: &mut [u8],
 }
 
 // The part at i with the timer t.
-pub fn write_part(
+pub(crate) fn write_part(
     w: &[u32; 99592],
     i: usize,
     t: u32,
@@ -153,7 +153,7 @@ pub fn write_part(
 }
 
 // The process at i, part by part.
-pub fn write_process(
+pub(crate) fn write_process(
     w: &[u32; 99592],
     i: usize,
     vals: &[u32; 8],

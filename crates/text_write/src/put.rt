@@ -156,7 +156,13 @@ pub fn put_name(w: &[u32; 99592], o: usize, buf: &mut [u8], at: usize) -> usize
 }
 
 // Nothing, or `(x1,..)`: the n names that stand at the words o.
-pub fn put_list(w: &[u32; 99592], o: &[usize; 4], n: usize, buf: &mut [u8], at: usize) -> usize
+pub(crate) fn put_list(
+    w: &[u32; 99592],
+    o: &[usize; 4],
+    n: usize,
+    buf: &mut [u8],
+    at: usize,
+) -> usize
     requires { ⌜ (n ≤ 4) × (length (now o) ≡ 4) ⌝ }
     ensures { λ r. ⌜ Wrote (now (buf .entry)) at (listed (map (nameAt (now (w .entry))) (take n (now (o .entry))))) (now (buf .exit)) r ⌝ }
 {

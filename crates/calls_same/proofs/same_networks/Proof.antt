@@ -3,7 +3,7 @@
 use Rattle.table.specs.Meaning.{networkOf}
 use Rattle.table.proofs.ValidBool.{failed, passed}
 use Rattle.terms.specs.Same.{same}
-use Rattle.text_write.proofs.Networks.{valid-script}
+use Rattle.table.proofs.InUse.{valid-script}
 use borrow.Author.Needs.{needs}
 use Rattle.calls_same.proofs.same_networks.Statement.{statement}
 use Rattle.calls_same.proofs.same_networks.Tie as tie

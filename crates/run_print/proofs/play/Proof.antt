@@ -9,7 +9,7 @@ use Rattle.table.specs.Meaning.{defsOf, netOf}
 use Rattle.table.specs.Valid.{valid}
 use Rattle.text_build.specs.Rows.{locsOf}
 use Rattle.run_print.specs.Print.{four, playing}
-use Rattle.calls_act.proofs.Positions.{mapped}
+use Rattle.table.proofs.ValidWhole.{mapped}
 use Rattle.run_print.proofs.Playing.{locs-some, locs-few, Playing, play-first, play-stopped, play-on, play-next, play-end}
 use Rattle.run_print.proofs.play.Statement.{statement}
 use Rattle.run_print.proofs.play.Tie as tie

@@ -3,7 +3,8 @@
 use native.Mathlib.Omega.{arith}
 use mathlib.Core.Path.{_≡_, refl, sym, ap, _∙_}
 use borrow.Author.Tests.{not-true, not-false}
-use Rattle.text_write.proofs.Networks.{valid-state, unmarked-table}
+use Rattle.table.proofs.InUse.{valid-state}
+use Rattle.text_write.proofs.Networks.{unmarked-table}
 use Rattle.text_write.proofs.Answered.{says-14, says-15, says-text, says-copied}
 use borrow.Author.Needs.{needs}
 use Rattle.text_write.proofs.write_valid.Statement.{statement}

@@ -5,7 +5,8 @@ use borrow.Author.Tests.{lt-ltb, le-ltb, le-leb, lt-leb, eq-eqb, ne-eqb}
 use lib.ListN.{length}
 use Rattle.terms.specs.Rules.Kind.{calls}
 use Rattle.table.specs.Fire.{aloneAt}
-use Rattle.calls_act.proofs.Positions.{mapped, few-comps, comp-good, valid-parts, one-left, one-out}
+use Rattle.table.proofs.ValidWhole.{mapped}
+use Rattle.calls_act.proofs.Positions.{few-comps, comp-good, valid-parts, one-left, one-out}
 use borrow.Author.Needs.{needs}
 use Rattle.calls_act.proofs.act.act_call.Statement.{statement}
 use Rattle.calls_act.proofs.act.act_call.Tie as tie

@@ -3,7 +3,8 @@ use native.Mathlib.Omega.{arith}
 use mathlib.Core.Path.{_≡_, refl, sym, ap, subst, _∙_}
 use borrow.Author.Tests.{lt-ltb, le-ltb, le-leb, lt-leb, eq-eqb, ne-eqb}
 use lib.ListN.{length}
-use Rattle.calls_act.proofs.Positions.{mapped, few-comps, comp-good, valid-parts, two-left, two-out-p, two-out-q}
+use Rattle.table.proofs.ValidWhole.{mapped}
+use Rattle.calls_act.proofs.Positions.{few-comps, comp-good, valid-parts, two-left, two-out-p, two-out-q}
 use borrow.Author.Needs.{needs}
 use Rattle.calls_act.proofs.act.act_pair.Statement.{statement}
 use Rattle.calls_act.proofs.act.act_pair.Tie as tie

@@ -1,5 +1,5 @@
 -- `entry` meets its contract; the array has 256 components by its type.
-use Rattle.calls_act.proofs.Positions.{mapped}
+use Rattle.table.proofs.ValidWhole.{mapped}
 use borrow.Author.Needs.{needs}
 use Rattle.calls_act.proofs.act.entry.Statement.{statement}
 use Rattle.calls_act.proofs.act.entry.Tie as tie

@@ -2,7 +2,8 @@
 use native.Mathlib.Omega.{arith}
 use mathlib.Core.Path.{_≡_, sym, ap, _∙_}
 use lib.ListN.{getD}
-use Rattle.calls_act.specs.Acted.{actionRule, actsAs, noComp}
+use Rattle.table.specs.Meaning.{noComp}
+use Rattle.calls_act.specs.Acted.{actionRule, actsAs}
 use Rattle.calls_act.proofs.Positions.{few-comps}
 use Rattle.calls_propose.proofs.Proposing.{next-stays, next-refused, position, next-elsewhere, next-fired}
 use borrow.Author.Needs.{needs}

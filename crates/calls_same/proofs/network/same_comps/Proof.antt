@@ -8,8 +8,8 @@ use mathlib.Core.Path.{_≡_, refl, ap, sym, _∙_}
 use lib.ListN.{length}
 use borrow.Author.Count.{below-more}
 use Rattle.table.proofs.ValidWhole.{mapped}
-use Rattle.text_write.proofs.Networks.{valid-script, valid-state}
-use Rattle.calls_same.proofs.Matched.{net-length, comp-held, uneven, Unequal, Left, begun, step, stuck, ended}
+use Rattle.table.proofs.InUse.{valid-script, valid-state, comp-held}
+use Rattle.calls_same.proofs.Matched.{net-length, uneven, Unequal, Left, begun, step, stuck, ended}
 use borrow.Author.Needs.{needs}
 use Rattle.calls_same.proofs.network.same_comps.Statement.{statement}
 use Rattle.calls_same.proofs.network.same_comps.Tie as tie

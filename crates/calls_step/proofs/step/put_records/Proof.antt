@@ -7,7 +7,7 @@ use Prim.Native.Nat.{_≤_, _-_}
 use mathlib.Core.List.{map, _++_}
 use lib.ListN.{length, take, drop, length-set}
 use Rattle.calls_step.specs.Stepped.{wordsOf}
-use Rattle.calls_act.proofs.Positions.{mapped}
+use Rattle.table.proofs.ValidWhole.{mapped}
 use Rattle.calls_step.proofs.Stepping.{put-more}
 use Rattle.calls_step.proofs.step.put_records.Statement.{statement}
 use Rattle.calls_step.proofs.step.put_records.Tie as tie

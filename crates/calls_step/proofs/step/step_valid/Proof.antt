@@ -5,7 +5,8 @@ use borrow.Author.Tests.{lt-ltb, le-ltb, le-leb, lt-leb, eq-eqb, ne-eqb}
 use Prim.Native.Nat.{_<_}
 use lib.ListN.{length}
 use Rattle.table.specs.Words.{locsIn}
-use Rattle.calls_act.proofs.Positions.{mapped, few-comps}
+use Rattle.table.proofs.ValidWhole.{mapped}
+use Rattle.calls_act.proofs.Positions.{few-comps}
 use Rattle.calls_step.proofs.Stepping.{step-out, step-small, swept-good, step-full, step-done, step-took}
 use borrow.Author.Needs.{needs}
 use Rattle.calls_step.proofs.step.step_valid.Statement.{statement}

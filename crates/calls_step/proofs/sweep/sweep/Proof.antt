@@ -7,10 +7,10 @@ use mathlib.Core.Bool.{true}
 use mathlib.Core.Path.{_≡_, refl, sym, subst, _∙_}
 use lib.ListN.{length, getD, drop}
 use borrow.Author.Needs.{needs}
-use Rattle.table.specs.Meaning.{compsOf}
+use Rattle.table.specs.Meaning.{compsOf, noComp}
 use Rattle.table.specs.Valid.{scriptOk, compOk}
-use Rattle.calls_act.specs.Acted.{noComp}
-use Rattle.calls_act.proofs.Positions.{mapped, few-comps, valid-parts, comp-good}
+use Rattle.table.proofs.ValidWhole.{mapped}
+use Rattle.calls_act.proofs.Positions.{few-comps, valid-parts, comp-good}
 use Rattle.calls_step.specs.Sweep.{Queued}
 use Rattle.calls_step.specs.Visit.{sendsAt, otherOf}
 use Rattle.calls_step.proofs.Queues.{queue-none, hears-fits, dropped-all, queue-turn}

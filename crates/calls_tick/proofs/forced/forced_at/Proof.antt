@@ -7,10 +7,10 @@ use Prim.Native.Nat.{_≤_, _-_}
 use mathlib.Core.Bool.{false}
 use lib.ListN.{length, take, getD}
 use Rattle.terms.specs.Rules.{some}
-use Rattle.table.specs.Meaning.{compsOf}
+use Rattle.table.specs.Meaning.{compsOf, noComp}
 use Rattle.table.specs.Fire.{forcedAt}
-use Rattle.calls_act.specs.Acted.{noComp}
-use Rattle.calls_act.proofs.Positions.{mapped, few-comps, valid-parts, comp-good}
+use Rattle.table.proofs.ValidWhole.{mapped}
+use Rattle.calls_act.proofs.Positions.{few-comps, valid-parts, comp-good}
 use Rattle.calls_tick.proofs.Hearing.{quiet, quiet-more, some-getD, pressed-is}
 use Rattle.calls_tick.proofs.forced.forced_at.Statement.{statement}
 use Rattle.calls_tick.proofs.forced.forced_at.Tie as tie

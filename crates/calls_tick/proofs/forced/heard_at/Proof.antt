@@ -5,9 +5,9 @@ use mathlib.Core.Logic.{⊎-elim}
 use mathlib.Core.Path.{_≡_, refl, sym, ap, subst, _∙_}
 use lib.ListN.{length, set, take, length-set}
 use borrow.Author.Needs.{needs}
-use Rattle.table.specs.Meaning.{compsOf}
-use Rattle.calls_act.specs.Acted.{noComp}
-use Rattle.calls_act.proofs.Positions.{mapped, few-comps, valid-parts, comp-good}
+use Rattle.table.specs.Meaning.{compsOf, noComp}
+use Rattle.table.proofs.ValidWhole.{mapped}
+use Rattle.calls_act.proofs.Positions.{few-comps, valid-parts, comp-good}
 use Rattle.calls_tick.specs.Heard.{Heard}
 use Rattle.calls_tick.proofs.Hearing.{heard-none, heard-more, heard-past}
 use Rattle.calls_tick.proofs.forced.heard_at.Statement.{statement}

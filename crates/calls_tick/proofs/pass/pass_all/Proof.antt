@@ -6,9 +6,9 @@ use borrow.Author.Needs.{needs}
 use Prim.Native.Nat.{_≤_, _-_}
 use mathlib.Core.Bool.{true, false, false≢true}
 use lib.ListN.{length, take, getD, set}
-use Rattle.table.specs.Meaning.{compsOf}
-use Rattle.calls_act.specs.Acted.{noComp}
-use Rattle.calls_act.proofs.Positions.{mapped, few-comps, valid-parts, comp-good}
+use Rattle.table.specs.Meaning.{compsOf, noComp}
+use Rattle.table.proofs.ValidWhole.{mapped}
+use Rattle.calls_act.proofs.Positions.{few-comps, valid-parts, comp-good}
 use Rattle.calls_tick.specs.Turn.{turnOf}
 use Rattle.calls_tick.proofs.Passing.{Passing, passing-begin, passing-turn, passing-full, passing-done, left-over, turn-less, step-fits}
 use Rattle.calls_tick.proofs.pass.pass_all.Statement.{statement}

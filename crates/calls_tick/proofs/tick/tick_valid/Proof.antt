@@ -5,7 +5,7 @@ use borrow.Author.Tests.{lt-ltb, le-ltb, le-leb, lt-leb, eq-eqb, ne-eqb}
 use Prim.Native.Nat.{_<_}
 use lib.ListN.{length}
 use Rattle.table.specs.Words.{locsIn}
-use Rattle.calls_act.proofs.Positions.{mapped}
+use Rattle.table.proofs.ValidWhole.{mapped}
 use Rattle.calls_tick.proofs.Ticking.{tick-out, tick-forced, tick-full, tick-done, tick-took}
 use borrow.Author.Needs.{needs}
 use Rattle.calls_tick.proofs.tick.tick_valid.Statement.{statement}

@@ -10,7 +10,8 @@ use borrow.Author.Needs.{needs}
 use borrow.Author.Count.{below-none, below-more}
 use borrow.Author.Tests.{lt-leb, le-leb, lt-ltb}
 use Rattle.table.specs.Valid.{compOk, stateOk}
-use Rattle.table.proofs.ValidWhole.{noComp, mapped, comps-all, comps-miss}
+use Rattle.table.specs.Meaning.{noComp}
+use Rattle.table.proofs.ValidWhole.{mapped, comps-all, comps-miss}
 use Rattle.table.proofs.ValidBool.{failed, passed, and-false}
 use Rattle.table.proofs.valid.state_ok.Statement.{statement}
 use Rattle.table.proofs.valid.state_ok.Tie as tie

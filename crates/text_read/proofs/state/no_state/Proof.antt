@@ -5,11 +5,11 @@ use borrow.Author.Needs.{needs}
 use Rattle.text_read.proofs.state.no_state.Statement.{statement}
 use Rattle.text_read.proofs.state.no_state.Tie as tie
 
-no-comp-requires : tie.Need-no-comp-requires
-no-comp-requires c κs = search needs
+zero-comp-requires : tie.Need-zero-comp-requires
+zero-comp-requires c κs = search needs
 
 returns : tie.Need-returns
-returns c = ap (λ x. record { c = replicate 256 x; n = 0 }) (c .no-comp .ensures)
+returns c = ap (λ x. record { c = replicate 256 x; n = 0 }) (c .zero-comp .ensures)
 
 pub no-state-spec : {M : Type 1} → statement M
-no-state-spec = tie.close (tie.spec no-comp-requires returns)
+no-state-spec = tie.close (tie.spec zero-comp-requires returns)

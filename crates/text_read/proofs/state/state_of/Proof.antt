@@ -17,8 +17,8 @@ Inv-loop w out n st₀ j₀ st j = (j ≤ n) × (st .n ≡ n) × (length (st .c)
 abbrev μ-loop : tie.MeasureT-loop
 μ-loop w out n st₀ j₀ st j = n - j
 
-no-comp-requires : tie.Need-no-comp-requires Inv-loop μ-loop
-no-comp-requires c κs = search needs
+zero-comp-requires : tie.Need-zero-comp-requires Inv-loop μ-loop
+zero-comp-requires c κs = search needs
 
 loop-holds : tie.Need-loop-holds Inv-loop μ-loop
 loop-holds c = (omega arith, refl, refl, refl)
@@ -92,7 +92,7 @@ state-of-spec =
     (tie.spec
     Inv-loop
     μ-loop
-    no-comp-requires
+    zero-comp-requires
     loop-holds
     mul-y
     shared-slice-copy-out-y

@@ -7,7 +7,8 @@ use lib.ListN.{length}
 use Rattle.text_write.specs.Forms.{barred}
 use Rattle.text_write.proofs.Puts.{Left, begun, step, last, then, same, left-as}
 use Rattle.table.proofs.ValidWhole.{mapped}
-use Rattle.text_write.proofs.Networks.{valid-script, valid-state, left, comps-first, comps-next, comps-end, comp-good}
+use Rattle.table.proofs.InUse.{valid-script, valid-state}
+use Rattle.text_write.proofs.Networks.{left, comps-first, comps-next, comps-end, comp-good}
 use borrow.Author.Needs.{needs}
 use Rattle.text_write.proofs.network.write_comps.Statement.{statement}
 use Rattle.text_write.proofs.network.write_comps.Tie as tie

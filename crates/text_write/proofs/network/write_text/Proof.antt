@@ -1,7 +1,8 @@
 -- The definitions and then the components are the whole text.
 -- By what each writes.
 use Rattle.text_write.proofs.Puts.{then, same}
-use Rattle.text_write.proofs.Networks.{valid-script, text-is}
+use Rattle.table.proofs.InUse.{valid-script}
+use Rattle.text_write.proofs.Networks.{text-is}
 use borrow.Author.Needs.{needs}
 use Rattle.text_write.proofs.network.write_text.Statement.{statement}
 use Rattle.text_write.proofs.network.write_text.Tie as tie

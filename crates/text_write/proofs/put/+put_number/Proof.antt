@@ -3,7 +3,8 @@
 use native.Mathlib.Omega.{arith}
 use mathlib.Core.Path.{sym}
 use Rattle.text_write.proofs.Puts.{then, same}
-use Rattle.text_write.proofs.Numbers.{digits-one, digits-more}
+use Rattle.text.proofs.Digits.{digits-one}
+use Rattle.text_write.proofs.Numbers.{digits-more}
 use borrow.Author.Needs.{needs}
 use Prim.Native.Nat.{ℕ, _<_}
 use borrow.Fn.Kinds.{In}
