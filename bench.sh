@@ -1,18 +1,26 @@
 #!/usr/bin/env bash
-# The benchmark: the proved engine and the reference engine side by side in one run, on workloads that grow. It tests nothing.
+# The benchmark: the proved engine and the reference engine side by side in one run, on workloads that grow. It tests nothing. The table is also kept
+# in target/bench.md, and a picture of it in target/bench.svg.
 # With Maude installed (apt-get install maude) and PEER naming a folder that holds run_peer.sh and, anywhere below it, scripts (*.timo), the scripts are
-# run by both engines and by that peer.
+# run by both engines and by that peer, whose better model is compared with.
 set -eu
 cd "$(dirname "$0")"
 mkdir -p target
 rt staticlib timo > target/staticlib.log 2>&1 || { tail -n 20 target/staticlib.log; exit 1; }
 (cd compare && cargo build --release --offline --quiet)
+bench=compare/target/release/bench
 scripts=()
 if [ -n "${PEER:-}" ]; then mapfile -t scripts < <(find "$PEER" -name '*.timo' | sort); fi
-compare/target/release/bench "${scripts[@]}"
-if [ -n "${PEER:-}" ] && command -v maude > /dev/null; then
-    for script in "${scripts[@]}"; do
-        echo "Maude: $(basename "$script")"
-        sh "$PEER/run_peer.sh" "$script"
-    done
-fi
+{
+    "$bench" "${scripts[@]}"
+    if [ -n "${PEER:-}" ] && command -v maude > /dev/null; then
+        printf '\n| script | step, proved µs | Maude µs | times as fast |\n|---|---|---|---|\n'
+        for script in "${scripts[@]}"; do
+            maude=$(sh "$PEER/run_peer.sh" "$script" | sed -nE 's/.*\| ([0-9.]+) us\/step.*/\1/p' | sort -g | head -n 1)
+            proved=$("$bench" --step "$script")
+            awk -v name="$(basename "$script")" -v proved="$proved" -v maude="$maude" \
+                'BEGIN { printf "| %s | %s | %s | %.1f |\n", name, proved, maude, maude / proved }'
+        done
+    fi
+} | tee target/bench.md
+python3 bench_picture.py target/bench.md > target/bench.svg

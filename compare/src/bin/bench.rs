@@ -1,20 +1,29 @@
 //! `bench [SCRIPT..]`: steps, writing, reading and `same` by the proved engine's
 //! library and by the reference engine, side by side in one run, on built-in
 //! workloads that grow and on the scripts named. Nothing is tested here.
+//!
+//! `bench --step SCRIPT`: only the time of a step of the proved engine, in µs.
 
 use std::env;
 use std::fs;
 use std::time::{Duration, Instant};
 
-use compare::timo::{read_into, words_of, Table};
+use compare::timo::{read_into, words_of, State, Table};
 use timo_reference::calls::{Engine, Record};
 use timo_reference::term::Network;
 
-/// How long a measurement goes on at least.
-const LEAST: Duration = Duration::from_millis(200);
+/// A measurement is the least of so many, each of which goes on so long.
+const TIMES: usize = 9;
+const LEAST: Duration = Duration::from_millis(30);
 const ROUNDS: usize = 4;
 
 fn main() {
+    let words: Vec<String> = env::args().skip(1).collect();
+    if let [option, path] = words.as_slice() {
+        if option == "--step" {
+            return step_only(path);
+        }
+    }
     let calls = ["step", "write", "read", "same"];
     let heads = calls.map(|call| format!(" {call}, proved µs | reference µs | ratio |"));
     println!("| workload | components | bytes |{}", heads.concat());
@@ -37,12 +46,36 @@ fn main() {
             &facing(pairs, "c", "d"),
         );
     }
-    for path in env::args().skip(1) {
-        match fs::read_to_string(&path) {
-            Ok(script) => line(&path, &script),
+    for depth in [1, 2, 4, 8, 16] {
+        line(&format!("64 nested {depth} deep"), &nested(64, depth));
+    }
+    for path in &words {
+        match fs::read_to_string(path) {
+            Ok(script) => line(name_of(path), &script),
             Err(error) => eprintln!("bench: {path}: {error}"),
         }
     }
+}
+
+/// The last part of a path.
+fn name_of(path: &str) -> &str {
+    path.rsplit('/').next().unwrap_or(path)
+}
+
+fn step_only(path: &str) {
+    let script = fs::read(path).unwrap_or_default();
+    match Table::read(&script) {
+        Ok(mut table) => {
+            let steps = steps_of(table.words[1] as usize);
+            let start = table.state;
+            println!("{:.2}", micros(|| rounds_proved(&mut table, start)) / steps);
+        }
+        Err(number) => println!("refused {number}"),
+    }
+}
+
+fn steps_of(locations: usize) -> f64 {
+    (ROUNDS * locations) as f64
 }
 
 /// Doors between neighbours of a square grid, and rovers spread over it.
@@ -85,23 +118,34 @@ fn facing(pairs: usize, sent: &str, heard: &str) -> String {
     format!("{} .\n", components.join(" | "))
 }
 
+/// Outputs that nobody hears, each with as many parts as the depth twice over and
+/// one.
+fn nested(outputs: usize, depth: usize) -> String {
+    let process = (0..depth).fold(String::from("stop"), |inner, _| {
+        format!("out(c,9,A,{inner},stop)")
+    });
+    let components = vec![format!("A[{process}]"); outputs];
+    format!("{} .\n", components.join(" | "))
+}
+
 fn line(workload: &str, script: &str) {
     let engine = Engine::default();
     let text = script.as_bytes();
-    let (table, network) = match (Table::read(text), engine.read(text)) {
+    let (mut table, network) = match (Table::read(text), engine.read(text)) {
         (Ok(table), Ok(network)) => (table, network),
         (ours, theirs) => {
             let numbers = (ours.err(), theirs.err().map(|refusal| refusal.number()));
             return println!("| {workload} | refused {numbers:?} |");
         }
     };
-    let steps = (ROUNDS * network.script.locations.len()) as f64;
+    let steps = steps_of(network.script.locations.len());
+    let start = table.state;
     let mut lent = vec![0; 65_536];
     let bytes = table.write(&mut lent).unwrap_or(0);
     let mut words = words_of(0);
     let pairs = [
         (
-            micros(|| rounds_proved(&table)) / steps,
+            micros(|| rounds_proved(&mut table, start)) / steps,
             micros(|| rounds_reference(&network)) / steps,
         ),
         (
@@ -126,9 +170,9 @@ fn line(workload: &str, script: &str) {
     );
 }
 
-/// Rounds of steps over all locations; how many actions fired.
-fn rounds_proved(table: &Table) -> usize {
-    let mut table = table.clone();
+/// Rounds of steps over all locations from a state on, which is put back; how
+/// many actions fired.
+fn rounds_proved(table: &mut Table, start: State) -> usize {
     let mut lent = vec![[0; 3]; 256];
     let mut fired = 0;
     for _ in 0..ROUNDS {
@@ -136,6 +180,7 @@ fn rounds_proved(table: &Table) -> usize {
             fired += table.step(location, &mut lent).unwrap_or(0);
         }
     }
+    table.state = start;
     fired
 }
 
@@ -154,16 +199,16 @@ fn rounds_reference(network: &Network) -> usize {
     fired
 }
 
-/// The time of one run, by many.
-fn micros(run: impl FnMut() -> usize) -> f64 {
-    let mut run = run;
-    let start = Instant::now();
-    let mut times = 0;
-    let mut seen = 0;
-    while start.elapsed() < LEAST {
-        seen = std::hint::black_box(run());
-        times += 1;
-    }
-    std::hint::black_box(seen);
-    start.elapsed().as_secs_f64() * 1e6 / f64::from(times)
+/// The time of one run.
+fn micros(mut run: impl FnMut() -> usize) -> f64 {
+    let times = (0..TIMES).map(|_| {
+        let start = Instant::now();
+        let mut runs = 0;
+        while start.elapsed() < LEAST {
+            std::hint::black_box(run());
+            runs += 1;
+        }
+        start.elapsed().as_secs_f64() * 1e6 / f64::from(runs)
+    });
+    times.fold(f64::INFINITY, f64::min)
 }
