@@ -2,18 +2,18 @@
 -- grouped run. By the claim for the rules (Mixed of the crate terms): the accepted calls are a straight run, by the equation of each call.
 use Prim.Native.Nat.{ℕ}
 use native.Mathlib.Omega.{arith}
-use mathlib.Core.List.{List, [], _∷_, map, List·Permᴰ}
+use mathlib.Core.List.{List, _∷_, List·Permᴰ}
 use mathlib.Core.Bool.{Bool, true, false, cond}
-use mathlib.Core.Path.{_≡_, refl, sym, ap, subst, _∙_}
+use mathlib.Core.Path.{_≡_, refl, sym, ap, _∙_}
 use lib.Dec.{eqb, ltb, leb, T}
 use lib.ListN.{getD, length}
 use borrow.Author.Tests.{eq-eqb, ne-eqb}
-use Rattle.terms.specs.Terms.{Component, Def}
+use Rattle.terms.specs.Terms.{Component}
 use Rattle.terms.specs.Rules.{Answer, Action, Acted, _>>=_, act, tick, unmarked}
 use Rattle.terms.specs.Rules.Answer.{refused, accepted}
 use Rattle.terms.specs.Rules.Kind.{calls, moves}
 use Rattle.terms.specs.Rules.Action.{single, pair}
-use Rattle.terms.specs.Runs.{Call, Fed, Ends, groupedRun, straightRun}
+use Rattle.terms.specs.Runs.{Fed, groupedRun, straightRun}
 use Rattle.terms.specs.Runs.Call.{acting, ticking}
 use Rattle.terms.specs.Runs.Fed.{fed}
 use Rattle.terms.proofs.Answers.{clash, took, bind-inv}

@@ -2,19 +2,19 @@
 -- By the law that the step is a whole step (Steps of the crate terms), action by action.
 use Prim.Native.Nat.{ℕ}
 use mathlib.Core.List.{List, [], _∷_, _++_, map}
-use mathlib.Core.Bool.{Bool, true, false, cond}
-use mathlib.Core.Path.{_≡_, refl, sym, ap, subst, _∙_}
+use mathlib.Core.Bool.{true}
+use mathlib.Core.Path.{_≡_, sym, ap, subst, _∙_}
 use lib.Dec.{leb, ltb}
 use lib.ListN.{length}
 use Rattle.terms.specs.Names.{Name, sameName}
 use Rattle.terms.specs.Terms.{Component, Def, firesAt}
-use Rattle.terms.specs.Rules.{Answer, Action, Acted, _>>=_, act, tick}
-use Rattle.terms.specs.Rules.Answer.{refused, accepted}
-use Rattle.terms.specs.Step.{Done, Swept, actAt, actAll, wholeStep, fires, step}
-use Rattle.terms.specs.Runs.{Call, Fed, straightRun}
+use Rattle.terms.specs.Rules.{Action, act, tick}
+use Rattle.terms.specs.Rules.Answer.{accepted}
+use Rattle.terms.specs.Step.{Done, actAt, actAll, wholeStep, fires, step}
+use Rattle.terms.specs.Runs.{Fed, straightRun}
 use Rattle.terms.specs.Runs.Call.{acting, ticking}
 use Rattle.terms.specs.Runs.Fed.{fed}
-use Rattle.terms.proofs.Answers.{clash, took, bind-inv, cond-inv}
+use Rattle.terms.proofs.Answers.{took, bind-inv, cond-inv}
 use Rattle.terms.proofs.Steps.{step-whole}
 use Rattle.table.specs.declared.State.{State}
 use Rattle.table.specs.Words.{locsIn, locName}

@@ -1,8 +1,8 @@
 -- A list of actions and ticks of any content, given one after another: document 01, *Mixed runs*, and demand 3.
 -- Each call gets the state that the call before it returned or, if refused, left.
 use Prim.Native.Nat.{ℕ}
-use mathlib.Core.List.{List, [], _∷_, map}
-use mathlib.Core.Bool.{Bool, true, false, cond}
+use mathlib.Core.List.{List, [], _∷_}
+use mathlib.Core.Bool.{true, cond}
 use mathlib.Core.Path.{_≡_}
 use lib.Dec.{eqb}
 use lib.ListN.{getD, take, drop}

@@ -1,6 +1,6 @@
 // A list of calls one after another, each on the state that the call before it returned or, if refused, left.
 ghost use mathlib.Core.Path.{_≡_};
-ghost use mathlib.Core.List.{List, [], _∷_};
+ghost use mathlib.Core.List.{[], _∷_};
 ghost use lib.ListN.{length};
 ghost use Prim.Native.Nat.{min};
 ghost use Rattle.calls.specs.Run.{answerTo, does, runsAs};

@@ -2,19 +2,18 @@
 -- By taking the tests apart.
 use Prim.Native.Nat.{ℕ, _<_, _≤_}
 use native.Mathlib.Omega.{arith}
-use mathlib.Core.List.{List, [], _∷_}
-use mathlib.Core.Bool.{Bool, true, false, cond, _&&_}
-use mathlib.Core.Path.{_≡_, refl, sym, ap, _∙_}
-use lib.Dec.{eqb, ltb}
+use mathlib.Core.List.{List}
+use mathlib.Core.Bool.{true}
+use mathlib.Core.Path.{_≡_, refl}
+use lib.Dec.{ltb}
 use borrow.Author.Tests.{ltb-true}
-use Rattle.terms.specs.Rules.{Answer}
 use Rattle.terms.proofs.Names.{and-inv}
 use Rattle.table.specs.declared.Comp.{Comp}
 use Rattle.table.specs.declared.Head.{Head}
 use Rattle.table.specs.declared.Head.the-variants.{Stop, Go, Out, In, Call}
-use Rattle.table.specs.Words.{partsIn, defsIn, headAt}
+use Rattle.table.specs.Words.{defsIn, headAt}
 use Rattle.table.specs.Valid.{headOk, scriptOk, compOk}
-use Rattle.table.specs.Fire.{Left, meetAt, valueIn}
+use Rattle.table.specs.Fire.{meetAt, valueIn}
 use Rattle.table.proofs.Tests.{script-fine, part-fine, comp-fine}
 use Rattle.calls_act.specs.Fired.{callee, meetsInput}
 

@@ -3,24 +3,23 @@
 use Prim.Native.Nat.{ℕ, zero, suc, _<_, _≤_}
 use native.Mathlib.Omega.{arith}
 use mathlib.Core.List.{List, [], _∷_, map}
-use mathlib.Core.Bool.{Bool, true, false, cond, _&&_}
-use mathlib.Core.Path.{_≡_, refl, sym, ap, subst, _∙_}
-use lib.Dec.{eqb, ltb, leb}
-use lib.ListN.{length, getD, set, take, length-take, length-set, length-map}
+use mathlib.Core.Bool.{Bool, true, false, cond}
+use mathlib.Core.Path.{_≡_, refl, ap, subst, _∙_}
+use lib.Dec.{eqb}
+use lib.ListN.{length, getD, set, take}
 use borrow.Author.Tests.{lt-ltb, le-leb}
-use Rattle.terms.specs.Same.{every}
-use Rattle.terms.specs.Rules.{Answer, Kind, Action, Acted as ActedBy, _>>=_, at, setAll, positions, act}
+use Rattle.terms.specs.Rules.{Answer, Kind, Action, _>>=_, at, setAll, positions, act}
 use Rattle.terms.specs.Rules as R
 use Rattle.terms.specs.Rules.Answer.{refused, accepted}
 use Rattle.terms.specs.Rules.Action.{single, pair}
-use Rattle.terms.proofs.Names.{and-inv, and-in}
+use Rattle.terms.proofs.Names.{and-in}
 use Rattle.table.specs.declared.Comp.{Comp}
 use Rattle.table.specs.declared.State.{State}
 use Rattle.table.specs.Meaning.{defsOf, means, compsOf, netOf, noComp}
 use Rattle.table.specs.Valid.{scriptOk, compOk, stateOk, valid}
 use Rattle.table.specs.Fire.{Left, ActedAt, labelOf, aloneAt, togetherAt, leftBy, actOn}
-use Rattle.table.proofs.Tests.{every-getD, StateFine, state-fine}
-use Rattle.table.proofs.Fires.{mapA, actedOf, act-means, every-at}
+use Rattle.table.proofs.Tests.{StateFine}
+use Rattle.table.proofs.Fires.{mapA, actedOf, act-means}
 use Rattle.table.proofs.Kept.{okA, goodActed, act-kept}
 use Rattle.calls_act.specs.declared.Fired.{Fired}
 use Rattle.calls_act.specs.declared.Met.{Met}

@@ -1,6 +1,6 @@
 -- What the answer of an action stands for: document 01, *Actions* and *Questions, asked downward*. A refusal is its number with the state as it was.
 use Prim.Native.Nat.{ℕ}
-use mathlib.Core.List.{List, [], _∷_}
+use mathlib.Core.List.{List}
 use mathlib.Core.Bool.{Bool, true, false, cond}
 use mathlib.Core.Path.{_≡_}
 use lib.Dec.{eqb}
@@ -14,7 +14,6 @@ use Rattle.table.specs.declared.State.{State}
 use Rattle.table.specs.Meaning.{defsOf, compsOf, netOf}
 use Rattle.table.specs.Valid.{valid}
 use Rattle.table.specs.Fire.{ActedAt, labelOf}
-use Rattle.calls_act.specs.declared.Label.{Label}
 use Rattle.calls_act.specs.declared.Fired.{Fired}
 use Rattle.calls_act.specs.declared.Met.{Met}
 use Rattle.calls_act.specs.declared.Acted.{Acted}

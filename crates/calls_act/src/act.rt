@@ -1,7 +1,7 @@
 // An action at positions of a table that passes question 17.
 ghost use mathlib.Core.Path.{_≡_};
 ghost use mathlib.Core.Bool.{true};
-ghost use Prim.Native.Nat.{_<_, _≤_};
+ghost use Prim.Native.Nat.{_<_};
 ghost use lib.ListN.{getD, length};
 ghost use Rattle.terms.specs.Rules.Kind.{calls, moves};
 ghost use Rattle.terms.specs.Rules.Action.{single, pair};

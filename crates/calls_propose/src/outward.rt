@@ -1,5 +1,4 @@
 // The outward call.
-ghost use mathlib.Core.Path.{_≡_};
 ghost use Rattle.calls_tick.specs.Ticked.{ticksAs};
 ghost use Rattle.calls_propose.specs.Proposed.{proposeAnswer};
 use super::Record;

@@ -15,9 +15,7 @@ use Rattle.terms.proofs.Same.{reordered-perm}
 use Rattle.table.specs.declared.Comp.{Comp}
 use Rattle.table.specs.declared.State.{State}
 use Rattle.table.specs.Meaning.{means, compsOf, netOf, noComp}
-use Rattle.table.specs.Valid.{compOk, valid}
-use Rattle.table.proofs.Tests.{every-getD}
-use Rattle.table.proofs.InUse.{valid-state, comps-length, in-use, comp-at, comp-held}
+use Rattle.table.proofs.InUse.{comps-length, in-use, comp-at}
 use Rattle.calls_same.specs.Unused.{unused}
 
 -- ── how many ──

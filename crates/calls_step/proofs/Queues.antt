@@ -2,21 +2,21 @@
 -- By induction on the components; a link changed at a position that no chain has changes no chain.
 use Prim.Native.Nat.{ℕ, zero, suc, _+_, _-_, _<_, _≤_}
 use native.Mathlib.Omega.{arith}
-use mathlib.Core.List.{List, [], _∷_, _++_, cons≢nil}
-use mathlib.Core.Bool.{Bool, true, false, cond, _&&_, false≢true}
+use mathlib.Core.List.{List, [], _∷_, cons≢nil}
+use mathlib.Core.Bool.{Bool, true, false, cond, _&&_}
 use mathlib.Core.Path.{_≡_, refl, sym, ap, subst, _∙_}
-use lib.Dec.{eqb, ltb}
-use lib.ListN.{length, getD, set, take, drop, length-set, length-take, replicate}
-use lib.Seq.{getD-set-same, getD-set-other, drop-cons, drop-length, getD-take}
-use borrow.Author.Tests.{ltb-true, lt-ltb, le-ltb, eqb-true, eqb-false, eq-eqb, ne-eqb}
-use Rattle.terms.specs.Rules.{Answer, _>>=_, at, seek}
+use lib.Dec.{eqb}
+use lib.ListN.{length, getD, set, drop, length-set, replicate}
+use lib.Seq.{getD-set-same, getD-set-other, drop-length}
+use borrow.Author.Tests.{lt-ltb, eqb-true, eqb-false}
+use Rattle.terms.specs.Rules.{_>>=_, at, seek}
 use Rattle.terms.specs.Rules as R
 use Rattle.terms.specs.Rules.Answer.{refused, accepted}
 use Rattle.terms.proofs.Answers.{clash, took}
 use Rattle.table.specs.declared.Comp.{Comp}
 use Rattle.table.specs.declared.Head.{Head}
 use Rattle.table.specs.declared.Head.the-variants.{Stop, Go, Out, In, Call}
-use Rattle.table.specs.Words.{chansIn, headAt}
+use Rattle.table.specs.Words.{headAt}
 use Rattle.table.specs.Valid.{scriptOk, compOk}
 use Rattle.table.specs.Fire.{readyAt, hears}
 use Rattle.table.specs.declared.State.{State}

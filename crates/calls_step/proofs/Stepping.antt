@@ -1,30 +1,25 @@
 -- The step on a valid table stands for the step of the rules, with questions 15 and 13.
 -- By the law of the sweep (Sweeps), that of the tick's pass, and that a step never meets question 12.
-use Prim.Native.Nat.{ℕ, zero, suc, _+_, _-_, _<_, _≤_, min}
+use Prim.Native.Nat.{ℕ, suc, _+_, _-_, _<_, _≤_, min}
 use native.Mathlib.Omega.{arith}
 use native.Mathlib.Numerals.{add-one}
-use mathlib.Core.List.{List, [], _∷_, _++_, map, append-assoc, flatMap}
-use mathlib.Core.Bool.{Bool, true, false, cond, _&&_}
+use mathlib.Core.List.{List, [], _∷_, _++_, map, append-assoc}
+use mathlib.Core.Bool.{true}
 use mathlib.Core.Path.{_≡_, refl, sym, ap, subst, _∙_}
-use lib.Dec.{leb, ltb}
-use lib.ListN.{length, getD, set, take, drop, length-map, length-set, length-take}
+use lib.Dec.{leb}
+use lib.ListN.{length, getD, set, take, drop, length-map, length-take}
 use lib.Seq.{take-suc, drop-cons, set-at}
 use borrow.Author.Tests.{lt-ltb, le-ltb, le-leb, lt-leb}
-use Rattle.terms.specs.Names.{sameName}
-use Rattle.terms.specs.Terms.{Component}
-use Rattle.terms.specs.Same.{every}
-use Rattle.terms.specs.Rules.{Answer, Action, _>>=_, pass}
+use Rattle.terms.specs.Rules.{_>>=_}
 use Rattle.terms.specs.Rules.Answer.{refused, accepted}
-use Rattle.terms.specs.Step.{Swept as SweptBy, fires, step}
+use Rattle.terms.specs.Step.{fires}
 use Rattle.terms.proofs.Names.{and-in}
 use Rattle.terms.proofs.Steps.{step-accepted}
-use Rattle.table.specs.declared.Comp.{Comp}
 use Rattle.table.specs.declared.State.{State}
 use Rattle.table.specs.Words.{locsIn, locName}
 use Rattle.table.specs.Meaning.{defsOf, means, compsOf, netOf}
-use Rattle.table.specs.Valid.{scriptOk, compOk, stateOk, valid}
+use Rattle.table.specs.Valid.{scriptOk, stateOk, valid}
 use Rattle.table.specs.Fire.{passedAll}
-use Rattle.table.proofs.Tests.{StateFine}
 use Rattle.table.proofs.Ticks.{passed-all}
 use Rattle.table.proofs.Fires.{map-append}
 use Rattle.calls_act.specs.Acted.{asked}
@@ -32,11 +27,10 @@ use Rattle.calls_act.proofs.Positions.{valid-parts, length-comps}
 use Rattle.calls_tick.specs.Ticked.{room}
 use Rattle.calls_tick.proofs.Ticking.{tick-took}
 use Rattle.calls_step.specs.declared.Rec.{Rec}
-use Rattle.calls_step.specs.declared.Stepped.{Stepped}
 use Rattle.calls_step.specs.declared.Swept.{Swept}
 use Rattle.calls_step.specs.Sweep.{SweptAt, sweepAt, recOf}
 use Rattle.calls_step.specs.Visit.{SweepsAs}
-use Rattle.calls_step.specs.Stepped.{Step, stepOf, stepRule, wordsOf, refusal, Took, stepsAs}
+use Rattle.calls_step.specs.Stepped.{stepOf, stepRule, wordsOf, Took}
 use Rattle.calls_step.proofs.Sweeps.{Like, fires-like}
 
 module _ (w : List ℕ) (st : State) (l : ℕ) (v : valid w st ≡ true) (len : length (st .c) ≡ 256) (r : Swept) (s : SweepsAs w l st r) where

@@ -1,39 +1,35 @@
 -- One position of the sweep in code is one position of the sweep on the table, and the chains stay those of who still waits.
 -- By cases on the head of the component there: none, a call, a move, or a communication with the first of the chain.
-use Prim.Native.Nat.{ℕ, zero, suc, _+_, _-_, _<_, _≤_}
+use Prim.Native.Nat.{ℕ, zero, suc, _-_, _<_}
 use native.Mathlib.Omega.{arith}
-use mathlib.Core.List.{List, [], _∷_, _++_, map, cons≢nil}
-use mathlib.Core.Bool.{Bool, true, false, cond, _&&_, _||_, not, false≢true}
+use mathlib.Core.List.{List, [], _∷_, map}
+use mathlib.Core.Bool.{Bool, true, false, cond, _&&_, not, false≢true}
 use mathlib.Core.Path.{_≡_, refl, sym, ap, subst, _∙_}
 use lib.Dec.{eqb, ltb}
-use lib.ListN.{length, getD, set, length-set}
-use lib.Seq.{getD-set-same, getD-set-other}
-use borrow.Author.Tests.{ltb-true, ltb-false, lt-ltb, eqb-true, eqb-false, eq-eqb, ne-eqb}
-use Rattle.terms.specs.Same.{every}
-use Rattle.terms.specs.Rules.{Answer, Kind, Action, _>>=_, ok, at, setAll, positions, seek}
+use lib.ListN.{set}
+use borrow.Author.Tests.{ltb-true, ltb-false, lt-ltb, eqb-true, eq-eqb, ne-eqb}
+use Rattle.terms.specs.Rules.{Answer, Kind, _>>=_, at, setAll, positions, seek}
 use Rattle.terms.specs.Rules as R
 use Rattle.terms.specs.Rules.Answer.{refused, accepted}
 use Rattle.terms.specs.Rules.Kind.{calls, moves}
 use Rattle.terms.specs.Rules.Action.{single, pair}
 use Rattle.terms.proofs.Names.{and-inv}
 use Rattle.terms.proofs.Answers.{clash, took}
-use Rattle.terms.proofs.Forced.{ok-inv}
 use Rattle.table.specs.declared.Comp.{Comp}
 use Rattle.table.specs.declared.Head.{Head}
 use Rattle.table.specs.declared.Head.the-variants.{Stop, Go, Out, In, Call}
 use Rattle.table.specs.Words.{locsIn, headAt, bodyOf}
-use Rattle.table.specs.Valid.{scriptOk, compOk}
-use Rattle.table.specs.Fire.{Left, ActedAt, leftAt, becomesAt, handed, meetAt, aloneAt, togetherAt, leftBy, actOn, readyAt, hears, valueIn, loaded}
-use Rattle.table.proofs.Tests.{CompFine, comp-fine, comp-ok, script-fine}
+use Rattle.table.specs.Valid.{scriptOk}
+use Rattle.table.specs.Fire.{Left, leftAt, becomesAt, handed, meetAt, aloneAt, togetherAt, leftBy, actOn, readyAt, hears, valueIn, loaded}
+use Rattle.table.proofs.Tests.{CompFine, comp-ok, script-fine}
 use Rattle.calls_tick.proofs.Hearing.{ear-fits, inEar}
-use Rattle.table.proofs.Kept.{okA, goodActed, act-kept}
 use Rattle.calls_act.specs.declared.Fired.{Fired}
 use Rattle.calls_act.specs.declared.Met.{Met}
 use Rattle.calls_act.specs.Fired.{tagOf, oneOf, twoOf}
 use Rattle.calls_step.specs.declared.Rec.{Rec}
 use Rattle.calls_step.specs.declared.Visit.{Visit}
-use Rattle.calls_step.specs.Sweep.{chosenBy, choiceAt, SweptAt, idleAt, tookAt, takenAt, visitAt, hearers, Chain, Queued, recOf}
-use Rattle.calls_step.specs.Visit.{sentOn, sendsAt, kindBy, kindAt, Performed, otherOf, poppedOf, recBy}
+use Rattle.calls_step.specs.Sweep.{chosenBy, choiceAt, visitAt, hearers, recOf}
+use Rattle.calls_step.specs.Visit.{sentOn, sendsAt, kindBy, kindAt, Performed, recBy}
 use Rattle.calls_step.proofs.Queues.{seek-first, seek-nobody, hearers-other, hearers-first}
 
 -- ── lists ──

@@ -1,16 +1,13 @@
 -- The sweep on a valid table stands for the sweep of the rules: the same actions, and components that stand for the rules' ones.
 -- By induction on the positions; at each the choice is the same, whatever number says that there is none.
-use Prim.Native.Nat.{ℕ, zero, suc, _+_, _<_, _≤_}
-use native.Mathlib.Omega.{arith}
+use Prim.Native.Nat.{ℕ, zero, suc, _+_, _<_}
 use mathlib.Core.List.{List, [], _∷_, _++_, map}
-use mathlib.Core.Bool.{Bool, true, false, cond, _&&_, _||_, false≢true}
+use mathlib.Core.Bool.{Bool, true, false, cond, _&&_}
 use mathlib.Core.Path.{_≡_, refl, sym, ap, subst, _∙_}
 use lib.Dec.{eqb, ltb}
-use lib.ListN.{length, length-map, length-append}
-use Rattle.terms.specs.Names.{Name}
-use Rattle.terms.specs.Terms.{Component, Def}
+use lib.ListN.{length, length-map}
 use Rattle.terms.specs.Same.{every}
-use Rattle.terms.specs.Rules.{Answer, Kind, Firing, Fired, Action, Acted, _>>=_, ok, at, seek, fire, act, ready, dueGo}
+use Rattle.terms.specs.Rules.{Answer, Action, _>>=_, ok, at, seek, fire, ready, dueGo}
 use Rattle.terms.specs.Rules.Answer.{refused, accepted}
 use Rattle.terms.specs.Rules.Kind.{calls, moves}
 use Rattle.terms.specs.Rules.Firing.{alone, together}
@@ -23,7 +20,7 @@ use Rattle.table.specs.declared.Head.the-variants.{Stop, Go, Out, In, Call}
 use Rattle.table.specs.Words.{locsIn, locName, headAt}
 use Rattle.table.specs.Meaning.{defsOf, means}
 use Rattle.table.specs.Valid.{scriptOk, compOk}
-use Rattle.table.specs.Fire.{ActedAt, Left, actOn, aloneAt, togetherAt, becomesAt, meetAt, readyAt, hears}
+use Rattle.table.specs.Fire.{ActedAt, actOn, aloneAt, becomesAt, readyAt, hears}
 use Rattle.table.proofs.Tests.{CompFine, comp-fine}
 use Rattle.table.proofs.Fires.{mapA, actedOf, act-means, at-map, every-at}
 use Rattle.table.proofs.Ticks.{ready-means, alone-ok, due-here, isDue, partner-means, Ready, is-ready, meets}

@@ -8,7 +8,7 @@ use lib.ListN.{length, drop}
 use Rattle.terms.specs.Terms.{Component}
 use Rattle.terms.specs.Rules.{Answer, Action, _>>=_}
 use Rattle.terms.specs.Rules.Answer.{refused, accepted}
-use Rattle.terms.specs.Step.{Swept as SweptBy, fires, step}
+use Rattle.terms.specs.Step.{fires, step}
 use Rattle.table.specs.declared.State.{State}
 use Rattle.table.specs.Words.{locsIn, locName}
 use Rattle.table.specs.Meaning.{defsOf, netOf}

@@ -1,12 +1,12 @@
 -- The actions of a step on the table, and the inputs that wait on each channel: what the contracts of `sweep` cite.
 -- proofs/Sweeps says that this is the step's sweep of the rules (Step of the crate terms).
-use Prim.Native.Nat.{ℕ, zero, suc, _-_, _<_}
-use mathlib.Core.List.{List, [], _∷_, _++_, map}
-use mathlib.Core.Bool.{Bool, true, false, cond, _&&_}
+use Prim.Native.Nat.{ℕ, zero, suc, _<_}
+use mathlib.Core.List.{List, [], _∷_, _++_}
+use mathlib.Core.Bool.{cond, _&&_}
 use mathlib.Core.Path.{_≡_}
 use lib.Dec.{eqb}
 use lib.ListN.{length, getD}
-use Rattle.terms.specs.Rules.{Answer, Kind, Action, _>>=_, at, seek}
+use Rattle.terms.specs.Rules.{Answer, Action, _>>=_, at, seek}
 use Rattle.terms.specs.Rules.Answer.{refused, accepted}
 use Rattle.terms.specs.Rules.Kind.{calls, moves}
 use Rattle.terms.specs.Rules.Action.{single, pair}

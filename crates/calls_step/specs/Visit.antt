@@ -1,7 +1,7 @@
 -- One position of a step's sweep, in numbers: what the contracts of `sweep` cite.
-use Prim.Native.Nat.{ℕ, zero, suc, _-_, _≤_}
-use mathlib.Core.List.{List, [], _∷_, map}
-use mathlib.Core.Bool.{Bool, true, false, cond}
+use Prim.Native.Nat.{ℕ, zero, suc, _≤_}
+use mathlib.Core.List.{List, map}
+use mathlib.Core.Bool.{cond}
 use mathlib.Core.Path.{_≡_}
 use lib.Dec.{eqb, ltb}
 use lib.ListN.{length, take}
@@ -19,7 +19,7 @@ use Rattle.calls_act.specs.Fired.{oneOf, twoOf}
 use Rattle.calls_step.specs.declared.Rec.{Rec}
 use Rattle.calls_step.specs.declared.Visit.{Visit}
 use Rattle.calls_step.specs.declared.Swept.{Swept}
-use Rattle.calls_step.specs.Sweep.{SweptAt, sweepAt, recOf}
+use Rattle.calls_step.specs.Sweep.{sweepAt, recOf}
 
 -- the channel of an output; 64 for none
 unfoldable pub sentOn : Head → ℕ

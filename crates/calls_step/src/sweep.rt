@@ -1,7 +1,7 @@
 // The actions of a step: through the positions upward once. Who hears a channel is found beforehand, as a chain of positions for each channel.
 ghost use mathlib.Core.Path.{_≡_};
 ghost use mathlib.Core.Bool.{true};
-ghost use Prim.Native.Nat.{_<_, _≤_};
+ghost use Prim.Native.Nat.{_<_};
 ghost use Rattle.table.specs.Valid.{scriptOk, compOk, valid};
 ghost use Rattle.calls_step.specs.Visit.{sentOn, sendsAt, link, kindBy, kindAt, Performed, otherOf, poppedOf, recBy, SweepsAs};
 use super::Queue;

@@ -5,25 +5,20 @@ use native.Mathlib.Omega.{arith}
 use native.Mathlib.Numerals.{add-one}
 use mathlib.Core.List.{List, [], _∷_, _++_}
 use mathlib.Core.Bool.{Bool, true, false, cond, _&&_, _||_}
-use mathlib.Core.Path.{_≡_, refl, sym, ap, subst, _∙_}
-use lib.Dec.{eqb, ltb}
-use lib.ListN.{length, getD, set, take, length-set, replicate}
+use mathlib.Core.Path.{_≡_, refl, sym, ap, _∙_}
+use lib.Dec.{eqb}
+use lib.ListN.{length, getD, set, take, replicate}
 use lib.Seq.{take-suc, getD-set-same, getD-set-other}
-use borrow.Author.Tests.{ltb-true, eqb-true, eqb-false, eq-eqb, ne-eqb}
-use Rattle.terms.specs.Same.{every}
-use Rattle.terms.specs.Rules.{some, at}
-use Rattle.terms.specs.Rules.Answer.{refused, accepted}
+use borrow.Author.Tests.{ltb-true, eqb-true, eqb-false, ne-eqb}
+use Rattle.terms.specs.Rules.{some}
 use Rattle.table.specs.declared.Comp.{Comp}
-use Rattle.table.specs.declared.State.{State}
 use Rattle.table.specs.declared.Head.{Head}
 use Rattle.table.specs.declared.Head.the-variants.{Stop, Go, Out, In, Call}
 use Rattle.table.specs.Words.{chansIn, headAt}
-use Rattle.table.specs.Meaning.{compsOf, noComp}
-use Rattle.table.specs.Valid.{headOk, scriptOk, compOk, valid}
-use Rattle.table.specs.Fire.{readyAt, hears, pressesAt, forcedAt}
+use Rattle.table.specs.Valid.{headOk, scriptOk, compOk}
+use Rattle.table.specs.Fire.{readyAt, hears, pressesAt}
 use Rattle.table.proofs.Tests.{script-fine, part-fine, comp-fine}
 use Rattle.table.proofs.Places.{out-fine, in-fine}
-use Rattle.calls_act.proofs.Positions.{at-take, valid-parts}
 use Rattle.calls_tick.specs.Heard.{heardOn, hearsAt, Heard, pressesBy, pressedBy}
 
 -- ── lists ──

@@ -4,11 +4,10 @@ use Prim.Native.Nat.{ℕ, zero, suc, _+_, _-_, _*_, _<_, _≤_, min}
 use native.Mathlib.Omega.{arith}
 use native.Mathlib.Numerals.{add-one}
 use mathlib.Core.List.{List, [], _∷_, _++_, append-assoc, append-nil}
-use mathlib.Core.Bool.{Bool, true, false}
-use mathlib.Core.Path.{_≡_, refl, sym, ap, subst, _∙_}
+use mathlib.Core.Bool.{true}
+use mathlib.Core.Path.{_≡_, refl, sym, ap, _∙_}
 use lib.ListN.{length, getD, set, take, drop, length-append, length-take, length-set}
-use lib.Seq.{take-suc-set, drop-cons, drop-drop, getD-take, drop-length}
-use Rattle.table.specs.declared.Comp.{Comp}
+use lib.Seq.{take-suc-set, drop-drop, drop-length}
 use Rattle.table.specs.declared.State.{State}
 use Rattle.table.specs.Words.{partsIn}
 use Rattle.table.specs.Meaning.{compsOf, noComp}
@@ -17,9 +16,7 @@ use Rattle.table.specs.Fire.{passedAll}
 use Rattle.table.proofs.Tests.{script-fine}
 use Rattle.calls_act.proofs.Positions.{valid-parts, few-comps, comp-good, length-comps}
 use Rattle.calls_tick.specs.declared.Turn.{Turn}
-use Rattle.calls_tick.specs.declared.Passed.{Passed}
 use Rattle.calls_tick.specs.Turn.{stepOf, turnOf, remaining}
-use Rattle.calls_tick.specs.Ticked.{passes}
 use Rattle.calls_tick.proofs.Turns.{turn-next, remaining-begin, remaining-turn, remaining-some}
 use Rattle.table.proofs.InUse.{from-here}
 

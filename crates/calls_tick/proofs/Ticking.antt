@@ -2,28 +2,23 @@
 -- By the laws of the forced test and of the pass on the table; what is left still passes question 17, since nothing is ever removed.
 use Prim.Native.Nat.{ℕ, _<_, _≤_}
 use native.Mathlib.Omega.{arith}
-use mathlib.Core.List.{List, [], _∷_, map}
-use mathlib.Core.Bool.{Bool, true, false, cond, _&&_}
-use mathlib.Core.Path.{_≡_, refl, sym, ap, subst, _∙_}
-use lib.Dec.{leb, ltb}
+use mathlib.Core.List.{List, map}
+use mathlib.Core.Bool.{true, false, cond}
+use mathlib.Core.Path.{_≡_, refl, ap, _∙_}
 use lib.ListN.{length, length-map}
 use borrow.Author.Tests.{lt-ltb, le-ltb, le-leb, lt-leb}
-use Rattle.terms.specs.Terms.{Component}
-use Rattle.terms.specs.Rules.{Answer, _>>=_, tick}
+use Rattle.terms.specs.Rules.{_>>=_}
 use Rattle.terms.specs.Rules.Answer.{refused, accepted}
 use Rattle.terms.proofs.Names.{and-in}
-use Rattle.table.specs.declared.Comp.{Comp}
 use Rattle.table.specs.declared.State.{State}
-use Rattle.table.specs.Words.{locsIn, locName}
-use Rattle.table.specs.Meaning.{defsOf, means, compsOf, netOf}
-use Rattle.table.specs.Valid.{scriptOk, compOk, stateOk, valid}
+use Rattle.table.specs.Words.{locsIn}
+use Rattle.table.specs.Meaning.{means, compsOf, netOf}
+use Rattle.table.specs.Valid.{stateOk, valid}
 use Rattle.table.specs.Fire.{forcedAt, passedAll}
 use Rattle.table.proofs.Ticks.{tick-means}
 use Rattle.table.proofs.Kept.{tick-kept, tick-grows}
-use Rattle.calls_act.specs.Acted.{asked}
 use Rattle.calls_act.proofs.Positions.{valid-parts, length-comps}
-use Rattle.calls_tick.specs.declared.Ticked.{Ticked}
-use Rattle.calls_tick.specs.Ticked.{room, tickRule, refusal, Took, ticksAs}
+use Rattle.calls_tick.specs.Ticked.{room, tickRule, Took}
 
 -- question 8
 pub tick-out : (w : List ℕ) (st : State) (l : ℕ) → locsIn w ≤ l → tickRule w st l ≡ refused 8

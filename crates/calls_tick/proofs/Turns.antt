@@ -2,16 +2,16 @@
 -- By the law that a split begins with a fresh part and goes on with the next one.
 use Prim.Native.Nat.{ℕ, zero, suc, _+_, _-_, _<_, _≤_}
 use native.Mathlib.Omega.{arith}
-use mathlib.Core.List.{List, [], _∷_, _++_, append-assoc, flatMap}
-use mathlib.Core.Bool.{Bool, true, false, cond, _&&_}
-use mathlib.Core.Path.{_≡_, refl, sym, ap, subst, _∙_}
+use mathlib.Core.List.{List, [], _∷_, _++_, flatMap}
+use mathlib.Core.Bool.{Bool, true, false, cond}
+use mathlib.Core.Path.{_≡_, refl, sym, ap, _∙_}
 use lib.Dec.{eqb, ltb}
-use lib.ListN.{length, getD, set, take, drop, length-append}
+use lib.ListN.{length, drop, length-append}
 use Rattle.terms.specs.Clock.{lessRaw}
 use Rattle.table.specs.declared.Comp.{Comp}
 use Rattle.table.specs.declared.Head.{Head}
 use Rattle.table.specs.declared.Head.the-variants.{Stop, Go, Out, In, Call}
-use Rattle.table.specs.Words.{partsIn, headAt, nextAt, scopeAt}
+use Rattle.table.specs.Words.{partsIn, headAt, nextAt}
 use Rattle.table.specs.Valid.{headOk, nextOk, scriptOk, compOk}
 use Rattle.table.specs.Split.{fresh, andThen, partsFrom, splitAt, timed, orElse, waited, passed}
 use Rattle.table.specs.Fire.{passedAll}

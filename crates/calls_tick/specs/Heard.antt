@@ -1,6 +1,6 @@
 -- Which channels are heard at a location, and what presses there: what the contracts of `forced` cite.
 use Prim.Native.Nat.{ℕ, _<_}
-use mathlib.Core.List.{List, [], _∷_}
+use mathlib.Core.List.{List}
 use mathlib.Core.Bool.{Bool, true, false, cond, _&&_}
 use mathlib.Core.Path.{_≡_}
 use lib.Dec.{eqb}

@@ -1,7 +1,7 @@
 -- What the answer of a tick stands for: document 01, *The tick at l* and *Questions, asked downward*.
 use Prim.Native.Nat.{ℕ, _<_}
-use mathlib.Core.List.{List, [], _∷_}
-use mathlib.Core.Bool.{Bool, true, false, cond}
+use mathlib.Core.List.{List}
+use mathlib.Core.Bool.{true, false}
 use mathlib.Core.Path.{_≡_}
 use lib.Dec.{leb, ltb}
 use lib.ListN.{length}
@@ -13,7 +13,6 @@ use Rattle.table.specs.declared.State.{State}
 use Rattle.table.specs.Words.{locsIn, locName}
 use Rattle.table.specs.Meaning.{defsOf, compsOf, netOf}
 use Rattle.table.specs.Valid.{valid}
-use Rattle.table.specs.Fire.{passedAll}
 use Rattle.calls_act.specs.Acted.{asked}
 use Rattle.calls_tick.specs.declared.Ticked.{Ticked}
 use Rattle.calls_tick.specs.declared.Passed.{Passed}

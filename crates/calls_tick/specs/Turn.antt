@@ -1,7 +1,7 @@
 -- The tick, one component written at a time: what the contracts of `pass` cite.
 use Prim.Native.Nat.{ℕ, zero, suc, _+_}
 use mathlib.Core.List.{List, [], _∷_, _++_}
-use mathlib.Core.Bool.{Bool, true, false, cond}
+use mathlib.Core.Bool.{cond}
 use lib.Dec.{eqb, ltb}
 use Rattle.terms.specs.Clock.{lessRaw}
 use Rattle.table.specs.declared.Comp.{Comp}

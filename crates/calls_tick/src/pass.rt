@@ -2,7 +2,7 @@
 ghost use mathlib.Core.Path.{_≡_};
 ghost use mathlib.Core.Bool.{true};
 ghost use Prim.Native.Nat.{_<_, _≤_};
-ghost use Rattle.table.specs.Words.{partsIn, headAt};
+ghost use Rattle.table.specs.Words.{partsIn};
 ghost use Rattle.table.specs.Meaning.{compsOf};
 ghost use Rattle.table.specs.Valid.{scriptOk, compOk, valid, headOk};
 ghost use Rattle.table.specs.Split.{timerIn, fresh, timed};

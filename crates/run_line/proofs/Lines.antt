@@ -17,7 +17,7 @@ use Rattle.terms.specs.Rules.{Answer, Action, Acted as ActedBy, _>>=_, ok, act,
 use Rattle.terms.specs.Rules.Answer.{refused, accepted}
 use Rattle.terms.specs.Rules.Kind.{calls, moves}
 use Rattle.terms.specs.Rules.Action.{single, pair}
-use Rattle.terms.specs.Step.{fires, step}
+use Rattle.terms.specs.Step.{fires}
 use Rattle.terms.proofs.Steps.{step-accepted}
 use Rattle.table.specs.declared.State.{State}
 use Rattle.table.specs.Words.{locsIn, nameAt, locName, chanName, defName}
@@ -25,7 +25,6 @@ use Rattle.table.specs.Meaning.{defsOf, netOf}
 use Rattle.table.specs.Valid.{valid}
 use Rattle.table.specs.Fire.{labelOf}
 use Rattle.table.proofs.Tests.{every-getD}
-use Rattle.calls_act.specs.declared.Label.{Label as Numbers}
 use Rattle.calls_act.specs.declared.Acted.{Acted}
 use Rattle.calls_act.specs.Fired.{tagOf}
 use Rattle.calls_act.specs.Acted.{asked, actionOf, actionRule, actsAs}
@@ -36,6 +35,7 @@ use Rattle.calls_step.specs.Stepped.{stepOf, stepRule, stepAnswer, wordsOf, Too
 use Rattle.run_line.specs.Line.{labelText, spaced, stepLabels}
 use Rattle.run_line.specs.Records.{labelBy, answerBy, labelIn, mayFire, Holds}
 use Rattle.run_line.proofs.Labels.{Before, step-before}
+use Rattle.calls_act.specs.declared.Label.{Label as Numbers}
 
 -- ── the label of one record ──
 -- a label in numbers, by its kind; o is the number of the definition called or of the location moved to

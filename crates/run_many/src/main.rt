@@ -1,6 +1,5 @@
 // A test program: the printouts of many texts. Each text of its input, and each printout that it writes, is followed by a line `#`, a sign that stands in
 // neither. Its input and output are the reference engine's `vectors`.
-ghost use mathlib.Core.Path.{_≡_};
 ghost use Prim.Native.Nat.{_≤_};
 ghost use lib.ListN.{length};
 

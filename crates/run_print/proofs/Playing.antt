@@ -2,31 +2,28 @@
 use Prim.Native.Nat.{ℕ, zero, suc, _+_, _-_, _≤_, _<_}
 use native.Mathlib.Omega.{arith}
 use native.Mathlib.Numerals.{add-one}
-use mathlib.Core.Bool.{Bool, true, false, cond, false≢true}
-use mathlib.Core.List.{List, [], _∷_, _++_, append-assoc, append-nil}
+use mathlib.Core.Bool.{Bool, true, false, cond}
+use mathlib.Core.List.{List, [], _∷_, _++_, append-nil}
 use mathlib.Core.Path.{_≡_, refl, sym, ap, _∙_}
-use borrow.Author.Tests.{le-leb, lt-ltb, leb-true, ltb-true}
-use lib.Dec.{leb, ltb}
-use lib.ListN.{length, take, drop, getD, length-map, drop-of-length-le}
+use borrow.Author.Tests.{le-leb, lt-ltb, leb-true}
+use lib.Dec.{leb}
+use lib.ListN.{length, take, drop, getD, drop-of-length-le}
 use lib.Seq.{take-at, drop-cons}
 use Rattle.terms.specs.Names.{Name, bytes}
 use Rattle.terms.specs.Terms.{Component, Def, Network}
-use Rattle.terms.specs.Rules.{Answer, Action, unmarked, _>>=_}
+use Rattle.terms.specs.Rules.{Answer, Action, _>>=_}
 use Rattle.terms.specs.Rules.Answer.{refused, accepted}
 use Rattle.terms.specs.Step.{Swept, fires, step}
-use Rattle.terms.specs.Same.{every}
-use Rattle.terms.proofs.Names.{and-inv}
 use Rattle.terms.proofs.Steps.{step-accepted}
 use Rattle.text.specs.Tokens.{lex}
 use Rattle.text.specs.Tree.{Tree, networkOf}
 use Rattle.text.specs.Grammar.{Rest, text}
 use Rattle.text.specs.Grammar.Rest.{ok, bad}
 use Rattle.text.specs.Questions.{ask, _>>_, short, whole, form, shallow, fits, distinct, callsMet, bound, read}
-use Rattle.text.specs.Write.{write}
 use Rattle.table.specs.declared.State.{State}
 use Rattle.table.specs.Words.{locsIn, locName}
-use Rattle.table.specs.Meaning.{listFrom, defsOf, compsOf, netOf, networkOf as tableNetwork, noComp}
-use Rattle.table.specs.Valid.{compOk, stateOk, valid}
+use Rattle.table.specs.Meaning.{defsOf, netOf, networkOf as tableNetwork, noComp}
+use Rattle.table.specs.Valid.{valid}
 use Rattle.table.proofs.Tests.{length-listFrom, getD-listFrom, script-fine, comp-fine}
 use Rattle.text_build.specs.Rows.{locsOf}
 use Rattle.calls_act.proofs.Positions.{valid-parts, comp-good}
@@ -37,15 +34,15 @@ use Rattle.calls_step.specs.Stepped.{stepOf, stepRule, stepAnswer, stepsAs}
 use Rattle.text_write.specs.declared.Written.{Written}
 use Rattle.text_write.specs.Put.{Wrote}
 use Rattle.text_write.specs.Answer.{textOf, noMark, writeAnswer, Answers}
-use Rattle.text_write.proofs.Puts.{same, then, Left, begun, last, left-as}
-use Rattle.text_write.proofs.Puts.{step as put-step}
+use Rattle.text_write.proofs.Puts.{same, Left, begun, last, left-as}
 use Rattle.run_line.specs.Line.{lineText, stepLabels}
 use Rattle.run_line.proofs.Fits.{fires-few}
 use Rattle.text_read.specs.declared.Reading.{Reading}
 use Rattle.text_read.specs.Answer.{locationsIn, refusal, readsAs, ReadsAs}
 use Rattle.run_print.specs.declared.Turned.{Turned}
 use Rattle.run_print.specs.Print.{refusedText, Turn, turnOf, ending, followed, playing, four, printed, printout}
-use Rattle.run_print.specs.Turned.{Stopped, Went, TurnIs}
+use Rattle.run_print.specs.Turned.{TurnIs}
+use Rattle.text_write.proofs.Puts.{step as put-step}
 
 -- ── a valid network has at least one location, and at most 64 ──
 pub locs-few : (w : List ℕ) (st : State) → valid w st ≡ true → locsIn w ≤ 64

@@ -5,22 +5,20 @@ use native.Mathlib.Omega.{arith}
 use mathlib.Core.List.{List, [], _∷_, _++_, map}
 use mathlib.Core.Bool.{Bool, true, false, cond, _&&_, _||_}
 use mathlib.Core.Path.{_≡_, refl, ap, sym, _∙_}
-use lib.Dec.{eqb, leb, ltb}
+use lib.Dec.{eqb, ltb}
 use lib.ListN.{length, getD, set, take, length-map, length-take}
-use borrow.Author.Tests.{ltb-true, ltb-false, lt-ltb, le-ltb, leb-true, eqb-true, eqb-false, eq-eqb, ne-eqb}
+use borrow.Author.Tests.{ltb-true, lt-ltb, eqb-true, eqb-false, eq-eqb}
 use Rattle.terms.specs.Names.{Name, sameName}
-use Rattle.terms.specs.Terms.{Timer, Value, Part, Process, Mark, Component, Def, Label}
+use Rattle.terms.specs.Terms.{Part}
 use Rattle.terms.specs.Terms.Value.{loc, var}
-use Rattle.terms.specs.Terms.Part.{stop, go, out, inp, call}
-use Rattle.terms.specs.Terms.Process.{one, _∥_}
-use Rattle.terms.specs.Terms.Mark.{none, by}
+use Rattle.terms.specs.Terms.Part.{go}
+use Rattle.terms.specs.Terms.Mark.{by}
 use Rattle.terms.specs.Terms.Component.{comp}
-use Rattle.terms.specs.Terms.Def.{define}
-use Rattle.terms.specs.Terms.Label.{called, moved, sent}
+use Rattle.terms.specs.Terms.Label.{sent}
 use Rattle.terms.specs.Letters.{isSmall, isIdentifier}
 use Rattle.terms.specs.Same.{every}
-use Rattle.terms.specs.Substitution.{Env, Held, held, env, just, hide, sub, subP, subV, subVs}
-use Rattle.terms.specs.Rules.{Answer, Kind, Action, Acted, Firing, Fired, Became, Met, _>>=_, ok, at, setAll, positions, locations, filled, body, becomes, meet, fire, firingAt, act}
+use Rattle.terms.specs.Substitution.{held, env, just, hide, sub, subP, subV, subVs}
+use Rattle.terms.specs.Rules.{Answer, Kind, Action, Acted, Fired, Became, Met, _>>=_, at, setAll, positions, locations, filled, body, becomes, meet, fire, firingAt, act}
 use Rattle.terms.specs.Rules as R
 use Rattle.terms.specs.Rules.Answer.{refused, accepted}
 use Rattle.terms.specs.Rules.Kind.{calls, moves}
@@ -33,12 +31,12 @@ use Rattle.terms.proofs.Answers.{clash, took}
 use Rattle.table.specs.declared.Head.{Head}
 use Rattle.table.specs.declared.Head.the-variants.{Stop, Go, Out, In, Call}
 use Rattle.table.specs.declared.Comp.{Comp}
-use Rattle.table.specs.Words.{partsIn, locsIn, chansIn, defsIn, nameAt, locName, chanName, defName, arityOf, bodyOf, paramsAt, paramsOf, field, headAt, ownAt, boundAt, scopeAt, namesAt, atMost8}
-use Rattle.table.specs.Meaning.{valueOf, valuesOf, partOf, processAt, partAt, listFrom, defOf, defsOf, withTimer, envAt, markOf, processOf, means}
-use Rattle.table.specs.Valid.{index, slotOk, refOk, entered, headOk, scopeOk, scriptOk, compOk}
-use Rattle.table.specs.Fire.{Tag, Left, ActedAt, labelOf, valueIn, leftAt, argIn, loaded, becomesAt, handed, meetAt, aloneAt, togetherAt, leftBy, actOn}
+use Rattle.table.specs.Words.{locsIn, chansIn, defsIn, nameAt, locName, chanName, defName, arityOf, bodyOf, paramsAt, paramsOf, headAt, ownAt, boundAt, scopeAt, namesAt}
+use Rattle.table.specs.Meaning.{valueOf, valuesOf, partOf, processAt, partAt, listFrom, defOf, defsOf, withTimer, envAt, means}
+use Rattle.table.specs.Valid.{index, slotOk, refOk, entered, headOk, scriptOk, compOk}
+use Rattle.table.specs.Fire.{Left, ActedAt, labelOf, valueIn, leftAt, argIn, loaded, becomesAt, handed, meetAt, aloneAt, togetherAt, leftBy, actOn}
 use Rattle.table.proofs.Scopes.{enter, enter-is, received, slotted, index-enter}
-use Rattle.table.proofs.Tests.{every-getD, Inner, PartFine, part-fine, ScriptFine, script-fine, DefFine, def-fine, CompFine, comp-fine, held-once}
+use Rattle.table.proofs.Tests.{part-fine, script-fine, def-fine, CompFine, comp-fine, held-once}
 use Rattle.table.proofs.Places.{go-fine, out-fine, in-fine}
 use Rattle.table.proofs.Splits.{unmarked-is, marked-is, loc-eqb, same-scope}
 

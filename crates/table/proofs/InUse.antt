@@ -5,7 +5,7 @@ use native.Mathlib.Omega.{arith}
 use native.Mathlib.Numerals.{add-one}
 use mathlib.Core.List.{List, _∷_}
 use mathlib.Core.Bool.{true}
-use mathlib.Core.Path.{_≡_, ap, sym, _∙_}
+use mathlib.Core.Path.{_≡_, _∙_}
 use lib.ListN.{length, getD, drop}
 use lib.Seq.{drop-cons, getD-take, length-take-le}
 use Rattle.terms.proofs.Names.{and-inv}

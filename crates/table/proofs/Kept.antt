@@ -1,13 +1,13 @@
 -- Actions and ticks keep what question 17 asks of components, so that it never stands in the way of what the rules allow.
 -- By cases on what fires: places go to lesser places, values come from slots in range.
-use Prim.Native.Nat.{ℕ, zero, suc, _+_, _-_, _≤_, _<_}
+use Prim.Native.Nat.{ℕ, zero, suc, _-_, _≤_, _<_}
 use native.Mathlib.Omega.{arith}
-use mathlib.Core.List.{List, [], _∷_, _++_, map, flatMap}
+use mathlib.Core.List.{List, [], _∷_, flatMap}
 use mathlib.Core.Bool.{Bool, true, false, cond, _&&_, _||_}
-use mathlib.Core.Path.{_≡_, refl, ap, sym, _∙_}
+use mathlib.Core.Path.{_≡_, refl, _∙_}
 use lib.Dec.{eqb, leb, ltb}
 use lib.ListN.{length, getD, set, take, length-append, length-set}
-use borrow.Author.Tests.{ltb-true, leb-true, leb-false, lt-ltb, le-leb, eqb-true}
+use borrow.Author.Tests.{ltb-true, leb-true, lt-ltb, le-leb, eqb-true}
 use Rattle.terms.specs.Names.{Name}
 use Rattle.terms.specs.Same.{every}
 use Rattle.terms.specs.Clock.{lessRaw}
@@ -20,11 +20,11 @@ use Rattle.terms.proofs.Names.{and-inv, and-in}
 use Rattle.table.specs.declared.Head.{Head}
 use Rattle.table.specs.declared.Head.the-variants.{Stop, Go, Out, In, Call}
 use Rattle.table.specs.declared.Comp.{Comp}
-use Rattle.table.specs.Words.{partsIn, locsIn, defsIn, arityOf, bodyOf, headAt, nextAt, scopeAt, namesAt}
+use Rattle.table.specs.Words.{partsIn, locsIn, defsIn, arityOf, bodyOf, headAt, nextAt, namesAt}
 use Rattle.table.specs.Valid.{index, slotOk, refOk, headOk, nextOk, scriptOk, markOk, compOk, timerOk}
 use Rattle.table.specs.Split.{timerIn, fresh, andThen, partsFrom, splitAt, timed, orElse, waited, passed}
-use Rattle.table.specs.Fire.{Tag, Left, ActedAt, valueIn, leftAt, argIn, loaded, becomesAt, handed, meetAt, aloneAt, togetherAt, leftBy, actOn, passedAll}
-use Rattle.table.proofs.Tests.{every-getD, every-append, Inner, inner, part-fine, script-fine, def-fine, CompFine, comp-fine, comp-ok}
+use Rattle.table.specs.Fire.{Left, ActedAt, valueIn, leftAt, argIn, loaded, becomesAt, handed, meetAt, aloneAt, togetherAt, leftBy, actOn, passedAll}
+use Rattle.table.proofs.Tests.{every-getD, every-append, inner, part-fine, def-fine, CompFine, comp-fine, comp-ok}
 use Rattle.table.proofs.Places.{go-fine, out-fine, in-fine}
 use Rattle.table.proofs.Fires.{scope-length, names-length, every-at}
 

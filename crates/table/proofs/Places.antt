@@ -1,21 +1,20 @@
 -- The process at a place of a valid script is its part followed by the process at its next; how deep one looks does not matter.
 -- By induction on the depth: every link goes to a lesser place.
-use Prim.Native.Nat.{ℕ, zero, suc, _≤_, _<_}
+use Prim.Native.Nat.{ℕ, zero, suc, _<_}
 use native.Mathlib.Omega.{arith}
-use mathlib.Core.List.{List, [], _∷_, map}
-use mathlib.Core.Bool.{Bool, true, false, _&&_}
-use mathlib.Core.Path.{_≡_, refl, ap, sym, _∙_}
+use mathlib.Core.List.{List}
+use mathlib.Core.Bool.{true}
+use mathlib.Core.Path.{_≡_, refl}
 use lib.Dec.{ltb, eqb}
-use Rattle.terms.specs.Names.{Name}
 use Rattle.terms.specs.Terms.{Part, Process}
 use Rattle.terms.specs.Letters.{isSmall}
 use Rattle.terms.proofs.Names.{and-inv}
 use Rattle.table.specs.declared.Head.{Head}
 use Rattle.table.specs.declared.Head.the-variants.{Stop, Go, Out, In, Call}
-use Rattle.table.specs.Words.{partsIn, chansIn, locsIn, headAt, nextAt, boundAt, scopeAt, namesAt}
+use Rattle.table.specs.Words.{partsIn, chansIn, headAt, nextAt, boundAt, scopeAt, namesAt}
 use Rattle.table.specs.Meaning.{partOf, joined, deep, processAt, partAt}
 use Rattle.table.specs.Valid.{index, timerOk, refOk, innerOk, entered, headOk, nextOk, scriptOk}
-use Rattle.table.proofs.Tests.{Inner, inner, PartFine, part-fine}
+use Rattle.table.proofs.Tests.{Inner, inner, part-fine}
 
 -- ── the inner processes of a head ──
 pub record GoFine (w : List ℕ) (i t v p : ℕ) : Type 0 where

@@ -1,16 +1,16 @@
 -- Setting a slot is putting a value in, shadowing included; a variable's value is in its slot.
 -- Idea: the environment of a scope looks a name up at its first index, and an input enters its name there.
-use Prim.Native.Nat.{ℕ, zero, suc, _≤_, _<_}
+use Prim.Native.Nat.{suc, _≤_, _<_}
 use native.Mathlib.Omega.{arith}
-use mathlib.Core.List.{List, [], _∷_, _++_, map}
+use mathlib.Core.List.{List, [], _∷_, _++_}
 use mathlib.Core.Bool.{Bool, true, false, cond}
-use mathlib.Core.Path.{_≡_, refl, ap, sym, _∙_, fun-ext}
+use mathlib.Core.Path.{_≡_, refl, ap, _∙_, fun-ext}
 use lib.Dec.{ltb}
 use lib.ListN.{length, getD, set}
 use borrow.Author.Tests.{lt-ltb, le-ltb, ltb-true, ltb-false}
 use Rattle.terms.specs.Names.{Name, sameName}
 use Rattle.terms.specs.Terms.{Process}
-use Rattle.terms.specs.Substitution.{Held, Env, just, env, hide, subP}
+use Rattle.terms.specs.Substitution.{Held, just, env, hide, subP}
 use Rattle.terms.specs.Substitution.Held.{unset, is}
 use Rattle.terms.proofs.Names.{name-eq, name-refl}
 use Rattle.terms.proofs.Substitution.{else, both, twiceP}

@@ -1,15 +1,13 @@
 -- A valid script is a forest: the process at a place has as many parts as there are places from its least to it. So no table stands for a term that is
 -- larger than itself, however it was made. By induction on the place, from where P, Q and the next part lie.
-use Prim.Native.Nat.{ℕ, zero, suc, _+_, _≤_, _<_}
+use Prim.Native.Nat.{ℕ, zero, suc, _+_, _<_}
 use native.Mathlib.Omega.{arith}
-use mathlib.Core.List.{List, [], _∷_}
-use mathlib.Core.Bool.{Bool, true, false, _&&_}
-use mathlib.Core.Path.{_≡_, refl, ap, sym, _∙_}
+use mathlib.Core.List.{List}
+use mathlib.Core.Bool.{true}
+use mathlib.Core.Path.{_≡_}
 use lib.Dec.{eqb}
 use borrow.Author.Tests.{eqb-true}
-use Rattle.terms.specs.Terms.{Timer, Value, Part, Process}
-use Rattle.terms.specs.Terms.Part.{stop, go, out, inp, call}
-use Rattle.terms.specs.Terms.Process.{one, _∥_}
+use Rattle.terms.specs.Terms.{Part, Process}
 use Rattle.terms.proofs.Names.{and-inv}
 use Rattle.table.specs.declared.Head.{Head}
 use Rattle.table.specs.declared.Head.the-variants.{Stop, Go, Out, In, Call}
@@ -17,7 +15,7 @@ use Rattle.table.specs.Words.{partsIn, headAt, nextAt, lowAt, boundAt, n
 use Rattle.table.specs.Meaning.{partOf, joined, processAt, partAt}
 use Rattle.table.specs.Size.{size, sizeP}
 use Rattle.table.specs.Valid.{headOk, nextOk, stacked, floor, lowOk, treeOk, scriptOk}
-use Rattle.table.proofs.Tests.{inner, PartFine, part-fine}
+use Rattle.table.proofs.Tests.{inner, part-fine}
 use Rattle.table.proofs.Places.{go-fine, out-fine, in-fine, process-is}
 
 module _ (w : List ℕ) where

@@ -1,24 +1,22 @@
 -- What a tick makes of a component on the table stands for what the rules make of what the component stands for.
 -- Idea: a component's own timer takes the place of the written one; a process splits along its chain of next parts, left to right.
-use Prim.Native.Nat.{ℕ, zero, suc, _-_, _≤_, _<_}
+use Prim.Native.Nat.{ℕ, zero, suc, _-_, _<_}
 use native.Mathlib.Omega.{arith}
-use mathlib.Core.List.{List, [], _∷_, _++_, map}
-use mathlib.Core.Bool.{Bool, true, false, cond, _&&_, _||_}
-use mathlib.Core.Path.{_≡_, refl, ap, sym, _∙_}
-use lib.Dec.{eqb, leb, ltb}
-use lib.ListN.{length, take}
-use borrow.Author.Tests.{ltb-true, ltb-false, lt-ltb, le-ltb, leb-true, leb-false, le-leb, eqb-true, eqb-false}
+use mathlib.Core.List.{List, [], _∷_, map}
+use mathlib.Core.Bool.{Bool, true, false, cond, _||_}
+use mathlib.Core.Path.{_≡_, refl, ap, _∙_}
+use lib.Dec.{eqb, ltb}
+use borrow.Author.Tests.{ltb-true, eqb-true}
 use Rattle.terms.specs.Names.{Name, sameName}
-use Rattle.terms.specs.Terms.{Timer, Value, Part, Process, Mark, Component, Def, less, expired}
-use Rattle.terms.specs.Terms.Part.{stop, go, out, inp, call}
-use Rattle.terms.specs.Terms.Process.{one, _∥_}
+use Rattle.terms.specs.Terms.{Timer, Part, Process, less, expired}
+use Rattle.terms.specs.Terms.Part.{go}
+use Rattle.terms.specs.Terms.Process.{one}
 use Rattle.terms.specs.Terms.Mark.{none, by}
 use Rattle.terms.specs.Terms.Component.{comp}
-use Rattle.terms.specs.Substitution.{Env, env, sub, subP}
+use Rattle.terms.specs.Substitution.{Env, sub, subP}
 use Rattle.terms.specs.Letters.{isLocation}
 use Rattle.terms.specs.Rules.{wait, split, pass}
 use Rattle.terms.specs.Clock.{ticksOf, lessRaw}
-use Rattle.terms.proofs.Names.{and-inv}
 use Rattle.terms.proofs.Clock.{expired-is, less-raw}
 use Rattle.table.specs.declared.Head.{Head}
 use Rattle.table.specs.declared.Head.the-variants.{Stop, Go, Out, In, Call}
@@ -27,7 +25,7 @@ use Rattle.table.specs.Words.{partsIn, locsIn, locName, headAt, nextAt, 
 use Rattle.table.specs.Meaning.{partOf, joined, processAt, partAt, withTimer, envAt, markOf, processOf, means}
 use Rattle.table.specs.Valid.{headOk, nextOk, scriptOk, markOk}
 use Rattle.table.specs.Split.{timerIn, fresh, andThen, partsFrom, splitAt, timed, orElse, waited, passed}
-use Rattle.table.proofs.Tests.{Inner, inner, PartFine, part-fine, ScriptFine, script-fine, CompFine, held-once}
+use Rattle.table.proofs.Tests.{Inner, inner, part-fine, script-fine, CompFine, held-once}
 use Rattle.table.proofs.Places.{out-fine, in-fine, process-is}
 
 -- ── timers ──

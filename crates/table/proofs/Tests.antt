@@ -2,12 +2,12 @@
 -- By taking the conjunctions apart.
 use Prim.Native.Nat.{ℕ, zero, suc, _+_, _-_, _≤_, _<_}
 use native.Mathlib.Omega.{arith}
-use mathlib.Core.List.{List, [], _∷_, _++_, map}
-use mathlib.Core.Bool.{Bool, true, false, cond, _&&_, _||_, not, false≢true}
-use mathlib.Core.Path.{_≡_, refl, ap, sym, _∙_}
+use mathlib.Core.List.{List, [], _∷_, _++_}
+use mathlib.Core.Bool.{Bool, true, false, _&&_, _||_, not, false≢true}
+use mathlib.Core.Path.{_≡_, refl, ap, _∙_}
 use lib.Dec.{eqb, leb, ltb}
 use lib.ListN.{length, getD}
-use borrow.Author.Tests.{ltb-true, ltb-false, leb-true, lt-ltb, le-leb, eqb-true, eqb-false, eq-eqb, ne-eqb}
+use borrow.Author.Tests.{ltb-true, ltb-false, leb-true, lt-ltb, eqb-true, eqb-false}
 use Rattle.terms.specs.Names.{Name, sameName}
 use Rattle.terms.specs.Rules.{some}
 use Rattle.terms.specs.Letters.{isLocation, isSmall, isIdentifier, member}
@@ -15,9 +15,9 @@ use Rattle.terms.specs.Same.{every}
 use Rattle.terms.proofs.Names.{and-inv, and-in, name-eq, name-refl}
 use Rattle.table.specs.declared.Comp.{Comp}
 use Rattle.table.specs.declared.State.{State}
-use Rattle.table.specs.Words.{partsIn, locsIn, chansIn, defsIn, nameAt, locName, chanName, arityOf, bodyOf, defName, paramsAt, paramsOf, field, headAt, nextAt, scopeAt, namesAt}
+use Rattle.table.specs.Words.{partsIn, locsIn, chansIn, defsIn, locName, chanName, arityOf, bodyOf, defName, paramsAt, paramsOf, field, headAt, nextAt, scopeAt}
 use Rattle.table.specs.Meaning.{listFrom, compsOf}
-use Rattle.table.specs.Valid.{below, alike, distinct, timerOk, innerOk, headOk, nextOk, scopeOk, treeOk, partOk, defOk, sortOk, scriptOk, markOk, compOk, stateOk, valid}
+use Rattle.table.specs.Valid.{below, alike, distinct, timerOk, innerOk, headOk, nextOk, scopeOk, treeOk, partOk, defOk, sortOk, scriptOk, markOk, compOk, stateOk}
 
 -- ── lists and numbers ──
 pub below-at : (n : ℕ) (f : ℕ → Bool) → below n f ≡ true → (i : ℕ) → i < n → f i ≡ true

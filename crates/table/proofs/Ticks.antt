@@ -1,22 +1,20 @@
 -- When a tick is allowed on the table, and what it leaves, stand for what the rules say of what the components stand for.
 -- Idea: the forced test looks at each component where it stands (Forced of the crate below), and a head that presses is a part that presses.
-use Prim.Native.Nat.{ℕ, zero, suc, _-_, _<_}
-use native.Mathlib.Omega.{arith}
-use mathlib.Core.List.{List, [], _∷_, _++_, map, flatMap}
+use Prim.Native.Nat.{ℕ, _-_, _<_}
+use mathlib.Core.List.{List, [], _∷_, map, flatMap}
 use mathlib.Core.Bool.{Bool, true, false, cond, _&&_, _||_, not, false≢true}
 use mathlib.Core.Path.{_≡_, refl, ap, sym, _∙_}
-use lib.Dec.{eqb, leb, ltb}
-use lib.ListN.{length, set, length-map}
-use borrow.Author.Tests.{ltb-true, eqb-true, eq-eqb}
+use lib.Dec.{eqb, ltb}
+use borrow.Author.Tests.{eqb-true, eq-eqb}
 use Rattle.terms.specs.Names.{Name, sameName}
-use Rattle.terms.specs.Terms.{Timer, Value, Part, Process, Mark, Component, Def, due}
-use Rattle.terms.specs.Terms.Part.{stop, go, out, inp, call}
-use Rattle.terms.specs.Terms.Process.{one, _∥_}
-use Rattle.terms.specs.Terms.Mark.{none, by}
+use Rattle.terms.specs.Terms.{Process, Mark}
+use Rattle.terms.specs.Terms.Part.{go}
+use Rattle.terms.specs.Terms.Process.{one}
+use Rattle.terms.specs.Terms.Mark.{none}
 use Rattle.terms.specs.Terms.Component.{comp}
 use Rattle.terms.specs.Same.{every}
 use Rattle.terms.specs.Substitution.{Env, sub}
-use Rattle.terms.specs.Rules.{Answer, Kind, Firing, Fired, _>>=_, ok, some, fire, ready, dueGo, urgent, forced, pass, tickWith, tick}
+use Rattle.terms.specs.Rules.{Answer, Kind, ok, some, fire, ready, dueGo, urgent, forced, pass, tickWith, tick}
 use Rattle.terms.specs.Rules.Answer.{refused, accepted}
 use Rattle.terms.specs.Rules.Kind.{calls, moves}
 use Rattle.terms.specs.Rules.Firing.{alone, together}

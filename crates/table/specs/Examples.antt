@@ -1,14 +1,13 @@
 -- Small tables, computed: what they stand for, and what question 17 says of them.
-use Prim.Native.Nat.{ℕ, zero, suc, _-_}
+use Prim.Native.Nat.{ℕ, _-_}
 use mathlib.Core.List.{List, [], _∷_, _++_}
-use mathlib.Core.Bool.{Bool, true, false, cond, decide}
+use mathlib.Core.Bool.{true, false}
 use mathlib.Core.Path.{_≡_, refl}
 use lib.ListN.{replicate, length}
-use Rattle.terms.specs.Names.{Name, bytes}
-use Rattle.terms.specs.Terms.{Timer, Value, Part, Process, Mark, Component, Def, Network}
-use Rattle.terms.specs.Terms.Timer.{ticks, inf}
+use Rattle.terms.specs.Names.{bytes}
+use Rattle.terms.specs.Terms.Timer.{ticks}
 use Rattle.terms.specs.Terms.Value.{loc, var}
-use Rattle.terms.specs.Terms.Part.{stop, go, out, inp, call}
+use Rattle.terms.specs.Terms.Part.{stop, go, call}
 use Rattle.terms.specs.Terms.Process.{one, _∥_}
 use Rattle.terms.specs.Terms.Mark.{none, by}
 use Rattle.terms.specs.Terms.Component.{comp}

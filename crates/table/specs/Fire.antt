@@ -1,10 +1,10 @@
 -- What an action makes of its components, and when a tick is allowed, on the table: numbers for names. The laws (proofs/Fires, proofs/Ticks) say that this
 -- is what the rules make of what the components stand for.
-use Prim.Native.Nat.{ℕ, zero, suc, _-_}
-use mathlib.Core.List.{List, [], _∷_, map, flatMap}
+use Prim.Native.Nat.{ℕ, _-_}
+use mathlib.Core.List.{List, [], _∷_, flatMap}
 use mathlib.Core.Bool.{Bool, true, false, cond, _&&_, _||_, not}
-use lib.Dec.{eqb, leb, ltb}
-use lib.ListN.{length, getD}
+use lib.Dec.{eqb, ltb}
+use lib.ListN.{getD}
 use lib.ListN as L
 use Rattle.terms.specs.Terms.{Label}
 use Rattle.terms.specs.Terms.Label.{called, moved, sent}

@@ -1,7 +1,7 @@
 -- What a table stands for: a network in letters, values put in. Document 01, *The term and the network*.
-use Prim.Native.Nat.{ℕ, zero, suc, _+_, _-_}
+use Prim.Native.Nat.{ℕ, zero, suc, _-_}
 use mathlib.Core.List.{List, [], _∷_, map}
-use mathlib.Core.Bool.{Bool, true, false, cond}
+use mathlib.Core.Bool.{cond}
 use lib.Dec.{ltb}
 use lib.ListN.{getD, take}
 use Rattle.terms.specs.Names.{Name}

@@ -1,8 +1,8 @@
 -- What a tick makes of the components that it splits, ticks or lets pass, on the table. Document 01, *The tick at l*; Meaning says what these stand for.
-use Prim.Native.Nat.{ℕ, zero, suc, _-_}
+use Prim.Native.Nat.{ℕ, zero, suc}
 use mathlib.Core.List.{List, [], _∷_}
-use mathlib.Core.Bool.{Bool, true, false, cond}
-use lib.Dec.{eqb, leb, ltb}
+use mathlib.Core.Bool.{cond}
+use lib.Dec.{eqb, ltb}
 use Rattle.terms.specs.Clock.{lessRaw}
 use Rattle.table.specs.declared.Head.{Head}
 use Rattle.table.specs.declared.Head.the-variants.{Stop, Go, Out, In, Call}

@@ -1,6 +1,6 @@
 -- Question 17: document 01, *Questions, asked downward*. Every test is local to a part, a definition, a name or a component.
 -- That each process has a part, and each unmarked component one part, holds by what places mean (Meaning).
-use Prim.Native.Nat.{ℕ, zero, suc, _-_, _+_, _*_}
+use Prim.Native.Nat.{ℕ, zero, suc, _-_, _+_}
 use mathlib.Core.List.{List, [], _∷_, _++_}
 use mathlib.Core.Bool.{Bool, true, false, cond, _&&_, _||_, not}
 use lib.Dec.{eqb, leb, ltb}
@@ -12,7 +12,7 @@ use Rattle.table.specs.declared.Head.{Head}
 use Rattle.table.specs.declared.Head.the-variants.{Stop, Go, Out, In, Call}
 use Rattle.table.specs.declared.Comp.{Comp}
 use Rattle.table.specs.declared.State.{State}
-use Rattle.table.specs.Words.{partsIn, locsIn, chansIn, defsIn, nameAt, locName, chanName, arityOf, bodyOf, defName, paramsAt, paramsOf, field, headAt, nextAt, lowAt, ownAt, boundAt, scopeAt, namesAt}
+use Rattle.table.specs.Words.{partsIn, locsIn, chansIn, defsIn, locName, chanName, arityOf, bodyOf, defName, paramsAt, paramsOf, field, headAt, nextAt, lowAt, ownAt, boundAt, scopeAt, namesAt}
 use Rattle.table.specs.Meaning.{listFrom, compsOf}
 
 -- of each number below n

@@ -10,9 +10,9 @@
 -- 6 place of the next part of its process and one, or 0; 7 the least place of the process from here on; 8 how many variables are in scope;
 -- 9 .. 16 where their names stand; 17 .. 20 a call's arguments, or the name that an input binds; three words not used.
 -- A value below 64 is a location; 64 and more is a variable, by its slot: its index in the scope.
-use Prim.Native.Nat.{ℕ, zero, suc, _+_, _*_, _/_, _%_}
+use Prim.Native.Nat.{ℕ, _+_, _*_, _/_, _%_}
 use mathlib.Core.List.{List, [], _∷_, map}
-use mathlib.Core.Bool.{Bool, true, false, cond, _&&_}
+use mathlib.Core.Bool.{Bool, false, cond}
 use lib.Dec.{eqb, leb}
 use lib.ListN.{getD, take}
 use Rattle.terms.specs.Names.{Name}

@@ -10,7 +10,7 @@ use lib.Dec.{ltb}
 use lib.ListN.{length}
 use borrow.Author.Tests.{ltb-true, ltb-false}
 use Rattle.terms.specs.Names.{Name, sameName}
-use Rattle.terms.specs.Terms.{Part, Process, Mark, Component, Def, Label, firesAt}
+use Rattle.terms.specs.Terms.{Part, Process, Component, Def, firesAt}
 use Rattle.terms.specs.Terms.Part.{stop, go, out, inp, call}
 use Rattle.terms.specs.Terms.Process.{one, _∥_}
 use Rattle.terms.specs.Terms.Value.{loc, var}
@@ -23,11 +23,11 @@ use Rattle.terms.specs.Rules.Firing.{alone, together}
 use Rattle.terms.specs.Rules.Action.{single, pair}
 use Rattle.terms.specs.Runs.{here, placeOf}
 use Rattle.terms.specs.Step.{Done, Swept, actAt, actAll, wholeStep, choice, idle, tookPlace, taken, followed, visit, sweep, fires, step}
-use Rattle.terms.proofs.Names.{and-inv, name-eq, name-refl}
-use Rattle.terms.proofs.Answers.{clash, took, bind-inv, bind-ok, cond-inv}
+use Rattle.terms.proofs.Names.{and-inv, name-refl}
+use Rattle.terms.proofs.Answers.{clash, took, bind-inv, cond-inv}
 use Rattle.terms.proofs.Mixed.{Shape, shape-of, act-ok}
 use Rattle.terms.proofs.Mixed.Shape.{one-shape, two-shape}
-use Rattle.terms.proofs.Forced.{presses, forced-is, or-left, or-right, or-inv, ok-inv, ready-place, some-at, some-find}
+use Rattle.terms.proofs.Forced.{presses, forced-is, ok-inv, ready-place, some-at, some-find}
 
 -- ── where an action fires ──
 place-label : (d : List Def) (k : Kind) (l : Name) (a : Part) (b : _) → becomes d k l a ≡ accepted b → firesAt (b .label) ≡ l

@@ -2,11 +2,11 @@
 -- Each is settled by computation. Some others follow that show a trap.
 use Prim.Native.Nat.{ℕ, zero, suc}
 use mathlib.Core.List.{List, [], _∷_}
-use mathlib.Core.Bool.{Bool, true, false}
+use mathlib.Core.Bool.{true, false}
 use mathlib.Core.Path.{_≡_, refl}
 use lib.ListN.{length, replicate}
 use Rattle.terms.specs.Names.{Name, bytes}
-use Rattle.terms.specs.Terms.{Timer, Value, Part, Process, Mark, Component, Def, Label, Network}
+use Rattle.terms.specs.Terms.{Value, Part, Process, Component, Def, Label}
 use Rattle.terms.specs.Terms.Timer.{ticks, inf}
 use Rattle.terms.specs.Terms.Value.{loc, var}
 use Rattle.terms.specs.Terms.Part.{stop, go, out, inp, call}
@@ -15,13 +15,13 @@ use Rattle.terms.specs.Terms.Mark.{none, by}
 use Rattle.terms.specs.Terms.Component.{comp}
 use Rattle.terms.specs.Terms.Def.{define}
 use Rattle.terms.specs.Terms.Label.{called, moved, sent}
-use Rattle.terms.specs.Rules.{Answer, Kind, Action, act, tick, ok, _>>=_}
+use Rattle.terms.specs.Rules.{Answer, Action, act, tick, ok, _>>=_}
 use Rattle.terms.specs.Rules.Answer.{refused, accepted}
 use Rattle.terms.specs.Rules.Kind.{calls, moves}
 use Rattle.terms.specs.Rules.Action.{single, pair}
 use Rattle.terms.specs.Step.{step}
 use Rattle.terms.specs.Same.{same}
-use Rattle.terms.specs.Runs.{Call, Fed, groupedRun, straightRun, rules}
+use Rattle.terms.specs.Runs.{Fed, groupedRun, straightRun, rules}
 use Rattle.terms.specs.Runs.Call.{acting, ticking}
 use Rattle.terms.specs.Runs.Fed.{fed}
 

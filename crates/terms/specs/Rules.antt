@@ -1,12 +1,12 @@
 -- The rules: document 01, *Actions* and *The tick at l*, after Table 2 of source document 001.
 -- Every definition is a function. A refusal carries the number of the first question answered by no.
 use Prim.Native.Nat.{ℕ, zero, suc}
-use mathlib.Core.List.{List, [], _∷_, _++_, flatMap}
+use mathlib.Core.List.{List, [], _∷_, flatMap}
 use mathlib.Core.Bool.{Bool, true, false, cond, _&&_, _||_}
 use lib.Dec.{eqb}
 use lib.ListN.{length}
 use Rattle.terms.specs.Names.{Name, sameName}
-use Rattle.terms.specs.Terms.{Timer, Value, Part, Process, Mark, Component, Def, Label, less, expired, due}
+use Rattle.terms.specs.Terms.{Value, Part, Process, Component, Def, Label, less, expired, due}
 use Rattle.terms.specs.Terms.Value.{loc, var}
 use Rattle.terms.specs.Terms.Part.{stop, go, out, inp, call}
 use Rattle.terms.specs.Terms.Process.{one, _∥_}

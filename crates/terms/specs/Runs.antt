@@ -6,7 +6,7 @@ use Rattle.terms.specs.Names.{Name, sameName}
 use Rattle.terms.specs.Terms.{Component, Def, Label, less, expired, due, firesAt}
 use Rattle.terms.specs.Terms.Component.{comp}
 use Rattle.terms.specs.Substitution.{substitution}
-use Rattle.terms.specs.Rules.{Answer, Kind, Firing, Action, Acted, _>>=_, at, set, setAll, seek, some, only, locations, filled, body, becomes, meet, fire, positions, firingAt, act, unmarked, ready, dueGo, urgent, pressing, forced, wait, split, pass, tickWith, tick, tickAll}
+use Rattle.terms.specs.Rules.{Answer, Firing, Action, _>>=_, at, set, setAll, seek, some, only, locations, filled, body, becomes, meet, fire, positions, firingAt, act, unmarked, ready, dueGo, urgent, pressing, forced, wait, split, pass, tickWith, tick, tickAll}
 use Rattle.terms.specs.Step.{actAt, actAll, wholeStep, choice, idle, tookPlace, taken, followed, visit, sweep, fires, step}
 use Rattle.terms.specs.Rules.Answer.{refused, accepted}
 use Rattle.terms.specs.Rules.Firing.{alone, together}

@@ -1,7 +1,7 @@
 -- Terms and networks: document 01, *The term and the network*. Names are letters.
 use Prim.Native.Nat.{ℕ, _-_}
 use mathlib.Core.List.{List}
-use mathlib.Core.Bool.{Bool, true, false}
+use mathlib.Core.Bool.{Bool, false}
 use lib.Dec.{eqb}
 use Rattle.terms.specs.Names.{Name}
 

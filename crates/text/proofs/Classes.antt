@@ -1,12 +1,12 @@
 -- The class of a byte from the range that it lies in, and the range of a byte from its class.
 -- By the tests of `classOf` in order: each is decided by the bounds, with `omega` for the ranges passed over.
-use Prim.Native.Nat.{ℕ, _≤_, _<_, _+_}
+use Prim.Native.Nat.{ℕ, _≤_, _<_}
 use native.Mathlib.Omega.{arith}
 use mathlib.Core.Bool.{Bool, true, false, cond, _&&_, _||_, false≢true}
 use mathlib.Core.Path.{_≡_, refl, ap}
 use borrow.Author.Tests.{le-leb, lt-leb, ne-eqb, leb-true, eqb-true, eqb-false}
 use lib.Dec.{leb, eqb}
-use Rattle.text.specs.Characters.{Class, classOf, within, isDigit, isBlank, alnum, isAlnum}
+use Rattle.text.specs.Characters.{classOf, within, isDigit, isBlank, alnum, isAlnum}
 use Rattle.text.specs.Characters.Class.{capital, small, digit, bracket, blank, other}
 use Rattle.terms.proofs.Names.{and-inv}
 

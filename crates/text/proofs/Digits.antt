@@ -3,14 +3,13 @@
 use Prim.Native.Nat.{ℕ, zero, suc, _+_, _-_, _*_, _/_, _%_, _≤_, _<_}
 use native.Mathlib.Omega.{arith}
 use mathlib.Core.List.{List, [], _∷_, _++_, append-assoc, append-nil}
-use mathlib.Core.Bool.{Bool, true, false, cond, _&&_, _||_, not, false≢true}
+use mathlib.Core.Bool.{Bool, true, false, _&&_, false≢true}
 use mathlib.Core.Path.{_≡_, refl, ap, sym, _∙_}
-use borrow.Author.Tests.{eqb-false, leb-true, ltb-true, ltb-false, le-leb, lt-leb, ne-eqb, lt-ltb, le-ltb, not-true}
-use lib.Dec.{eqb, leb, ltb}
+use borrow.Author.Tests.{eqb-false, leb-true, ltb-true, ltb-false, le-leb, ne-eqb, lt-ltb, le-ltb, not-true}
+use lib.Dec.{leb, ltb}
 use Rattle.terms.specs.Names.{Name, bytes, sameName}
 use Rattle.terms.specs.Same.{every}
-use Rattle.text.specs.Characters.{classOf, Class, within, isDigit, isAlnum}
-use Rattle.text.specs.Characters.Class.{capital, small, digit, bracket, blank, other}
+use Rattle.text.specs.Characters.{classOf, isDigit}
 use Rattle.text.specs.Tokens.{numberFrom, number, plain, isTicks, digitsOf, digits, lastDigit}
 use Rattle.terms.proofs.Names.{and-inv}
 use Rattle.text.proofs.Classes.{digit-class, digit-bounds}

@@ -1,28 +1,27 @@
 -- Whatever the grammar reads are the tokens of what it gives, so that the form of a text is its tree's tokens and nothing else: `form-is`.
 -- By the inverse of each reader, one after the other along the do-block; what was read is a variable from there on.
-use Prim.Native.Nat.{ℕ, zero, suc, _+_, _*_, _≤_, _<_}
+use Prim.Native.Nat.{ℕ, zero, suc, _+_, _*_}
 use native.Mathlib.Omega.{arith}
-use mathlib.Core.List.{List, [], _∷_, _++_}
-use mathlib.Core.Bool.{Bool, true, false, cond, _&&_, _||_, not, false≢true}
+use mathlib.Core.List.{List, [], _∷_}
+use mathlib.Core.Bool.{Bool, true, false, cond, false≢true}
 use mathlib.Core.Logic.{_↔_}
-use mathlib.Core.Path.{_≡_, refl, ap, sym, _∙_, subst}
+use mathlib.Core.Path.{_≡_, refl, ap, _∙_, subst}
 use lib.Dec.{eqb}
 use lib.ListN.{length}
 use borrow.Author.Tests.{eqb-true}
 use Rattle.terms.specs.Names.{Name, bytes, sameName}
-use Rattle.terms.specs.Terms.{Timer, Value, Part, Process, Def}
+use Rattle.terms.specs.Terms.{Part, Process, Def}
 use Rattle.terms.specs.Terms.Timer.{ticks, inf}
 use Rattle.terms.specs.Terms.Value.{loc, var}
 use Rattle.terms.specs.Terms.Part.{stop, go, out, inp, call}
 use Rattle.terms.specs.Terms.Process.{one, _∥_}
 use Rattle.terms.specs.Terms.Def.{define}
-use Rattle.terms.specs.Rules.{Answer}
-use Rattle.terms.specs.Rules.Answer.{refused, accepted}
+use Rattle.terms.specs.Rules.Answer.{accepted}
 use Rattle.text.specs.Tokens.{Token, lex, number, isTicks, isLocation, isSmall, isIdentifier, opens, closes, left, right, comma, bar, dot, equals}
 use Rattle.text.specs.Tokens.Token.{word, sign}
 use Rattle.text.specs.Tree.{Located, Tree}
 use Rattle.text.specs.Tree.Located.{at}
-use Rattle.text.specs.Grammar.{Rest, Reader, bind, when, named, the, aWord, next, end, more, joined, sepBy, bracketed, listOf, aTimer, aValue, Head, headOf, partForm, aPart, moreParts, aProcess, partOf, processOf, part, process, aDef, aLocated, aNetwork, netNext, addDef, textForm, textOf, text, _>>_, _>>=_}
+use Rattle.text.specs.Grammar.{Rest, Reader, bind, when, named, the, aWord, next, end, more, joined, bracketed, listOf, aTimer, aValue, Head, headOf, partForm, aPart, moreParts, aProcess, partOf, processOf, aDef, aLocated, aNetwork, netNext, addDef, textForm, textOf, text, _>>_}
 use Rattle.text.specs.Grammar.Rest.{ok, bad}
 use Rattle.text.specs.Grammar.Head.{stops, goes, sends, receives, calls, nothing}
 use Rattle.text.specs.Write.{Printer, nameT, timerT, valueT, joinedT, listT, partT, processT, defT, locatedT, networkT, textT, tokens}

@@ -2,9 +2,9 @@
 -- By the answers that the questions gave on the way, and the tree's form.
 use Prim.Native.Nat.{ℕ, _<_}
 use native.Mathlib.Omega.{arith}
-use mathlib.Core.List.{List, [], _∷_, _++_, map, flatMap, append-assoc, append-nil}
+use mathlib.Core.List.{List, [], _∷_, _++_, flatMap, append-assoc, append-nil}
 use mathlib.Core.Bool.{Bool, true, false}
-use mathlib.Core.Path.{_≡_, refl, ap, sym, _∙_, subst}
+use mathlib.Core.Path.{_≡_, refl, ap, sym, subst}
 use lib.ListN.{length}
 use Rattle.terms.specs.Names.{Name}
 use Rattle.terms.specs.Terms.{Process, Component, Network}
@@ -17,7 +17,7 @@ use Rattle.terms.specs.Same.{every}
 use Rattle.text.specs.Tokens.{isLocation}
 use Rattle.text.specs.Tree.{Located, Tree, components, networkOf}
 use Rattle.text.specs.Tree.Located.{at}
-use Rattle.text.specs.Write.{write, treeOf}
+use Rattle.text.specs.Write.{write}
 use Rattle.text.specs.WellFormed.{Is, Each, WellProcess, WellLocated, NonEmpty, WellTree, WellComponent, Writable}
 use Rattle.text.specs.Questions.{ask, form, read, short, shallow, fits, distinct, callsMet, bound, places, partPlaces, processPlaces, locatedPlaces, componentPlaces, networkPlaces, Sound}
 use Rattle.text.proofs.Exact.{form-tokens}

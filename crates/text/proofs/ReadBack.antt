@@ -3,8 +3,8 @@
 use Prim.Native.Nat.{ℕ, zero, suc, _+_, _*_, _≤_, _<_}
 use native.Mathlib.Omega.{arith}
 use mathlib.Core.List.{List, [], _∷_}
-use mathlib.Core.Bool.{Bool, true, false, cond, _&&_, _||_, not, false≢true}
-use mathlib.Core.Path.{_≡_, refl, ap, sym, _∙_}
+use mathlib.Core.Bool.{Bool, true, false, _&&_, _||_, not, false≢true}
+use mathlib.Core.Path.{_≡_, refl}
 use lib.Dec.{eqb, leb}
 use borrow.Author.Tests.{eq-eqb}
 use lib.ListN.{length}
@@ -18,13 +18,13 @@ use Rattle.terms.specs.Terms.Def.{define}
 use Rattle.terms.specs.Same.{every}
 use Rattle.text.specs.Characters.{Class, classOf, isCapital, isLower}
 use Rattle.text.specs.Characters.Class.{capital, small, digit, bracket, blank, other}
-use Rattle.text.specs.Tokens.{Token, member, isName, isLocation, isSmall, isIdentifier, reserved, firstIs, opens, closes, left, right, comma, bar, dot, equals}
+use Rattle.text.specs.Tokens.{Token, member, isName, isLocation, isSmall, isIdentifier, reserved, firstIs, opens, closes, right, comma, bar, dot, equals}
 use Rattle.text.specs.Tokens.Token.{word, sign}
 use Rattle.text.specs.Tree.{Located, Tree}
 use Rattle.text.specs.Tree.Located.{at}
-use Rattle.text.specs.Grammar.{Rest, Reader, bind, when, named, the, next, more, joined, sepBy, listOf, aTimer, aValue, Head, headOf, partForm, aPart, aProcess, partOf, processOf, part, process, aDef, aLocated, aNetwork, netNext, addDef, textOf, text, _>>_}
-use Rattle.text.specs.Grammar.Rest.{ok, bad}
-use Rattle.text.specs.Grammar.Head.{stops, goes, sends, receives, calls, nothing}
+use Rattle.text.specs.Grammar.{Reader, named, the, next, joined, sepBy, listOf, aTimer, aValue, headOf, partOf, processOf, process, aDef, aLocated, aNetwork, netNext, textOf, text}
+use Rattle.text.specs.Grammar.Rest.{ok}
+use Rattle.text.specs.Grammar.Head.{calls}
 use Rattle.text.specs.Write.{Printer, nameT, timerT, valueT, joinedT, listT, partT, processT, defT, locatedT, networkT, textT, tokens}
 use Rattle.text.specs.WellFormed.{Is, WellTimer, WellValue, Each, WellPart, WellProcess, WellDef, WellLocated, NonEmpty, WellTree}
 use Rattle.terms.proofs.Names.{and-inv}

@@ -1,18 +1,16 @@
 -- Reading what was written asks only 1, 3 and 4, and gives the same network: `only-limits`, `round-trip`.
 -- The written text has the network's own tree, and its places are those of the network, so that 5, 6 and 7 ask what `Sound` says.
-use Prim.Native.Nat.{ℕ}
-use mathlib.Core.List.{List, [], _∷_, _++_, map, flatMap}
-use mathlib.Core.Bool.{Bool, true, false}
-use mathlib.Core.Path.{_≡_, refl, ap, sym, _∙_}
+use mathlib.Core.List.{List, [], _∷_, map, flatMap}
+use mathlib.Core.Bool.{true}
+use mathlib.Core.Path.{_≡_, refl, _∙_}
 use Rattle.terms.specs.Terms.{Component, Network}
 use Rattle.terms.specs.Terms.Process.{one, _∥_}
 use Rattle.terms.specs.Terms.Mark.{none, by}
 use Rattle.terms.specs.Terms.Component.{comp}
-use Rattle.terms.specs.Rules.{Answer, _>>=_, split}
-use Rattle.terms.specs.Rules.Answer.{refused, accepted}
+use Rattle.terms.specs.Rules.{Answer, split, _>>=_}
+use Rattle.terms.specs.Rules.Answer.{accepted}
 use Rattle.terms.specs.Same.{every}
-use Rattle.text.specs.Tree.{Located, Tree, components, networkOf}
-use Rattle.text.specs.Tree.Located.{at}
+use Rattle.text.specs.Tree.{Tree, components, networkOf}
 use Rattle.text.specs.Write.{tokens, spelled, located, treeOf, write}
 use Rattle.text.specs.WellFormed.{Each, WellLocated, NonEmpty, WellTree, WellComponent, Writable}
 use Rattle.text.specs.Questions.{ask, form, read, short, shallow, fits, callsMet, callMet, bound, boundAt, places, locatedPlaces, componentPlaces, networkPlaces, Sound, _>>_}

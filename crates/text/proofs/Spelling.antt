@@ -1,28 +1,27 @@
 -- The spelling of a tree's tokens has those tokens.
 -- No word follows a word directly, a word's bytes are letters and digits, and each sign's spelling has that sign alone.
-use Prim.Native.Nat.{ℕ, zero, suc, _+_, _*_, _≤_, _<_}
-use native.Mathlib.Omega.{arith}
+use Prim.Native.Nat.{ℕ, _+_}
 use mathlib.Core.List.{List, [], _∷_, _++_, append-assoc, append-nil}
-use mathlib.Core.Bool.{Bool, true, false, cond, _&&_, _||_, not, false≢true}
+use mathlib.Core.Bool.{Bool, true, false, _&&_, false≢true}
 use mathlib.Core.Path.{_≡_, refl, ap, sym, _∙_}
-use lib.Dec.{eqb, leb}
+use lib.Dec.{leb}
 use lib.ListN.{length}
-use Rattle.terms.specs.Names.{Name, bytes}
-use Rattle.terms.specs.Terms.{Timer, Value, Part, Process, Def}
+use Rattle.terms.specs.Names.{Name}
+use Rattle.terms.specs.Terms.{Def}
 use Rattle.terms.specs.Terms.Timer.{ticks, inf}
 use Rattle.terms.specs.Terms.Value.{loc, var}
 use Rattle.terms.specs.Terms.Part.{stop, go, out, inp, call}
 use Rattle.terms.specs.Terms.Process.{one, _∥_}
 use Rattle.terms.specs.Terms.Def.{define}
 use Rattle.terms.specs.Same.{every}
-use Rattle.text.specs.Characters.{Class, classOf, isCapital, isLower, isDigit, alnum, isAlnum}
+use Rattle.text.specs.Characters.{Class, classOf, isDigit, alnum, isAlnum}
 use Rattle.text.specs.Characters.Class.{capital, small, digit, bracket, blank, other}
 use Rattle.text.specs.Tokens.{Token, isName, isLocation, isSmall, isIdentifier, firstIs, flush, step, lexFrom, lex, digits, opens, closes, left, right, comma, bar, dot, equals}
 use Rattle.text.specs.Tokens.Token.{word, sign}
 use Rattle.text.specs.Tree.{Located, Tree}
 use Rattle.text.specs.Tree.Located.{at}
-use Rattle.text.specs.Write.{Printer, nameT, timerT, valueT, joinedT, listT, partT, processT, defT, locatedT, networkT, textT, tokens, spell, spelled}
-use Rattle.text.specs.WellFormed.{Is, WellTimer, WellValue, Each, WellPart, WellProcess, WellDef, WellLocated, NonEmpty, WellTree}
+use Rattle.text.specs.Write.{Printer, nameT, timerT, valueT, joinedT, listT, partT, processT, locatedT, networkT, textT, tokens, spell, spelled}
+use Rattle.text.specs.WellFormed.{Is, WellTimer, WellValue, Each, WellPart, WellProcess, WellDef, WellLocated, WellTree}
 use Rattle.terms.proofs.Names.{and-inv}
 use Rattle.text.proofs.Digits.{every-map, digits-digit, digits-lead, Leads, leads}
 

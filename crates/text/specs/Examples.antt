@@ -2,7 +2,7 @@
 use Prim.Native.Nat.{ℕ, zero, suc}
 use Prim.Native.String.{String}
 use mathlib.Core.List.{List, [], _∷_, _++_}
-use mathlib.Core.Bool.{Bool, true, false}
+use mathlib.Core.Bool.{true, false}
 use mathlib.Core.Path.{_≡_, refl}
 use lib.ListN.{replicate}
 use Rattle.terms.specs.Names.{Name, bytes}
@@ -10,7 +10,7 @@ use Rattle.terms.specs.Terms.{Process, Network}
 use Rattle.terms.specs.Terms.Timer.{ticks, inf}
 use Rattle.terms.specs.Terms.Value.{loc, var}
 use Rattle.terms.specs.Terms.Part.{stop, go, out, inp, call}
-use Rattle.terms.specs.Terms.Process.{one, _∥_}
+use Rattle.terms.specs.Terms.Process.{one}
 use Rattle.terms.specs.Terms.Mark.{none}
 use Rattle.terms.specs.Terms.Component.{comp}
 use Rattle.terms.specs.Terms.Def.{define}
@@ -19,7 +19,7 @@ use Rattle.terms.specs.Rules.Answer.{refused, accepted}
 use Rattle.text.specs.Tokens.{tokenwise}
 use Rattle.text.specs.Grammar.{grammar}
 use Rattle.text.specs.Write.{write, writing}
-use Rattle.text.specs.Questions.{read, short, form, locations, channels, questions}
+use Rattle.text.specs.Questions.{read, short, form, locations, questions}
 
 abbrev reads : String → Answer Network
 reads s = read (bytes s)

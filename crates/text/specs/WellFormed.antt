@@ -1,7 +1,7 @@
 -- What can be written: names of their sorts' forms, timers in range, at least one located process. Document 01, *Reading*, as predicates.
-use Prim.Native.Nat.{ℕ, _≤_}
+use Prim.Native.Nat.{_≤_}
 use mathlib.Core.List.{List, [], _∷_}
-use mathlib.Core.Bool.{Bool, true, false}
+use mathlib.Core.Bool.{Bool, true}
 use mathlib.Core.Path.{_≡_}
 use Rattle.terms.specs.Names.{Name}
 use Rattle.terms.specs.Terms.{Timer, Value, Part, Process, Component, Def, Network}

@@ -1,20 +1,20 @@
 -- A name that is looked up or added: its table holds the names as before and then, unless it was among them, the new one (`into`, so that names are
 -- numbered by first place), and nothing else changes. By the three ways: it is there, it is entered, or it is one too many, and the word 4 says so.
-use Prim.Native.Nat.{ℕ, zero, suc, _+_, _-_, _*_, _≤_, _<_, min}
+use Prim.Native.Nat.{ℕ, zero, suc, _+_, _-_, _*_, _≤_, _<_}
 use native.Mathlib.Omega.{arith}
 use mathlib.Core.List.{List, [], _∷_, _++_}
 use mathlib.Core.Bool.{Bool, true, false, cond}
 use mathlib.Core.Path.{_≡_, refl, ap, sym, _∙_}
 use borrow.Author.Tests.{ltb-true, ltb-false, lt-ltb, le-ltb}
 use lib.Dec.{ltb}
-use lib.ListN.{length, getD, set, length-set, length-append}
+use lib.ListN.{length, set, length-append}
 use lib.Seq.{sets, length-sets, getD-set-same}
 use Rattle.terms.specs.Names.{Name, sameName}
 use Rattle.terms.proofs.Names.{name-refl}
 use Rattle.text.specs.Tokens.{member}
 use Rattle.text.specs.Questions.{into}
 use Rattle.table.specs.declared.Key.{Key}
-use Rattle.table.specs.Words.{word, letters, nameAt}
+use Rattle.table.specs.Words.{word, nameAt}
 use Rattle.table.specs.Meaning.{listFrom}
 use Rattle.table.specs.Tests.{keyName, rowName}
 use Rattle.table.specs.Valid.{index}
@@ -22,7 +22,7 @@ use Rattle.table.proofs.Tests.{length-listFrom}
 use Rattle.text_build.specs.Tables.{keyWords, heldIn, numberIn, addKey, enlist}
 use Rattle.text_build.specs.Growth.{Frame}
 use Rattle.text_build.proofs.Numbers.{member-index}
-use Rattle.text_build.proofs.Tables.{index-within, number-within}
+use Rattle.text_build.proofs.Tables.{index-within}
 use Rattle.text_build.proofs.Writes.{set-out, sets-under, sets-past, sets-in, frame-none, frame-then, frame-names, frame-count}
 
 -- ── lists of names ──

@@ -1,20 +1,20 @@
 -- The names of a part are entered, and the numbers that its row gets are those that the names have afterwards.
 -- By the law of entering, name by name: a number once given is kept (`Grown`), and a scope's names stand where nothing is written.
-use Prim.Native.Nat.{ℕ, zero, suc, _+_, _-_, _*_, _≤_, _<_}
+use Prim.Native.Nat.{ℕ, suc, _+_, _-_, _*_, _≤_}
 use native.Mathlib.Omega.{arith}
 use mathlib.Core.List.{List, [], _∷_, _++_, map, flatMap}
-use mathlib.Core.Bool.{Bool, true, false, cond, _&&_, not}
+use mathlib.Core.Bool.{Bool, true, _&&_}
 use mathlib.Core.Path.{_≡_, refl, ap, sym, _∙_}
 use borrow.Author.Tests.{leb-true, lt-ltb}
-use lib.Dec.{leb, ltb}
+use lib.Dec.{leb}
 use lib.ListN.{length}
 use Rattle.terms.specs.Names.{Name}
-use Rattle.terms.specs.Terms.{Timer, Value, Part, Process}
+use Rattle.terms.specs.Terms.{Value}
 use Rattle.terms.specs.Terms.Value.{loc, var}
 use Rattle.terms.specs.Same.{every}
 use Rattle.terms.proofs.Names.{and-inv, and-in}
 use Rattle.text.specs.Characters.{Class, isAlnum}
-use Rattle.text.specs.Tokens.{isName, isLocation, isSmall, isIdentifier, firstIs, member, reserved}
+use Rattle.text.specs.Tokens.{isName, isLocation, isSmall, isIdentifier, firstIs}
 use Rattle.text.specs.WellFormed.{WellValue, Each}
 use Rattle.text.specs.Questions.{into, firsts, locOf}
 use Rattle.table.specs.Words.{word, nameAt}
@@ -22,12 +22,12 @@ use Rattle.table.specs.Tests.{keyName}
 use Rattle.table.specs.Valid.{index}
 use Rattle.text_build.specs.declared.Scope.{Scope}
 use Rattle.text_build.specs.Keys.{keyOf}
-use Rattle.text_build.specs.Rows.{locsOf, chansOf, idsOf, scopeNames, valueWord, chanKnown}
-use Rattle.text_build.specs.Growth.{locListed, valueListed, Grown, Frame, Making}
+use Rattle.text_build.specs.Rows.{locsOf, chansOf, scopeNames, valueWord}
+use Rattle.text_build.specs.Growth.{valueListed, Grown, Frame, Making}
 use Rattle.text_build.specs.Put.{offsets, slotOf, locNumber, enterLoc, chanNumber, enterChan, valueNumber, enterValue, argNumbers, enterValues}
 use Rattle.text_build.proofs.Letters.{key-letters}
 use Rattle.text_build.proofs.Writes.{frame-none}
-use Rattle.text_build.proofs.Grows.{Grew, grew-then, grown-none, NameIn, loc-in, chan-in, enlist-back, loc-listed-is, chan-known-is}
+use Rattle.text_build.proofs.Grows.{Grew, grew-then, grown-none, NameIn, loc-in, chan-in, enlist-back, loc-listed-is}
 use Rattle.text_build.proofs.Kept.{value-same}
 
 -- ── a name's four words are its letters ──

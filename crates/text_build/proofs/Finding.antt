@@ -1,10 +1,9 @@
 -- Looking a name up, name by name: the number of a name is j more than that among the names from the j-th on, as long as none before is it.
 -- By the first of the names that are left.
-use Prim.Native.Nat.{ℕ, zero, suc, _+_, _-_, _≤_, _<_}
+use Prim.Native.Nat.{ℕ, suc, _+_, _-_, _≤_, _<_}
 use native.Mathlib.Omega.{arith}
-use mathlib.Core.List.{List, [], _∷_}
-use mathlib.Core.Bool.{Bool, true, false, cond}
-use mathlib.Core.Path.{_≡_, refl, ap, sym, _∙_}
+use mathlib.Core.Bool.{true, false, cond}
+use mathlib.Core.Path.{_≡_, ap, _∙_}
 use Rattle.terms.specs.Names.{Name, sameName}
 use Rattle.table.specs.Meaning.{listFrom}
 use Rattle.table.specs.Valid.{index}

@@ -1,21 +1,21 @@
 -- After a process is put, each table holds what it held and then the new names of the process by first place: those of its places, in text order.
 -- By induction on the process, with what stands in the script on the way (proofs/Puts).
-use Prim.Native.Nat.{ℕ, zero, suc, _+_, _-_, _*_, _≤_, _<_}
+use Prim.Native.Nat.{ℕ, suc, _+_, _-_, _*_, _≤_, _<_}
 use native.Mathlib.Omega.{arith}
 use mathlib.Core.List.{List, [], _∷_, _++_, flatMap, append-nil}
-use mathlib.Core.Path.{_≡_, refl, ap, sym, _∙_}
+use mathlib.Core.Path.{_≡_, _∙_}
 use lib.ListN.{length}
 use lib.Seq.{sets}
 use Rattle.terms.specs.Names.{Name}
-use Rattle.terms.specs.Terms.{Timer, Value, Part, Process}
+use Rattle.terms.specs.Terms.{Part, Process}
 use Rattle.terms.specs.Terms.Part.{stop, go, out, inp, call}
 use Rattle.terms.specs.Terms.Process.{one, _∥_}
 use Rattle.text.specs.WellFormed.{WellPart, WellProcess}
-use Rattle.text.specs.Questions.{Place, into, firsts, locOf, valuesOf, locationsAt, channelsAt, partPlaces, processPlaces}
+use Rattle.text.specs.Questions.{Place, into, locOf, valuesOf, locationsAt, channelsAt, partPlaces, processPlaces}
 use Rattle.table.specs.Words.{word}
 use Rattle.table.specs.Size.{size, sizeP}
 use Rattle.text_build.specs.declared.Scope.{Scope}
-use Rattle.text_build.specs.Rows.{locsOf, chansOf, firstPlace, secondPlace}
+use Rattle.text_build.specs.Rows.{firstPlace, secondPlace}
 use Rattle.text_build.specs.Growth.{Making}
 use Rattle.text_build.specs.Put.{offsets, enterPart, rowOf, opened, setSecond, linked, innerScope, scopeMark, putPart, put}
 use Rattle.text_build.proofs.Places.{size-some, sizeP-some}
@@ -24,7 +24,7 @@ use Rattle.text_build.proofs.RowWords.{Eight}
 use Rattle.text_build.proofs.Entering.{Settled, settled-lower}
 use Rattle.text_build.proofs.Numbering.{flat-append, channelsOf, Numbered, numbered-then, part-numbered}
 use Rattle.text_build.proofs.Opening.{row-length, part-back, part-in}
-use Rattle.text_build.proofs.Puts.{opened-back, second-back, linked-back, put-back, putPart-back, mark-none, inner-eight, inner-offsets, settled-entering, open-grew, puts, puts-part}
+use Rattle.text_build.proofs.Puts.{opened-back, second-back, linked-back, put-back, mark-none, inner-eight, inner-offsets, settled-entering, open-grew, puts, puts-part}
 
 -- the locations and channels of places, in order
 abbrev locsAt : List Place → List Name

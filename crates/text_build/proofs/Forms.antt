@@ -3,11 +3,11 @@
 use Prim.Native.Nat.{ℕ}
 use mathlib.Core.List.{List, [], _∷_}
 use mathlib.Core.Bool.{Bool, true, false, cond, _&&_, _||_, not}
-use mathlib.Core.Path.{_≡_, refl, ap, sym, _∙_}
+use mathlib.Core.Path.{_≡_, refl, ap, _∙_}
 use borrow.Author.Tests.{eqb-true}
 use lib.Dec.{eqb, leb}
 use lib.ListN.{length}
-use Rattle.terms.specs.Names.{Name, sameName}
+use Rattle.terms.specs.Names.{Name}
 use Rattle.terms.specs.Rules.{some}
 use Rattle.terms.specs.Same.{every}
 use Rattle.terms.specs.Letters as L

@@ -1,14 +1,14 @@
 -- What the writes of the second pass keep of the tables: a name entered changes one table by `into`, a row none.
 -- By the laws of entering, and by where the words of the tables lie.
-use Prim.Native.Nat.{ℕ, zero, suc, _+_, _-_, _*_, _≤_, _<_, min}
+use Prim.Native.Nat.{ℕ, _+_, _-_, _*_, _≤_, _<_, min}
 use native.Mathlib.Omega.{arith}
 use mathlib.Core.List.{List, [], _∷_, _++_}
 use mathlib.Core.Bool.{Bool, true, false, cond}
 use mathlib.Core.Path.{_≡_, refl, ap, sym, _∙_}
-use borrow.Author.Tests.{ltb-true, ltb-false, lt-ltb, le-ltb}
+use borrow.Author.Tests.{ltb-true, lt-ltb}
 use lib.Dec.{ltb}
-use lib.ListN.{length, getD, set, length-append}
-use lib.Seq.{sets, getD-set-same, set-out as set-none}
+use lib.ListN.{length, set, length-append}
+use lib.Seq.{sets}
 use Rattle.terms.specs.Names.{Name}
 use Rattle.text.specs.Tokens.{member}
 use Rattle.text.specs.Questions.{into}
@@ -21,7 +21,7 @@ use Rattle.table.proofs.Tests.{length-listFrom}
 use Rattle.text_build.specs.Tables.{keyWords, heldIn, numberIn, addKey, enlist}
 use Rattle.text_build.specs.Rows.{locsOf, chansOf, idsOf, chanKnown}
 use Rattle.text_build.specs.Growth.{locListed, Grown, Frame, Making}
-use Rattle.text_build.proofs.Writes.{set-out, sets-under, sets-past, frame-then, frame-row}
+use Rattle.text_build.proofs.Writes.{set-out, sets-under, frame-then, frame-row}
 use Rattle.text_build.proofs.Enlist.{list-same, index-into, names, names-same, Entered, entered, came-within, index-came}
 
 -- ── the tables ──

@@ -1,27 +1,27 @@
 -- What stands at a place goes on standing there while other rows are written and names are added to the tables.
 -- By induction on the process: its rows are the same words, and its names have the same numbers.
-use Prim.Native.Nat.{ℕ, zero, suc, _+_, _-_, _*_, _≤_, _<_}
+use Prim.Native.Nat.{ℕ, suc, _+_, _-_, _*_, _≤_, _<_}
 use native.Mathlib.Omega.{arith}
 use mathlib.Core.List.{List, [], _∷_, _++_, map}
-use mathlib.Core.Bool.{Bool, true, false, cond, _&&_}
-use mathlib.Core.Path.{_≡_, refl, ap, sym, _∙_}
-use lib.Dec.{eqb, leb, ltb}
-use lib.ListN.{length, getD, take}
+use mathlib.Core.Bool.{Bool, true, false, cond}
+use mathlib.Core.Path.{_≡_, refl, sym, _∙_}
+use lib.Dec.{ltb}
+use lib.ListN.{length}
 use Rattle.terms.specs.Names.{Name}
-use Rattle.terms.specs.Terms.{Timer, Value, Part, Process}
+use Rattle.terms.specs.Terms.{Value, Part, Process}
 use Rattle.terms.specs.Terms.Value.{loc, var}
 use Rattle.terms.specs.Terms.Part.{stop, go, out, inp, call}
 use Rattle.terms.specs.Terms.Process.{one, _∥_}
 use Rattle.terms.specs.Same.{every}
-use Rattle.terms.proofs.Names.{and-inv, and-in}
-use Rattle.text.specs.Questions.{Place, into, partPlaces, processPlaces}
+use Rattle.terms.proofs.Names.{and-inv}
+use Rattle.text.specs.Questions.{processPlaces}
 use Rattle.table.specs.declared.Head.{Head}
-use Rattle.table.specs.Words.{word, field, nameAt, headAt, nextAt, lowAt, ownAt, boundAt, scopeAt}
+use Rattle.table.specs.Words.{field, nameAt, headAt, nextAt, lowAt, ownAt, boundAt, scopeAt}
 use Rattle.table.specs.Valid.{index}
 use Rattle.table.specs.Size.{size, sizeP}
 use Rattle.table.proofs.Fires.{map-append}
-use Rattle.text_build.specs.Rows.{Row, Below, Stands, locsOf, chansOf, idsOf, scopeNames, timerWord, valueWord, argWord, headOf, firstPlace, secondPlace, entering, chanKnown}
-use Rattle.text_build.specs.Growth.{locListed, valueListed, partListed, placeListed, Grown, SameRows}
+use Rattle.text_build.specs.Rows.{Row, Below, Stands, scopeNames, valueWord, headOf, firstPlace, secondPlace, entering, chanKnown}
+use Rattle.text_build.specs.Growth.{valueListed, partListed, placeListed, Grown, SameRows}
 use Rattle.text_build.proofs.Places.{PartFit, Fit, size-some, sizeP-some, fit-first, fit-go, fit-out, fit-in, fit-par}
 use Rattle.text_build.proofs.Numbers.{names-entered}
 

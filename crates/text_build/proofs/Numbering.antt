@@ -1,21 +1,18 @@
 -- Locations and channels are numbered by first place: document 01, *Reading*. After a process is put, each table holds what it held and then the new names
 -- of the process, in text order (`firsts`). By induction on the process, name by name.
-use Prim.Native.Nat.{ℕ, zero, suc, _+_, _-_, _*_, _≤_, _<_}
-use native.Mathlib.Omega.{arith}
+use Prim.Native.Nat.{ℕ, _+_, _-_}
 use mathlib.Core.List.{List, [], _∷_, _++_, flatMap, append-assoc}
 use mathlib.Core.Path.{_≡_, refl, ap, sym, _∙_}
-use lib.Seq.{sets}
 use Rattle.terms.specs.Names.{Name}
-use Rattle.terms.specs.Terms.{Timer, Value, Part, Process}
+use Rattle.terms.specs.Terms.{Part}
 use Rattle.terms.specs.Terms.Part.{stop, go, out, inp, call}
-use Rattle.terms.specs.Terms.Process.{one, _∥_}
 use Rattle.text.specs.WellFormed.{WellPart}
-use Rattle.text.specs.Questions.{Place, into, firsts, locOf, valuesOf, locationsAt, channelsAt, partPlaces, processPlaces}
+use Rattle.text.specs.Questions.{firsts, locOf, valuesOf}
 use Rattle.table.specs.Words.{word}
 use Rattle.text_build.specs.Rows.{locsOf, chansOf}
 use Rattle.text_build.specs.Growth.{Making}
-use Rattle.text_build.specs.Put.{enterChan, enterValue, enterPart}
-use Rattle.text_build.proofs.Entering.{firsts-append, ValueIn, value-in, chan-entered, values-in, value-back}
+use Rattle.text_build.specs.Put.{enterChan, enterPart}
+use Rattle.text_build.proofs.Entering.{firsts-append, value-in, chan-entered, values-in, value-back}
 
 pub flat-append : {A : Type 0} (f : A → List Name) (xs ys : List A) → flatMap f (xs ++ ys) ≡ flatMap f xs ++ flatMap f ys
 unfolding flatMap

@@ -1,20 +1,20 @@
 -- The numbers of names stand for the names: an index below the length leads back to its name, for names in scope and for names that a script holds.
 -- By induction on the list of names; a value's word by the two sorts of values.
-use Prim.Native.Nat.{ℕ, zero, suc, _+_, _-_, _≤_, _<_}
+use Prim.Native.Nat.{ℕ, suc, _+_, _-_, _≤_, _<_}
 use native.Mathlib.Omega.{arith}
 use mathlib.Core.List.{List, [], _∷_, _++_, map}
-use mathlib.Core.Bool.{Bool, true, false, cond, _&&_, _||_}
+use mathlib.Core.Bool.{Bool, true, false, cond, _||_}
 use mathlib.Core.Path.{_≡_, refl, ap, sym, _∙_}
-use lib.Dec.{eqb, leb, ltb}
+use lib.Dec.{ltb}
 use lib.ListN.{length, getD, take, length-map}
-use borrow.Author.Tests.{ltb-true, lt-ltb, le-ltb, leb-true, le-leb, eqb-true, eq-eqb, ltb-false}
+use borrow.Author.Tests.{ltb-true, lt-ltb, le-ltb, leb-true, le-leb, eq-eqb, ltb-false}
 use Rattle.terms.specs.Names.{Name, sameName}
 use Rattle.terms.specs.Terms.{Timer, Value}
 use Rattle.terms.specs.Terms.Timer.{ticks, inf}
 use Rattle.terms.specs.Terms.Value.{loc, var}
 use Rattle.terms.specs.Same.{every}
 use Rattle.terms.specs.Clock.{ticksOf}
-use Rattle.terms.proofs.Names.{and-inv, and-in, name-eq, name-refl}
+use Rattle.terms.proofs.Names.{and-inv, and-in, name-eq}
 use Rattle.text.specs.Tokens.{member}
 use Rattle.text.specs.Questions.{into}
 use Rattle.table.specs.Words.{locsIn, chansIn, defsIn, nameAt, locName, chanName, defName, ownAt, boundAt}

@@ -1,35 +1,32 @@
 -- A part's row as the second pass leaves it holds the part's head: its numbers are those of its names, its Q, next part and least place are set.
 -- By the kind of the part, from what entering its names gives.
-use Prim.Native.Nat.{ℕ, zero, suc, _+_, _-_, _*_, _≤_, _<_, min}
+use Prim.Native.Nat.{ℕ, _+_, _-_, _*_, _<_, min}
 use native.Mathlib.Omega.{arith}
 use mathlib.Core.List.{List, [], _∷_, _++_, map}
-use mathlib.Core.Bool.{Bool, true, false, cond, _&&_}
+use mathlib.Core.Bool.{true}
 use mathlib.Core.Path.{_≡_, refl, ap, sym, _∙_}
-use borrow.Author.Tests.{ltb-true, lt-ltb}
-use lib.Dec.{leb, ltb}
-use lib.ListN.{length, getD, set, length-append}
+use borrow.Author.Tests.{lt-ltb}
+use lib.ListN.{length, length-append}
 use lib.Seq.{sets}
 use Rattle.terms.specs.Names.{Name}
-use Rattle.terms.specs.Terms.{Timer, Value, Part, Process}
-use Rattle.terms.specs.Terms.Value.{loc, var}
+use Rattle.terms.specs.Terms.{Timer, Part, Process}
 use Rattle.terms.specs.Terms.Part.{stop, go, out, inp, call}
-use Rattle.terms.specs.Same.{every}
-use Rattle.terms.proofs.Names.{and-inv, and-in}
+use Rattle.terms.proofs.Names.{and-in}
 use Rattle.text.specs.Tokens.{isSmall}
 use Rattle.text.specs.WellFormed.{WellPart}
-use Rattle.table.specs.Words.{word, field, letters, nameAt, defName, ownAt, boundAt}
+use Rattle.table.specs.Words.{word, nameAt, defName, ownAt, boundAt}
 use Rattle.table.specs.Meaning.{listFrom}
 use Rattle.table.specs.Tests.{keyName}
 use Rattle.table.specs.Valid.{index}
 use Rattle.text_build.specs.declared.Scope.{Scope}
 use Rattle.text_build.specs.Keys.{keyOf}
 use Rattle.text_build.specs.Tables.{keyWords, heldIn}
-use Rattle.text_build.specs.Rows.{Row, locsOf, chansOf, idsOf, scopeNames, timerWord, valueWord, argWord, firstPlace, secondPlace, headOf, chanKnown}
-use Rattle.text_build.specs.Growth.{valueListed, partListed, Grown, Frame, Making}
-use Rattle.text_build.specs.Put.{offsets, slotOf, chanNumber, enterChan, idNumber, valueNumber, enterValue, argNumbers, enterValues, enterPart, rowWords, rowOf, none₄, first₄}
+use Rattle.text_build.specs.Rows.{Row, chansOf, idsOf, scopeNames, timerWord, valueWord, firstPlace, secondPlace, headOf, chanKnown}
+use Rattle.text_build.specs.Growth.{partListed, Grown, Frame, Making}
+use Rattle.text_build.specs.Put.{offsets, slotOf, chanNumber, enterChan, idNumber, valueNumber, enterValue, argNumbers, enterValues, enterPart, rowWords, rowOf, first₄}
 use Rattle.text_build.proofs.Grows.{Grew, grew-then, chan-known-is}
-use Rattle.text_build.proofs.RowWords.{RowIs, Eight, full, headBy, row-holds, tail₀, tail₁, tail₂, tail₃}
-use Rattle.text_build.proofs.Entering.{Settled, settled-same, small-spelt, id-spelt, ValueIn, value-in, chan-entered, ValuesIn, values-in, value-back, values-back, chan-back, grew-none, listed-on}
+use Rattle.text_build.proofs.RowWords.{RowIs, Eight, headBy, row-holds, tail₀, tail₁, tail₂, tail₃}
+use Rattle.text_build.proofs.Entering.{Settled, settled-same, small-spelt, id-spelt, value-in, chan-entered, values-in, value-back, values-back, chan-back, grew-none}
 use Rattle.text_build.proofs.Kept.{value-same, values-same}
 
 -- the place of a part's Q; 0 where it has none

@@ -1,27 +1,26 @@
 -- Rows that the second pass writes pass the local tests of question 17, each at its place.
 -- By induction on the process: what a row says of the rows below it (their scope, their least place) is what these hold.
-use Prim.Native.Nat.{ℕ, zero, suc, _+_, _-_, _*_, _≤_, _<_, min}
+use Prim.Native.Nat.{ℕ, suc, _+_, _-_, _*_, _≤_, _<_, min}
 use native.Mathlib.Omega.{arith}
-use mathlib.Core.List.{List, [], _∷_, _++_, map}
-use mathlib.Core.Bool.{Bool, true, false, cond, _&&_}
-use mathlib.Core.Path.{_≡_, refl, ap, sym, _∙_}
-use lib.Dec.{eqb, leb, ltb}
-use lib.ListN.{length, getD, take}
-use borrow.Author.Tests.{leb-true, ltb-true, ltb-false, lt-ltb, eq-eqb, eqb-true}
+use mathlib.Core.List.{List, [], _∷_, _++_}
+use mathlib.Core.Bool.{Bool, true, false, cond}
+use mathlib.Core.Path.{_≡_, refl, sym}
+use lib.Dec.{eqb, ltb}
+use lib.ListN.{length}
+use borrow.Author.Tests.{leb-true, ltb-true, ltb-false, lt-ltb, eq-eqb}
 use Rattle.terms.specs.Names.{Name}
-use Rattle.terms.specs.Terms.{Timer, Value, Part, Process}
+use Rattle.terms.specs.Terms.{Part, Process}
 use Rattle.terms.specs.Terms.Part.{stop, go, out, inp, call}
 use Rattle.terms.specs.Terms.Process.{one, _∥_}
-use Rattle.terms.specs.Letters.{isSmall}
 use Rattle.terms.specs.Same.{every}
 use Rattle.terms.proofs.Names.{and-inv, and-in}
-use Rattle.text.specs.Questions.{Place, into, partPlaces, processPlaces}
+use Rattle.text.specs.Questions.{processPlaces}
 use Rattle.table.specs.declared.Head.{Head}
-use Rattle.table.specs.Words.{locsIn, chansIn, defsIn, arityOf, field, headAt, nextAt, lowAt, ownAt, boundAt, scopeAt, namesAt}
-use Rattle.table.specs.Valid.{alike, index, timerOk, refOk, innerOk, entered, headOk, nextOk, scopeOk, stacked, floor, lowOk, treeOk, partOk}
+use Rattle.table.specs.Words.{locsIn, defsIn, arityOf, lowAt, ownAt, scopeAt, namesAt}
+use Rattle.table.specs.Valid.{alike, index, innerOk, entered, headOk, nextOk, scopeOk, stacked, floor, lowOk, treeOk, partOk}
 use Rattle.table.proofs.Tests.{every-append}
 use Rattle.table.specs.Size.{size, sizeP}
-use Rattle.text_build.specs.Rows.{Row, Below, Stands, idsOf, scopeNames, headOf, firstPlace, secondPlace, entering, valueKnown, chanKnown, callKnown, partKnown, placeKnown}
+use Rattle.text_build.specs.Rows.{Row, Below, Stands, idsOf, scopeNames, headOf, firstPlace, secondPlace, entering, chanKnown, callKnown, partKnown, placeKnown}
 use Rattle.text_build.proofs.Numbers.{timer-ok, value-ok, args-ok, args-in, names-entered}
 use Rattle.text_build.proofs.Places.{PartFit, Fit, size-some, sizeP-some, fit-go, fit-out, fit-in, fit-par}
 use Rattle.text_build.proofs.Stands.{known-first}

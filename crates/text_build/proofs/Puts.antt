@@ -1,14 +1,14 @@
 -- The second pass writes rows that stand for the process: unless the word 4 says that a table or a scope is full, `put p i sc w` has p standing at i.
 -- By induction on the process, write by write: what was written before goes on standing (proofs/Kept), since each write lies elsewhere (`Frame`) and
 -- only adds names (`Grown`).
-use Prim.Native.Nat.{ℕ, zero, suc, _+_, _-_, _*_, _≤_, _<_, min}
+use Prim.Native.Nat.{ℕ, suc, _+_, _-_, _*_, _≤_, _<_}
 use native.Mathlib.Omega.{arith}
-use mathlib.Core.List.{List, [], _∷_, _++_, map}
-use mathlib.Core.Bool.{Bool, true, false, cond, _&&_}
-use mathlib.Core.Path.{_≡_, refl, ap, sym, _∙_}
-use borrow.Author.Tests.{ltb-true, ltb-false, lt-ltb}
-use lib.Dec.{leb, ltb}
-use lib.ListN.{length, getD, set, take, length-set}
+use mathlib.Core.List.{List, [], _∷_, _++_}
+use mathlib.Core.Bool.{Bool, true, false, cond}
+use mathlib.Core.Path.{_≡_, refl, sym, _∙_}
+use borrow.Author.Tests.{ltb-true}
+use lib.Dec.{ltb}
+use lib.ListN.{length, set, take, length-set}
 use lib.Seq.{sets, length-sets, getD-set-same, length-take-le, take-suc-set}
 use Rattle.terms.specs.Names.{Name}
 use Rattle.terms.specs.Terms.{Timer, Value, Part, Process}
@@ -19,7 +19,7 @@ use Rattle.terms.proofs.Names.{and-inv, and-in}
 use Rattle.text.specs.Tokens.{isSmall}
 use Rattle.text.specs.WellFormed.{Each, WellPart, WellProcess}
 use Rattle.text.specs.Questions.{Place, into, partPlaces, processPlaces}
-use Rattle.table.specs.Words.{word, field, nameAt, ownAt, boundAt}
+use Rattle.table.specs.Words.{word, field, nameAt, ownAt}
 use Rattle.table.specs.Valid.{index}
 use Rattle.table.proofs.Tests.{every-append}
 use Rattle.table.specs.Size.{size, sizeP}
@@ -27,12 +27,12 @@ use Rattle.text_build.specs.declared.Scope.{Scope}
 use Rattle.text_build.specs.Rows.{Row, Below, Stands, scopeNames, headOf, firstPlace, secondPlace, entering, chanKnown}
 use Rattle.text_build.specs.Growth.{valueListed, partListed, placeListed, Grown, Frame, Making}
 use Rattle.text_build.specs.Put.{offsets, slotOf, enterPart, rowWords, rowOf, opened, setSecond, linked, innerScope, scopeMark, putPart, put}
-use Rattle.text_build.proofs.Places.{PartFit, Fit, here, size-some, sizeP-some, fit-first}
+use Rattle.text_build.proofs.Places.{PartFit, Fit, here, size-some, sizeP-some}
 use Rattle.text_build.proofs.Writes.{sets-under, sets-past}
 use Rattle.text_build.proofs.Grows.{Grew, grew-then, row-grew, mark-back}
 use Rattle.text_build.proofs.RowWords.{RowIs, Eight, row-after, row-new, row-kept}
 use Rattle.text_build.proofs.Entering.{Clear, Settled, settled-same, settled-lower, listed-on, grew-none}
-use Rattle.text_build.proofs.Entering.Clear.{param, higher}
+use Rattle.text_build.proofs.Entering.Clear.{higher}
 use Rattle.text_build.proofs.Opening.{secondOf, finished, row-length, part-back, PartIn, part-in, part-row, own-name, slot-is}
 use Rattle.text_build.proofs.Numbers.{names-entered}
 use Rattle.text_build.proofs.Kept.{entering-same, entered-same, below-kept, kept}

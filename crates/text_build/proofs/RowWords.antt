@@ -1,24 +1,22 @@
 -- The words of a row after a write, and what a row written by `rowOf` holds once its Q, its next part and its least place are set.
 -- By where the words lie, and by computing the head of each kind.
-use Prim.Native.Nat.{ℕ, zero, suc, _+_, _-_, _*_, _≤_, _<_, min}
+use Prim.Native.Nat.{ℕ, _+_, _-_, _*_, _≤_, _<_}
 use native.Mathlib.Omega.{arith}
-use mathlib.Core.List.{List, [], _∷_, _++_, map}
+use mathlib.Core.List.{List, [], _∷_, _++_}
 use mathlib.Core.Bool.{Bool, true, false, cond}
 use mathlib.Core.Path.{_≡_, refl, ap, sym, _∙_}
-use borrow.Author.Tests.{ltb-true, ltb-false, lt-ltb, le-ltb, le-leb}
+use borrow.Author.Tests.{ltb-true, ltb-false, le-leb}
 use lib.Dec.{eqb, leb, ltb}
-use lib.ListN.{length, getD, set, take}
+use lib.ListN.{length, getD, take}
 use lib.Seq.{sets, getD-append-add}
-use Rattle.terms.specs.Names.{Name}
-use Rattle.terms.specs.Terms.{Timer, Value, Part, Process}
-use Rattle.terms.specs.Terms.Part.{stop, go, out, inp, call}
+use Rattle.terms.specs.Terms.Part.{go}
 use Rattle.table.specs.declared.Head.{Head}
 use Rattle.table.specs.declared.Head.the-variants.{Stop, Go, Out, In, Call}
-use Rattle.table.specs.Words.{word, field, headAt, nextAt, lowAt, scopeAt, atMost8}
+use Rattle.table.specs.Words.{word, field, headAt, nextAt, lowAt, scopeAt}
 use Rattle.text_build.specs.declared.Scope.{Scope}
 use Rattle.text_build.specs.Growth.{Frame}
 use Rattle.text_build.specs.Rows.{Row}
-use Rattle.text_build.specs.Put.{offsets, rowWords}
+use Rattle.text_build.specs.Put.{offsets}
 use Rattle.text_build.proofs.Writes.{sets-under, sets-past, sets-in}
 
 -- the row at i holds the words r

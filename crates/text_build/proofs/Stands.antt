@@ -1,26 +1,25 @@
 -- Rows that the second pass writes stand for their process: if the process stands at a place, then the place means that process, however deep one looks.
 -- By induction on the process: each row's numbers lead back to its names, its P and Q lie where the row says, and the next part below these.
-use Prim.Native.Nat.{ℕ, zero, suc, _+_, _-_, _≤_, _<_, min}
+use Prim.Native.Nat.{ℕ, zero, suc, _-_, _≤_, _<_, min}
 use native.Mathlib.Omega.{arith}
-use mathlib.Core.List.{List, [], _∷_, _++_, map}
-use mathlib.Core.Bool.{Bool, true, false, cond, _&&_}
-use mathlib.Core.Path.{_≡_, refl, ap, sym, _∙_}
-use lib.Dec.{eqb, leb, ltb}
-use lib.ListN.{length, getD, take}
+use mathlib.Core.List.{List}
+use mathlib.Core.Bool.{true}
+use mathlib.Core.Path.{_≡_, refl, ap, _∙_}
+use lib.Dec.{eqb, ltb}
+use lib.ListN.{length}
 use borrow.Author.Tests.{leb-true}
 use Rattle.terms.specs.Names.{Name}
 use Rattle.terms.specs.Terms.{Timer, Value, Part, Process}
 use Rattle.terms.specs.Terms.Part.{stop, go, out, inp, call}
 use Rattle.terms.specs.Terms.Process.{one, _∥_}
-use Rattle.terms.specs.Same.{every}
-use Rattle.terms.proofs.Names.{and-inv, and-in}
-use Rattle.text.specs.Questions.{Place, into, partPlaces, processPlaces}
+use Rattle.terms.proofs.Names.{and-inv}
+use Rattle.text.specs.Questions.{processPlaces}
 use Rattle.table.specs.declared.Head.{Head}
 use Rattle.table.specs.Valid.{index}
-use Rattle.table.specs.Words.{locsIn, chansIn, defsIn, arityOf, headAt, nextAt, boundAt, scopeAt, namesAt}
-use Rattle.table.specs.Meaning.{valuesOf, partOf, joined, deep, processAt, partAt}
+use Rattle.table.specs.Words.{locsIn, defsIn, arityOf, boundAt, namesAt}
+use Rattle.table.specs.Meaning.{partOf, joined, deep, processAt}
 use Rattle.table.specs.Size.{size, sizeP}
-use Rattle.text_build.specs.Rows.{Row, Below, idsOf, Stands, scopeNames, headOf, firstPlace, secondPlace, entering, valueKnown, chanKnown, callKnown, partKnown, placeKnown}
+use Rattle.text_build.specs.Rows.{Row, Below, idsOf, Stands, scopeNames, headOf, firstPlace, secondPlace, entering, chanKnown, callKnown, partKnown, placeKnown}
 use Rattle.text_build.proofs.Places.{PartFit, Fit, size-some, sizeP-some, fit-first, fit-go, fit-out, fit-in, fit-par}
 use Rattle.text_build.proofs.Numbers.{chan-number, id-number, timer-is, value-is, args-are, args-in, names-entered}
 

@@ -1,17 +1,16 @@
 -- A name looked up or added: the ways of `number` to its answer, and what the table holds afterwards.
 -- The law: the names that a table holds become the same with the new one behind them, unless it is among them (`into` of the numbering by first place).
-use Prim.Native.Nat.{ℕ, zero, suc, _+_, _-_, _*_, _≤_, _<_, min}
+use Prim.Native.Nat.{ℕ, suc, _+_, _-_, _*_, _≤_, _<_}
 use native.Mathlib.Omega.{arith}
-use mathlib.Core.List.{List, [], _∷_, _++_}
+use mathlib.Core.List.{List, [], _∷_}
 use mathlib.Core.Bool.{Bool, true, false, cond}
-use mathlib.Core.Path.{_≡_, refl, ap, sym, _∙_}
-use borrow.Author.Tests.{ltb-true, ltb-false, lt-ltb, le-ltb}
+use mathlib.Core.Path.{_≡_, ap, sym, _∙_}
+use borrow.Author.Tests.{lt-ltb, le-ltb}
 use lib.Dec.{ltb}
-use lib.ListN.{length, getD, set}
+use lib.ListN.{length, set}
 use lib.Seq.{sets}
 use Rattle.terms.specs.Names.{Name, sameName}
 use Rattle.table.specs.declared.Key.{Key}
-use Rattle.table.specs.Words.{word}
 use Rattle.table.specs.Meaning.{listFrom}
 use Rattle.table.specs.Tests.{keyName, rowName}
 use Rattle.table.specs.Valid.{index}

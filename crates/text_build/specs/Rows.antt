@@ -2,9 +2,9 @@
 -- A part's P lies directly below it, its Q directly below P's last row, the next part of its process directly below these.
 -- Names are written as numbers: a location, a channel or an identifier by its position among those that the script holds, a variable by its
 -- slot, the first index of its name in the scope. A name that is not there gets the number behind the last one: questions 6 and 7 find it.
-use Prim.Native.Nat.{ℕ, zero, suc, _+_, _-_, min}
+use Prim.Native.Nat.{ℕ, suc, _+_, _-_, min}
 use mathlib.Core.List.{List, [], _∷_, _++_, map}
-use mathlib.Core.Bool.{Bool, true, false, cond, _&&_}
+use mathlib.Core.Bool.{Bool, true, cond, _&&_}
 use mathlib.Core.Path.{_≡_}
 use lib.Dec.{eqb, leb, ltb}
 use lib.ListN.{length, getD}

@@ -1,10 +1,10 @@
 -- Names that a script holds, looked up or added: document 01, *Reading* (numbered by first place) and question 4 (at most 64).
-use Prim.Native.Nat.{ℕ, suc, _+_, _*_, min}
+use Prim.Native.Nat.{ℕ, _+_, _*_, min}
 use mathlib.Core.List.{List, [], _∷_}
-use mathlib.Core.Bool.{Bool, true, false, cond}
+use mathlib.Core.Bool.{cond}
 use mathlib.Core.Path.{_≡_}
 use lib.Dec.{ltb}
-use lib.ListN.{getD, set}
+use lib.ListN.{set}
 use lib.Seq.{sets}
 use Rattle.terms.specs.Names.{Name}
 use Rattle.table.specs.declared.Key.{Key}

@@ -1,13 +1,12 @@
 -- The ways of the two readers through the code, over the bytes of a text s.
 -- Each way is an equation of what the code's numbers stand for with what the grammar gives, stopped at the limits; bytes left fall.
-use Prim.Native.Nat.{ℕ, _+_, _-_, _≤_, _<_, min, max}
+use Prim.Native.Nat.{ℕ, _-_, _<_}
 use native.Mathlib.Omega.{arith}
-use mathlib.Core.Bool.{Bool, true, false}
-use mathlib.Core.List.{List, [], _∷_}
+use mathlib.Core.List.{List}
 use mathlib.Core.Path.{_≡_, refl, sym, ap, _∙_}
 use lib.ListN.{length, drop}
 use Rattle.text.specs.Tokens.{Token, lex, closes, comma, bar}
-use Rattle.text.specs.Grammar.{Rest, Reader, bind, the, next}
+use Rattle.text.specs.Grammar.{Rest, Reader, bind, the}
 use Rattle.text.specs.Grammar.Rest.{ok, bad}
 use Rattle.text.proofs.Unbounded.{the-less}
 use Rattle.text_words.specs.Bytes.{ended, mapped}

@@ -7,7 +7,6 @@ use mathlib.Core.List.{List, [], _∷_}
 use mathlib.Core.Path.{_≡_, refl, ap, sym, _∙_}
 use lib.ListN.{length, drop}
 use Rattle.terms.specs.Names.{Name, bytes, sameName}
-use Rattle.terms.specs.Terms.{Timer, Value}
 use Rattle.terms.specs.Terms.Timer.{ticks, inf}
 use Rattle.terms.specs.Terms.Value.{loc, var}
 use Rattle.text.specs.Tokens.{Token, lex, number, isSmall, isLocation, isIdentifier, isTicks, opens, closes, comma}
@@ -18,12 +17,12 @@ use Rattle.text.proofs.Unbounded.{Less, name-less, the-less, word-less, small-l
 use Rattle.text_words.specs.Bytes.{mapped, skim}
 use Rattle.text_words.specs.Sorts.{isTimer}
 use Rattle.text_words.proofs.WordSorts.{identifier-is}
-use Rattle.text_parts.specs.Openings.{Opening, leaf, single, double, openForm, anOpening, fieldForm, goForm, pairForm, commForm}
+use Rattle.text_parts.specs.Openings.{leaf, single, double, openForm, anOpening, fieldForm, goForm, pairForm, commForm}
 use Rattle.text_parts.specs.Counting.{namesForm, namesCount, listCount}
 use Rattle.text_parts.specs.Answers.{listed}
 use Rattle.text_parts.specs.declared.Names.{Names}
 use Rattle.text.proofs.Exact.{clash}
-use Rattle.text_parts.proofs.Rests.{mapped-same, mapped-bind, mapped-after, mapped-give, bind-same, mapped-less, next-yes, next-no, ended-is, ended-zero}
+use Rattle.text_parts.proofs.Rests.{mapped-same, mapped-bind, mapped-give, bind-same, mapped-less, next-yes, next-no, ended-is, ended-zero}
 
 -- ── a timer, a value: a word that passes a test ──
 timer-field : (ts : List Token) → skim aTimer ts ≡ skim (named isTimer) ts

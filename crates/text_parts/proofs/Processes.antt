@@ -1,21 +1,20 @@
 -- The numbers of a part and of a process, read as the grammar reads them: `part-counts`, `process-counts`.
 -- By the grammar's equations, with what each reader gives changed to its numbers along the do-block.
-use Prim.Native.Nat.{ℕ, _+_, _*_, _<_}
+use Prim.Native.Nat.{_+_, _*_}
 use mathlib.Core.Bool.{Bool, true, false}
-use mathlib.Core.List.{List, [], _∷_}
-use mathlib.Core.Path.{_≡_, refl, ap, sym, _∙_}
+use mathlib.Core.List.{List}
+use mathlib.Core.Path.{_≡_, refl, ap, _∙_}
 use lib.ListN.{length}
 use Rattle.terms.specs.Names.{Name}
 use Rattle.terms.specs.Terms.{Part, Process}
-use Rattle.terms.specs.Terms.Process.{one, _∥_}
 use Rattle.text.specs.Tokens.{Token, isSmall, opens, closes, comma, bar}
 use Rattle.text.specs.Grammar.{Rest, Reader, bind, named, the, aWord, next, listOf, aTimer, aValue, Head, headOf, partForm, moreParts, part, process}
 use Rattle.text.specs.Grammar.Rest.{ok, bad}
 use Rattle.text.specs.Grammar.Head.{stops, goes, sends, receives, calls, nothing}
 use Rattle.text.proofs.Unbounded.{Less, part-is, process-is, part-less, process-less}
 use Rattle.text_words.specs.Bytes.{mapped}
-use Rattle.text_parts.specs.Openings.{Opening, leaf, single, double, openForm, anOpening}
-use Rattle.text_parts.specs.Counts.{Count, joined, partCount, processCount}
+use Rattle.text_parts.specs.Openings.{openForm, anOpening}
+use Rattle.text_parts.specs.Counts.{joined, partCount, processCount}
 use Rattle.text_parts.specs.Counting.{partCounts, processCounts, closeForm}
 use Rattle.text_parts.proofs.Gathering.{moreOf}
 use Rattle.text_parts.proofs.Rests.{mapped-bind, mapped-after, mapped-give, mapped-less, over, sign-over}

@@ -1,10 +1,10 @@
 -- Laws of what readers give: changing what was read, one reader after another, and what the code's positions say.
 -- By the two cases, something was read or not.
-use Prim.Native.Nat.{ℕ, _≤_, _<_}
+use Prim.Native.Nat.{ℕ, _<_}
 use native.Mathlib.Omega.{arith}
 use mathlib.Core.Bool.{Bool, true, false}
 use mathlib.Core.List.{List, [], _∷_}
-use mathlib.Core.Path.{_≡_, refl, ap, sym, _∙_}
+use mathlib.Core.Path.{_≡_, refl, ap, sym}
 use borrow.Author.Tests.{ne-eqb, eq-eqb}
 use lib.Dec.{eqb}
 use lib.ListN.{length, drop}
@@ -13,8 +13,7 @@ use Rattle.text.specs.Tokens.Token.{word, sign}
 use Rattle.text.specs.Grammar.{Rest, Reader, bind, when, the, next}
 use Rattle.text.specs.Grammar.Rest.{ok, bad}
 use Rattle.text.proofs.Unbounded.{Less}
-use Rattle.text_words.specs.Bytes.{ended, mapped, skim}
-use Rattle.text_words.proofs.Positions.{ended-at, ended-bad}
+use Rattle.text_words.specs.Bytes.{ended, mapped}
 use Rattle.text.proofs.Exact.{clash}
 
 -- ── changing what was read ──

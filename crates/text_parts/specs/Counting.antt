@@ -1,12 +1,11 @@
 -- The grammar's readers, giving the numbers of what they read.
 use Prim.Native.Nat.{ℕ, min}
-use mathlib.Core.Bool.{Bool, true, false}
-use mathlib.Core.List.{List, [], _∷_}
+use mathlib.Core.Bool.{Bool}
+use mathlib.Core.List.{List}
 use lib.ListN.{length}
 use Rattle.terms.specs.Names.{Name}
-use Rattle.text.specs.Tokens.{Token, closes, comma, bar}
-use Rattle.text.specs.Grammar.{Rest, Reader, bind, give, the, named, sepBy, listOf, part, process, _>>=_, _>>_}
-use Rattle.text.specs.Grammar.Rest.{ok, bad}
+use Rattle.text.specs.Tokens.{closes, comma}
+use Rattle.text.specs.Grammar.{Reader, give, the, named, sepBy, listOf, part, process, _>>=_, _>>_}
 use Rattle.text_words.specs.Bytes.{mapped}
 use Rattle.text_parts.specs.Openings.{Opening, leaf, single, double}
 use Rattle.text_parts.specs.Counts.{Count, leafCount, joined, wrapped, partCount, processCount}

@@ -14,14 +14,13 @@
 // proofs/Gathering  a loop over things joined by a sign, stated once
 // proofs/Processes  the numbers of parts and processes by the grammar's equations
 // proofs/Cycle      the ways of the two readers through the code
-ghost use mathlib.Core.Bool.{Bool};
 ghost use mathlib.Core.Path.{_≡_};
-ghost use Prim.Native.Nat.{ℕ, _+_, _≤_, _<_, min, max};
-ghost use lib.ListN.{length, drop};
+ghost use Prim.Native.Nat.{_+_, _<_, min, max};
+ghost use lib.ListN.{drop};
 ghost use Rattle.text.specs.Tokens.{lex};
-ghost use Rattle.text.specs.Grammar.{the, named, netNext};
+ghost use Rattle.text.specs.Grammar.{the};
 ghost use Rattle.text.specs.Grammar.Head.{calls};
-ghost use Rattle.text_words.specs.Bytes.{ended, skim, mapped, IsSign};
+ghost use Rattle.text_words.specs.Bytes.{ended, mapped, IsSign};
 ghost use Rattle.text_words.specs.Sorts.{fits, headIs};
 ghost use Rattle.text_parts.specs.Openings.{fieldForm, goForm, pairForm, commForm, openForm, anOpening};
 ghost use Rattle.text_parts.specs.Counts.{capped};

@@ -1,22 +1,19 @@
 -- Values by number: slots looked up one after the other, and the arguments of a call.
 use Prim.Native.Nat.{ℕ, zero, suc, _+_, _-_, _≤_, _<_, min}
 use native.Mathlib.Omega.{arith}
-use native.Mathlib.Numerals.{add-one}
-use mathlib.Core.Bool.{Bool, true, false, cond, false≢true}
-use mathlib.Core.List.{List, [], _∷_, map}
+use mathlib.Core.Bool.{Bool, true, false, false≢true}
+use mathlib.Core.List.{List, [], _∷_}
 use mathlib.Core.Path.{_≡_, refl, sym, ap, _∙_}
-use lib.Dec.{leb}
-use lib.ListN.{length, take, drop, getD, length-map}
+use lib.ListN.{length, drop, getD, length-map}
 use lib.Seq.{length-take-le, getD-take}
 use Rattle.terms.specs.Names.{Name, sameName}
 use Rattle.terms.specs.Terms.{Value}
 use Rattle.terms.specs.Terms.Value.{loc, var}
-use Rattle.text.specs.Characters.{Class, classOf, isCapital, isLower}
-use Rattle.text.specs.Characters.Class.{capital, small, digit, bracket, blank, other}
-use Rattle.text.specs.Tokens.{Token, lex, firstIs, isLocation, isSmall, opens, closes, comma}
+use Rattle.text.specs.Characters.{isCapital}
+use Rattle.text.specs.Characters.Class.{capital}
+use Rattle.text.specs.Tokens.{Token, lex, firstIs, opens, closes, comma}
 use Rattle.text.specs.Tokens.Token.{word, sign}
-use Rattle.text.specs.Grammar.{Rest, the, next}
-use Rattle.text.specs.Grammar.Rest.{ok, bad}
+use Rattle.text.specs.Grammar.{the, next}
 use Rattle.text.specs.Write.{valueT, joinedT, listT}
 use Rattle.text.specs.WellFormed.{Each, WellValue}
 use Rattle.table.specs.declared.Key.{Key}
@@ -32,14 +29,14 @@ use Rattle.text_words.proofs.WordSorts.{location-first, small-not-capital}
 use Rattle.text_parts.proofs.Rests.{ended-is}
 use Rattle.text_build.specs.declared.Scope.{Scope}
 use Rattle.text_build.specs.Keys.{keyOf}
-use Rattle.text_build.specs.Tables.{heldIn, numberIn, enlist, keyWords, Enlisted}
+use Rattle.text_build.specs.Tables.{heldIn, numberIn, keyWords, Enlisted}
 use Rattle.text_build.specs.Rows.{scopeNames}
 use Rattle.text_build.specs.Put.{offsets, slotOf, locNumber, enterLoc, valueNumber, enterValue, argNumbers, enterValues, first₄}
 use Rattle.text_build.proofs.Tables.{index-within, number-within}
 use Rattle.text_put.specs.declared.Named.{Named}
 use Rattle.text_put.specs.declared.Args.{Args}
 use Rattle.text_put.specs.Found.{NameIs, nameOf, isLoc, numberBy, enterBy, ValueBy, withWord, ValuesAt, valuesOf, ListAt, ArgsAre}
-use Rattle.text_put.proofs.Peeling.{peel-sign, peel-some, other-next, sign-next}
+use Rattle.text_put.proofs.Peeling.{peel-sign, peel-some, sign-next}
 
 -- ── slots ──
 module _ (w : List ℕ) (sc : Scope) (few : sc .n ≤ 8) (eight : length (sc .at) ≡ 8) where

@@ -1,26 +1,23 @@
 -- A part up to its first process, from what the code read and wrote of it: `go-open`, `out-open`, `in-open`, `call-open`, `stop-open`;
 -- and which of these a part is, by the sort of its first word.
-use Prim.Native.Nat.{ℕ, zero, suc, _+_, _-_, _*_, _≤_, _<_, min}
+use Prim.Native.Nat.{ℕ, _+_, _-_, _*_, _≤_, _<_}
 use native.Mathlib.Omega.{arith}
-use mathlib.Core.Bool.{Bool, true, false, cond}
-use mathlib.Core.List.{List, [], _∷_}
+use mathlib.Core.List.{List, _∷_}
 use mathlib.Core.Path.{_≡_, refl, sym, ap, _∙_}
 use borrow.Author.Tests.{lt-ltb, le-ltb}
-use lib.Dec.{ltb}
 use lib.ListN.{length, drop, set}
 use lib.Seq.{sets}
-use Rattle.terms.specs.Names.{Name, bytes, sameName}
+use Rattle.terms.specs.Names.{Name, sameName}
 use Rattle.terms.specs.Terms.{Timer, Value, Part, Process}
 use Rattle.terms.specs.Terms.Part.{stop, go, out, inp, call}
-use Rattle.text.specs.Tokens.{Token, lex, tokenwise, opens, closes, comma}
-use Rattle.text.specs.Tokens.Token.{word, sign}
-use Rattle.text.specs.Grammar.{Head, headOf, next}
+use Rattle.text.specs.Tokens.{Token, lex}
+use Rattle.text.specs.Tokens.Token.{word}
+use Rattle.text.specs.Grammar.{Head, headOf}
 use Rattle.text.specs.Grammar.Head.{stops, goes, sends, receives, calls, nothing}
-use Rattle.text.specs.Write.{timerT, valueT, listT, partT, processT}
+use Rattle.text.specs.Write.{partT}
 use Rattle.text.specs.WellFormed.{WellPart}
 use Rattle.text.proofs.ReadBack.{identifier-calls}
 use Rattle.text_words.specs.declared.Sort.{Sort}
-use Rattle.text_words.specs.declared.Sort.the-variants as sort
 use Rattle.text_words.specs.Sorts.{sortOf, headIs}
 use Rattle.text_words.proofs.WordSorts.{head-is}
 use Rattle.table.specs.declared.Key.{Key}
@@ -30,17 +27,17 @@ use Rattle.table.specs.Tests.{keyName, rowName}
 use Rattle.table.specs.Valid.{index}
 use Rattle.text_build.specs.declared.Scope.{Scope}
 use Rattle.text_build.specs.Keys.{keyOf}
-use Rattle.text_build.specs.Tables.{heldIn, numberIn, enlist, keyWords, Enlisted}
-use Rattle.text_build.specs.Rows.{scopeNames, timerWord, firstPlace}
-use Rattle.text_build.specs.Put.{offsets, slotOf, chanNumber, enterChan, idNumber, valueNumber, enterValue, enterValues, argNumbers, enterPart, rowWords, rowOf, opened, none₄, first₄, innerScope, scopeMark}
+use Rattle.text_build.specs.Tables.{heldIn, enlist, keyWords, Enlisted}
+use Rattle.text_build.specs.Rows.{scopeNames}
+use Rattle.text_build.specs.Put.{offsets, slotOf, chanNumber, enterChan, idNumber, enterPart, rowWords, rowOf, opened, innerScope, scopeMark}
 use Rattle.text_build.proofs.Tables.{number-within}
 use Rattle.text_put.specs.declared.Pair.{Pair}
 use Rattle.text_put.specs.declared.Front.{Front}
 use Rattle.text_put.specs.declared.Args.{Args}
-use Rattle.text_put.specs.declared.Open.{Open}
 use Rattle.text_put.specs.Found.{PairIs, FrontIs, nameOf, ValueBy, enteredBy, markedBy, Marked, ListAt, ArgsAre}
-use Rattle.text_put.specs.Opened.{PartAt, TailAt, rest, headName, tailT, arms, within, noted, OpenIs, CallIs}
-use Rattle.text_put.proofs.Arguments.{slot-few, value-word, value-is, value-after}
+use Rattle.text_put.specs.Opened.{PartAt, TailAt, rest, headName, tailT, OpenIs}
+use Rattle.text_put.proofs.Arguments.{slot-few, value-is, value-after}
+use Rattle.text_words.specs.declared.Sort.the-variants as sort
 
 abbrev pub noWords : Key
 noWords = record { a = 0; b = 0; c = 0; d = 0 }

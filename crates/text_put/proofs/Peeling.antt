@@ -1,6 +1,6 @@
 -- Tokens peeled off a text one after the other: a sign that is eaten, a word that is read.
 -- From what the code of words and signs gives, where the next token is known.
-use Prim.Native.Nat.{ℕ, _+_, _-_, _≤_, _<_}
+use Prim.Native.Nat.{ℕ, _-_, _≤_, _<_}
 use native.Mathlib.Omega.{arith}
 use mathlib.Core.Bool.{Bool, true, false, cond, _||_, false≢true}
 use mathlib.Core.List.{List, [], _∷_}
@@ -9,16 +9,15 @@ use borrow.Author.Tests.{eq-eqb, leb-false}
 use lib.Dec.{eqb, leb}
 use lib.ListN.{length, take, drop, getD}
 use Rattle.terms.specs.Names.{Name, bytes, sameName}
-use Rattle.terms.specs.declared.Timer.{Timer as CodeTimer}
 use Rattle.terms.specs.declared.Made.the-variants.{Valid, TooLarge}
 use Rattle.terms.specs.Clock.{madeOf}
 use Rattle.terms.specs.Terms.{Timer}
 use Rattle.terms.specs.Terms.Timer.{ticks, inf}
 use Rattle.text.specs.Characters.{Class, within, classOf, isCapital}
-use Rattle.text.specs.Characters.Class.{capital, small, digit, bracket, blank, other}
+use Rattle.text.specs.Characters.Class.{small, digit, bracket, blank, other}
 use Rattle.text.specs.Tokens.{Token, lex, firstIs, digits, number}
 use Rattle.text.specs.Tokens.Token.{word, sign}
-use Rattle.text.specs.Grammar.{Rest, the, aWord, next}
+use Rattle.text.specs.Grammar.{the, aWord, next}
 use Rattle.text.specs.Grammar.Rest.{ok, bad}
 use Rattle.text.specs.Write.{timerT}
 use Rattle.text.specs.WellFormed.{WellTimer}
@@ -28,6 +27,7 @@ use Rattle.text_words.proofs.Positions.{word-is, word-none}
 use Rattle.text_build.specs.Rows.{timerWord}
 use Rattle.text.proofs.Exact.{clash}
 use Rattle.text_parts.proofs.Rests.{next-yes, next-no, ended-is, ended-zero}
+use Rattle.terms.specs.declared.Timer.{Timer as CodeTimer}
 
 -- ── signs ──
 pub the-sign : (c : ℕ) (us : List Token) → the c (sign c ∷ us) ≡ ok tt us

@@ -1,22 +1,22 @@
 -- Parts and processes put into their rows: what the two readers make of what they read and called.
 -- By the forms of a part, and by whether a process has one part or more.
-use Prim.Native.Nat.{ℕ, zero, suc, _+_, _-_, _*_, _≤_, _<_}
+use Prim.Native.Nat.{ℕ, suc, _+_, _-_, _≤_, _<_}
 use native.Mathlib.Omega.{arith}
 use native.Mathlib.Numerals.{add-one}
 use mathlib.Core.Bool.{Bool, true, false, cond, false≢true}
-use mathlib.Core.List.{List, [], _∷_}
+use mathlib.Core.List.{List, _∷_}
 use mathlib.Core.Path.{_≡_, refl, sym, ap, _∙_}
 use borrow.Author.Tests.{ltb-true}
 use lib.Dec.{ltb}
 use lib.ListN.{length, drop, set}
 use Rattle.terms.specs.Names.{Name}
-use Rattle.terms.specs.Terms.{Timer, Value, Part, Process}
+use Rattle.terms.specs.Terms.{Part, Process}
 use Rattle.terms.specs.Terms.Part.{stop, go, out, inp, call}
 use Rattle.terms.specs.Terms.Process.{one, _∥_}
-use Rattle.text.specs.Tokens.{Token, lex, opens, closes, comma, bar}
+use Rattle.text.specs.Tokens.{Token, lex, closes, comma, bar}
 use Rattle.text.specs.Tokens.Token.{word, sign}
 use Rattle.text.specs.Grammar.{the, next}
-use Rattle.text.specs.Write.{timerT, valueT, listT, partT, processT}
+use Rattle.text.specs.Write.{valueT, partT, processT}
 use Rattle.text.specs.WellFormed.{WellPart, WellProcess}
 use Rattle.text.proofs.ReadBack.{timer-longer, value-longer, part-longer, process-longer}
 use Rattle.text_words.specs.Bytes.{ended}
@@ -24,8 +24,7 @@ use Rattle.text_words.proofs.Positions.{bytes-fall}
 use Rattle.table.specs.Words.{ownAt}
 use Rattle.table.specs.Size.{size, sizeP}
 use Rattle.text_build.specs.declared.Scope.{Scope}
-use Rattle.text_build.specs.Rows.{firstPlace, secondPlace}
-use Rattle.text_build.specs.Put.{slotOf, opened, setSecond, linked, innerScope, scopeMark, putPart, put}
+use Rattle.text_build.specs.Put.{slotOf, opened, setSecond, linked, innerScope, putPart, put}
 use Rattle.text_build.proofs.Places.{size-some, sizeP-some}
 use Rattle.text_put.specs.declared.Open.{Open}
 use Rattle.text_put.specs.declared.Placed.{Placed}

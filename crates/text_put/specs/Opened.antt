@@ -1,11 +1,11 @@
 -- A part up to its first process: what is written of it, and what is left to read; parts and processes put into their rows.
 use Prim.Native.Nat.{ℕ, suc, _-_}
-use mathlib.Core.List.{List, [], _∷_}
-use mathlib.Core.Bool.{Bool, true, false}
+use mathlib.Core.List.{List, _∷_}
+use mathlib.Core.Bool.{false}
 use mathlib.Core.Path.{_≡_}
 use lib.ListN.{drop}
 use Rattle.terms.specs.Names.{Name, bytes}
-use Rattle.terms.specs.Terms.{Timer, Value, Part, Process}
+use Rattle.terms.specs.Terms.{Value, Part, Process}
 use Rattle.terms.specs.Terms.Part.{stop, go, out, inp, call}
 use Rattle.text.specs.Tokens.{Token, lex, opens, closes, comma, bar}
 use Rattle.text.specs.Tokens.Token.{word, sign}

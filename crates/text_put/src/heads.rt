@@ -1,10 +1,8 @@
 // A part up to its first process: its names are entered and its row is written.
-ghost use mathlib.Core.Bool.{cond};
 ghost use mathlib.Core.List.{List, _∷_};
 ghost use mathlib.Core.Path.{_≡_};
 ghost use Prim.Native.Nat.{_-_, _+_, _*_, _≤_, _<_};
-ghost use lib.Dec.{ltb};
-ghost use lib.ListN.{drop, set};
+ghost use lib.ListN.{drop};
 ghost use Rattle.terms.specs.Names.{Name};
 ghost use Rattle.terms.specs.Terms.{Timer, Value, Process};
 ghost use Rattle.terms.specs.Terms.Part.{go, out, inp};

@@ -1,7 +1,6 @@
 // Values by number: a location of the script, entered if it is new, or the slot of a variable.
 ghost use mathlib.Core.Path.{_≡_};
 ghost use Prim.Native.Nat.{_+_, _≤_, min};
-ghost use lib.ListN.{drop};
 ghost use Rattle.table.specs.Tests.{keyName};
 ghost use Rattle.table.specs.Valid.{index};
 ghost use Rattle.text_build.specs.Rows.{scopeNames};

@@ -5,7 +5,7 @@ ghost use lib.ListN.{drop};
 ghost use Rattle.terms.specs.Names.{Name};
 ghost use Rattle.terms.specs.Terms.{Timer};
 ghost use Rattle.text.specs.Characters.{classOf, isCapital};
-ghost use Rattle.text.specs.Tokens.{Token, lex, firstIs, digits, comma};
+ghost use Rattle.text.specs.Tokens.{Token, lex, firstIs, comma};
 ghost use Rattle.text.specs.Tokens.Token.{word, sign};
 ghost use Rattle.text.specs.Write.{timerT};
 ghost use Rattle.text.specs.WellFormed.{WellTimer};

@@ -1,26 +1,25 @@
 -- The answer of `read` from the scan, the script and the questions asked of it.
 -- Question by question: the first that is answered by no gives the definition's refusal, and if none is, script and components stand for the network.
-use Prim.Native.Nat.{ℕ, zero, suc, _+_, _-_, _≤_, _<_, min}
+use Prim.Native.Nat.{ℕ, _-_, _≤_, _<_}
 use native.Mathlib.Omega.{arith}
 use mathlib.Core.Bool.{Bool, true, false, cond, _&&_, false≢true}
 use mathlib.Core.List.{List, [], _∷_, map}
 use mathlib.Core.Path.{_≡_, refl, sym, ap, _∙_}
 use borrow.Author.Tests.{leb-true, eqb-true}
-use lib.Dec.{leb, eqb}
+use lib.Dec.{leb}
 use lib.ListN.{length, take, drop, set, replicate}
-use Rattle.terms.specs.Terms.{Def, Network}
+use Rattle.terms.specs.Terms.{Def}
 use Rattle.terms.specs.Terms.Def.{define}
 use Rattle.terms.specs.Rules.{Answer, _>>=_}
 use Rattle.terms.specs.Rules.Answer.{refused, accepted}
 use Rattle.terms.specs.Same.{every}
 use Rattle.terms.proofs.Names.{and-inv}
-use Rattle.text.specs.Tokens.{lex, dot, bar}
-use Rattle.text.specs.Tokens.Token.{sign}
+use Rattle.text.specs.Tokens.{lex}
 use Rattle.text.specs.Tree.{Located, Tree, networkOf}
 use Rattle.text.specs.Grammar.{Rest, text}
 use Rattle.text.specs.Grammar.Rest.{ok, bad}
-use Rattle.text.specs.Write.{networkT, joinedT, locatedT}
-use Rattle.text.specs.WellFormed.{Each, NonEmpty, WellLocated, WellTree}
+use Rattle.text.specs.Write.{networkT}
+use Rattle.text.specs.WellFormed.{Each, NonEmpty, WellLocated}
 use Rattle.text.specs.Questions.{ask, _>>_, places, short, whole, form, shallow, fits, distinct, callsMet, bound, read, nesting, definitionCount, parameterCount, partCount, componentCount, channels, locations, scopeSize}
 use Rattle.text.proofs.Exact.{form-tokens}
 use Rattle.text_scan.specs.declared.Scanned.{Scanned}
@@ -28,11 +27,9 @@ use Rattle.text_scan.specs.Answers.{unreadScan, scanned, scanOf}
 use Rattle.text_scan.proofs.Limits.{capped-within}
 use Rattle.table.specs.declared.State.{State}
 use Rattle.table.specs.Words.{word}
-use Rattle.table.specs.Meaning.{networkOf as tableNetwork}
-use Rattle.table.specs.Valid.{valid}
 use Rattle.table.specs.Size.{sizeP}
 use Rattle.text_build.specs.Rows.{placeKnown}
-use Rattle.text_tree.specs.Pass.{Within, heads, bodies, afterBodies, brackets, spots, started, top, defined, behind, scriptOf, spotsOf}
+use Rattle.text_tree.specs.Pass.{Within, heads, afterBodies, brackets, spots, started, top, defined, behind, scriptOf, spotsOf}
 use Rattle.text_tree.specs.Asked.{roomy, apart, callsHeld, allBound, compOf}
 use Rattle.text_tree.proofs.Whole.{Whole}
 use Rattle.text_tree.proofs.Heads.{heads-under, heads-stand}

@@ -1,20 +1,20 @@
 -- Located processes, one after the other, with the places of their components.
 -- By the tokens of a located process, peeled off one after the other; the loop over them keeps what is left to write and to gather.
-use Prim.Native.Nat.{ℕ, zero, suc, _+_, _-_, _*_, _≤_, _<_, min}
+use Prim.Native.Nat.{ℕ, suc, _+_, _-_, _≤_, _<_}
 use native.Mathlib.Omega.{arith}
-use mathlib.Core.Bool.{Bool, true, false, false≢true}
+use mathlib.Core.Bool.{true, false, false≢true}
 use mathlib.Core.List.{List, [], _∷_, _++_, append-assoc, append-nil}
 use mathlib.Core.Path.{_≡_, refl, sym, ap, _∙_}
 use lib.ListN.{length, drop}
 use Rattle.terms.specs.Names.{Name}
-use Rattle.terms.specs.Terms.{Part, Process}
+use Rattle.terms.specs.Terms.{Process}
 use Rattle.terms.specs.Terms.Process.{one, _∥_}
 use Rattle.text.specs.Tokens.{Token, lex, left, right, bar, dot}
 use Rattle.text.specs.Tokens.Token.{word, sign}
 use Rattle.text.specs.Tree.{Located}
 use Rattle.text.specs.Tree.Located.{at}
 use Rattle.text.specs.Grammar.{the, next}
-use Rattle.text.specs.Write.{joinedT, partT, processT, locatedT}
+use Rattle.text.specs.Write.{joinedT, processT, locatedT}
 use Rattle.text.specs.WellFormed.{Each, WellProcess, WellLocated}
 use Rattle.text.proofs.ReadBack.{located-longer}
 use Rattle.text.proofs.Unbounded.{the-less}
@@ -23,7 +23,7 @@ use Rattle.text_words.proofs.Positions.{bytes-fall}
 use Rattle.text_parts.proofs.Rests.{ended-is}
 use Rattle.table.specs.declared.Key.{Key}
 use Rattle.table.specs.Tests.{keyName}
-use Rattle.table.specs.Size.{size, sizeP}
+use Rattle.table.specs.Size.{size}
 use Rattle.text_build.specs.Keys.{keyOf}
 use Rattle.text_build.specs.Tables.{heldIn, numberIn, enlist, Enlisted}
 use Rattle.text_build.specs.Put.{locNumber, enterLoc, linked, put}
@@ -32,7 +32,7 @@ use Rattle.text_build.proofs.Tables.{number-within}
 use Rattle.text_put.specs.declared.Named.{Named}
 use Rattle.text_put.specs.declared.Placed.{Placed}
 use Rattle.text_put.specs.Found.{NameIs}
-use Rattle.text_put.specs.Opened.{PartAt, ProcessAt, PartPut, ProcessPut}
+use Rattle.text_put.specs.Opened.{PartAt, ProcessAt, PartPut}
 use Rattle.text_put.proofs.Peeling.{peel-sign, peel-some, sign-next}
 use Rattle.text_put.proofs.Putting.{process-last, process-more}
 use Rattle.text_tree.specs.Pass.{noScope, putLocated, partSpots, brackets, spots}

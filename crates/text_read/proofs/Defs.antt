@@ -1,8 +1,7 @@
 -- Definitions, one after the other: their names and parameters, their bodies skipped or put.
 -- By the tokens of a definition, peeled off one after the other; a loop over definitions keeps what is left to write.
-use Prim.Native.Nat.{ℕ, zero, suc, _+_, _-_, _*_, _≤_, _<_, min, max}
+use Prim.Native.Nat.{ℕ, zero, suc, _+_, _-_, _*_, _≤_, _<_, min}
 use native.Mathlib.Omega.{arith}
-use native.Mathlib.Numerals.{add-one}
 use mathlib.Core.Bool.{Bool, true, false, cond, false≢true}
 use mathlib.Core.List.{List, [], _∷_}
 use mathlib.Core.Path.{_≡_, refl, sym, ap, _∙_}
@@ -17,12 +16,11 @@ use Rattle.terms.specs.Terms.Process.{one, _∥_}
 use Rattle.terms.specs.Terms.Def.{define}
 use Rattle.text.specs.Tokens.{Token, lex, isSmall, opens, closes, left, comma, bar, dot, equals}
 use Rattle.text.specs.Tokens.Token.{word, sign}
-use Rattle.text.specs.Tree.{Located, Tree}
-use Rattle.text.specs.Tree.Located.{at as placed}
+use Rattle.text.specs.Tree.{Located}
 use Rattle.text.specs.Grammar.{Rest, the, next, named, listOf, process, netNext}
 use Rattle.text.specs.Grammar.Rest.{ok, bad}
-use Rattle.text.specs.Write.{nameT, joinedT, listT, processT, defT, locatedT, networkT, textT, tokens}
-use Rattle.text.specs.WellFormed.{Is, Each, NonEmpty, WellProcess, WellDef, WellLocated, WellTree}
+use Rattle.text.specs.Write.{nameT, joinedT, listT, processT, networkT, textT}
+use Rattle.text.specs.WellFormed.{Is, Each, NonEmpty, WellProcess, WellDef}
 use Rattle.text.specs.Questions.{most, params, parameterCount, definitionCount}
 use Rattle.text.proofs.ReadBack.{names, list-back, process-back, def-longer}
 use Rattle.text.proofs.Unbounded.{the-less}
@@ -56,6 +54,7 @@ use Rattle.text_put.proofs.Peeling.{ended-ok, peel-sign, peel-some, sign-next}
 use Rattle.text_tree.specs.Pass.{putParams, putHead, heads, noScope, enterAt, paramsFrom, afterBodies}
 use Rattle.text_read.specs.declared.Passed.{Passed}
 use Rattle.text_read.specs.Ready.{Ready, DefAt, NamesAt, ParamsAt, HeadPut, BodyPut, bodiesBy, BodiesPut}
+use Rattle.text.specs.Tree.Located.{at as placed}
 
 -- ── numbers that the first pass gives ──
 mutual

@@ -1,7 +1,7 @@
 -- What the call `read` answers: document 01, *Reading* and questions 1 to 7. A refusal leaves the lent script as it was; what is accepted passes question 17.
 use Prim.Native.Nat.{ℕ}
-use mathlib.Core.List.{List, [], _∷_, map}
-use mathlib.Core.Bool.{Bool, true, false, cond, _&&_}
+use mathlib.Core.List.{List, [], map}
+use mathlib.Core.Bool.{true, cond, _&&_}
 use mathlib.Core.Path.{_≡_}
 use lib.Dec.{leb}
 use lib.ListN.{length, take, replicate}

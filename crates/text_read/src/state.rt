@@ -1,6 +1,6 @@
 // The components of the network that was read.
 ghost use Prim.Native.Nat.{_≤_};
-ghost use mathlib.Core.List.{[], _∷_, map};
+ghost use mathlib.Core.List.{[], _∷_};
 ghost use mathlib.Core.Path.{_≡_};
 ghost use lib.ListN.{length, take, replicate};
 ghost use Rattle.text_tree.specs.Asked.{compOf};

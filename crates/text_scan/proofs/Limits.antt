@@ -17,13 +17,12 @@ use Rattle.text.specs.Grammar.Rest.{ok, bad}
 use Rattle.text.specs.Questions.{form, whole, short, shallow, fits, nesting, definitionCount, parameterCount, partCount, componentCount, channels, locations, scopeSize}
 use Rattle.text_words.specs.Bytes.{mapped}
 use Rattle.text.proofs.Exact.{clash}
-use Rattle.text_scan.specs.Totals.{Totals, treeTotals, cappedT}
+use Rattle.text_scan.specs.Totals.{treeTotals, cappedT}
 use Rattle.text_scan.specs.Counting.{textCounts}
 use Rattle.text_scan.specs.Answers.{totalsOf, totaled, unreadScan, scanned, scanOf}
-use Rattle.text_scan.specs.declared.Totals.{Totals as CodeTotals}
-use Rattle.text_scan.specs.declared.Scanned.{Scanned}
 use Rattle.text_scan.proofs.Places.{numbers, tree-numbers}
 use Rattle.text_scan.proofs.Texts.{totaled-bad, totaled-ok}
+use Rattle.text_scan.specs.declared.Totals.{Totals as CodeTotals}
 
 -- ── the code's ways to its answer ──
 module _ (s : List ℕ) where

@@ -3,7 +3,7 @@
 use Prim.Native.Nat.{ℕ, suc, _+_, max}
 use native.Mathlib.Omega.{arith}
 use mathlib.Core.List.{List, [], _∷_, _++_, flatMap}
-use mathlib.Core.Path.{_≡_, refl, ap, ap₂, sym, _∙_}
+use mathlib.Core.Path.{_≡_, refl, ap, sym}
 use lib.ListN.{length, length-append}
 use Rattle.terms.specs.Names.{Name}
 use Rattle.terms.specs.Terms.{Part, Process, Def}
@@ -14,8 +14,8 @@ use Rattle.terms.specs.Rules.{split}
 use Rattle.text.specs.Tree.{Located, Tree, components, networkOf}
 use Rattle.text.specs.Tree.Located.{at}
 use Rattle.text.specs.Questions.{Place, into, firsts, partPlaces, processPlaces, defPlaces, locatedPlaces, places, params, most, nesting, definitionCount, parameterCount, partCount as partsOf, componentCount}
-use Rattle.text_parts.specs.Counts.{Count, partCount, processCount}
-use Rattle.text_scan.specs.Totals.{Totals, plus, noTotals, ofDef, ofLocated, sum, treeTotals}
+use Rattle.text_parts.specs.Counts.{partCount, processCount}
+use Rattle.text_scan.specs.Totals.{Totals, ofDef, ofLocated, sum, treeTotals}
 
 -- ── the largest of a measure ──
 most-append : {A : Type 0} (f : A → ℕ) (xs ys : List A) → most f (xs ++ ys) ≡ max (most f xs) (most f ys)

@@ -1,6 +1,6 @@
 -- Definitions, located processes and texts as the code goes through them, over the bytes of a text s.
 -- The grammar's do-blocks with what each reader gives changed to its numbers, and each way of the code through them as an equation.
-use Prim.Native.Nat.{ℕ, _+_, _-_, _≤_, _<_, min, max}
+use Prim.Native.Nat.{ℕ, _-_, _≤_, _<_}
 use native.Mathlib.Omega.{arith}
 use mathlib.Core.Bool.{Bool, true, false, cond}
 use mathlib.Core.List.{List, [], _∷_}
@@ -12,10 +12,9 @@ use Rattle.terms.specs.Terms.Def.{define}
 use Rattle.text.specs.Tokens.{Token, lex, isSmall, isLocation, isIdentifier, left, right, dot, bar, equals}
 use Rattle.text.specs.Tokens.Token.{word, sign}
 use Rattle.text.specs.Tree.{Located, Tree}
-use Rattle.text.specs.Tree.Located.{at as located-at}
-use Rattle.text.specs.Grammar.{Rest, Reader, bind, the, end, aWord, named, next, more, sepBy, listOf, process, aDef, aLocated, aNetwork, netNext, addDef, textForm, text, _>>_}
+use Rattle.text.specs.Grammar.{Rest, bind, the, end, aWord, named, next, more, sepBy, listOf, process, aDef, aLocated, aNetwork, netNext, addDef, textForm, text, _>>_}
 use Rattle.text.specs.Grammar.Rest.{ok, bad}
-use Rattle.text.proofs.Unbounded.{Less, the-less, def-less, located-less, sepBy-is, text-is}
+use Rattle.text.proofs.Unbounded.{Less, def-less, located-less, sepBy-is, text-is}
 use Rattle.text_words.specs.Bytes.{ended, mapped, skim, afterBlanks}
 use Rattle.text_words.proofs.Positions.{bytes-fall, end-more, end-over}
 use Rattle.text_parts.specs.Counts.{Count, processCount, capped}
@@ -24,15 +23,16 @@ use Rattle.text_parts.specs.Answers.{countOf, sized, listed, after}
 use Rattle.text_parts.specs.declared.Size.{Size}
 use Rattle.text_parts.specs.declared.Names.{Names}
 use Rattle.text.proofs.Exact.{clash}
-use Rattle.text_parts.proofs.Rests.{mapped-mapped, mapped-same, mapped-bind, mapped-after, mapped-give, mapped-less, next-yes, next-no, ended-not, ended-is, ended-zero}
+use Rattle.text_parts.proofs.Rests.{mapped-mapped, mapped-same, mapped-bind, mapped-after, mapped-give, mapped-less, next-yes, next-no, ended-is, ended-zero}
 use Rattle.text_parts.proofs.Stops.{sum-on, max-on, max-assoc}
 use Rattle.text_parts.proofs.Gathering as gathering
 use Rattle.text_parts.proofs.Gathering.{moreOf}
 use Rattle.text_scan.specs.Totals.{Totals, noTotals, plus, ofBody, ofDef, ofBracket, ofLocated, sum, treeTotals, cappedT}
 use Rattle.text_scan.specs.Counting.{bodyCounts, defCounts, locatedCounts, manyCounts, networkCounts, textCounts}
 use Rattle.text_scan.specs.Answers.{totalsOf, totaled, plusUpTo, plusTotals}
-use Rattle.text_scan.specs.declared.Totals.{Totals as CodeTotals}
 use Rattle.text_scan.proofs.Places.{totals-same}
+use Rattle.text.specs.Tree.Located.{at as located-at}
+use Rattle.text_scan.specs.declared.Totals.{Totals as CodeTotals}
 
 -- ── numbers that stop ──
 plus-none : (x : Totals) → plus x noTotals ≡ x

@@ -9,8 +9,8 @@ use Rattle.text.specs.Grammar.{Rest}
 use Rattle.text.specs.Questions.{form, short, nesting, definitionCount, parameterCount, partCount, componentCount}
 use Rattle.text_words.specs.Bytes.{ended, mapped}
 use Rattle.text_scan.specs.Totals.{Totals}
-use Rattle.text_scan.specs.declared.Totals.{Totals as CodeTotals}
 use Rattle.text_scan.specs.declared.Scanned.{Scanned}
+use Rattle.text_scan.specs.declared.Totals.{Totals as CodeTotals}
 
 -- ── totals ──
 abbrev pub totalsOf : CodeTotals → Totals

@@ -1,8 +1,7 @@
 -- The grammar's readers of definitions, located processes and texts, giving the numbers of what they read.
 use Prim.Native.Nat.{ℕ}
-use mathlib.Core.List.{List}
 use Rattle.text.specs.Tokens.{bar}
-use Rattle.text.specs.Grammar.{Reader, bind, give, the, sepBy, aDef, aLocated, aNetwork, text, _>>=_, _>>_}
+use Rattle.text.specs.Grammar.{Reader, give, the, sepBy, aDef, aLocated, aNetwork, text, _>>=_, _>>_}
 use Rattle.text_words.specs.Bytes.{mapped}
 use Rattle.text_parts.specs.Counts.{Count}
 use Rattle.text_parts.specs.Counting.{processCounts}

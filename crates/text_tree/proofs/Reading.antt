@@ -13,7 +13,7 @@ use Rattle.terms.specs.Terms.{Def}
 use Rattle.terms.specs.Terms.Def.{define}
 use Rattle.text.specs.Tree.{Tree}
 use Rattle.text.specs.WellFormed.{WellTree}
-use Rattle.text.specs.Questions.{firsts, defPlaces, locatedPlaces, places, locatedNames, locationsAt, channelsAt, channels, locations, most, params, partCount, definitionCount, parameterCount, componentCount}
+use Rattle.text.specs.Questions.{firsts, defPlaces, locatedPlaces, places, locatedNames, locationsAt, channelsAt, channels, locations, most, params, partCount, definitionCount, parameterCount}
 use Rattle.table.specs.Words.{word}
 use Rattle.table.specs.Meaning.{listFrom}
 use Rattle.text_build.specs.Rows.{locsOf, chansOf}

@@ -1,7 +1,7 @@
 -- Questions 4 to 7 over what the second pass wrote, and the components of the network. proofs: they are the questions of `text`.
 use Prim.Native.Nat.{ℕ, _+_}
-use mathlib.Core.List.{List, [], _∷_, map}
-use mathlib.Core.Bool.{Bool, true, false, _&&_}
+use mathlib.Core.List.{List, [], _∷_}
+use mathlib.Core.Bool.{Bool, true, _&&_}
 use lib.Dec.{eqb, ltb}
 use lib.ListN.{getD, take}
 use Rattle.terms.specs.Same.{every}

@@ -1,20 +1,19 @@
 -- The second pass of reading over a whole text: document 01, *Reading*. First the heads of all definitions, so that every call finds its definition;
 -- then their bodies, then the located processes, in text order: the first part of the text stands at the highest place.
 use Prim.Native.Nat.{ℕ, zero, suc, _+_, _-_, _*_, _≤_}
-use mathlib.Core.List.{List, [], _∷_, _++_, map}
-use mathlib.Core.Bool.{Bool, true, false, cond}
+use mathlib.Core.List.{List, [], _∷_, _++_}
+use mathlib.Core.Bool.{cond}
 use lib.Dec.{ltb}
 use lib.ListN.{length, set, replicate}
 use lib.Seq.{sets}
 use Rattle.terms.specs.Names.{Name}
-use Rattle.terms.specs.Terms.{Part, Process, Def}
+use Rattle.terms.specs.Terms.{Process, Def}
 use Rattle.terms.specs.Terms.Process.{one, _∥_}
 use Rattle.terms.specs.Terms.Def.{define}
 use Rattle.text.specs.Tree.{Located, Tree}
 use Rattle.text.specs.Tree.Located.{at}
 use Rattle.text.specs.Questions.{definitionCount, parameterCount, partCount, componentCount}
-use Rattle.table.specs.declared.Comp.{Comp}
-use Rattle.table.specs.Words.{field, arityOf, nameAt}
+use Rattle.table.specs.Words.{arityOf, nameAt}
 use Rattle.table.specs.Valid.{index}
 use Rattle.table.specs.Size.{size, sizeP}
 use Rattle.text_build.specs.declared.Scope.{Scope}

@@ -1,6 +1,6 @@
 -- The tokens of a text read off its bytes: blanks before a token are nothing, a sign is one byte, a word is a longest run.
 -- By recursion on the bytes, going by the class of the first one.
-use Prim.Native.Nat.{ℕ, suc, _+_, _≤_, _<_}
+use Prim.Native.Nat.{ℕ, suc, _+_, _≤_}
 use native.Mathlib.Omega.{arith}
 use mathlib.Core.List.{List, [], _∷_, _++_, append-assoc, append-nil}
 use mathlib.Core.Bool.{Bool, true, false, cond, false≢true}
@@ -13,8 +13,8 @@ use Rattle.text.specs.Characters.{Class, classOf, isBlank, alnum, isAlnum}
 use Rattle.text.specs.Characters.Class.{capital, small, digit, bracket, blank, other}
 use Rattle.text.specs.Tokens.{Token, flush, step, lexFrom, lex}
 use Rattle.text.specs.Tokens.Token.{word, sign}
-use Rattle.text.specs.Grammar.{Rest, the, aWord, end}
-use Rattle.text.specs.Grammar.Rest.{ok, bad}
+use Rattle.text.specs.Grammar.{the, aWord, end}
+use Rattle.text.specs.Grammar.Rest.{bad}
 use Rattle.text_words.specs.Bytes.{afterBlanks, afterAlnum, alnumOf}
 
 -- ── blanks ──

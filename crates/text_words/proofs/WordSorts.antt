@@ -1,20 +1,20 @@
 -- The one sort of a word: what `sortOf` says agrees with every test of the grammar (`suits-is`, `head-is`), and what the code finds.
 -- A name's first byte tells its sort, and no keyword passes a name's test.
-use Prim.Native.Nat.{ℕ, _≤_, _<_}
+use Prim.Native.Nat.{_≤_, _<_}
 use native.Mathlib.Omega.{arith}
 use mathlib.Core.Bool.{Bool, true, false, cond, _&&_, _||_, not, false≢true}
-use mathlib.Core.List.{List, [], _∷_}
-use mathlib.Core.Path.{_≡_, refl, sym, ap, _∙_, subst}
+use mathlib.Core.List.{[], _∷_}
+use mathlib.Core.Path.{_≡_, refl, sym, ap, _∙_}
 use borrow.Author.Tests.{le-leb, lt-leb}
-use lib.Dec.{eqb, leb}
+use lib.Dec.{leb}
 use lib.ListN.{length, getD}
 use Rattle.terms.specs.Names.{Name, bytes, sameName}
 use Rattle.terms.specs.Same.{every}
 use Rattle.text.specs.Characters.{Class, classOf, isCapital, isLower, isLetter, isDigit, isAlnum}
 use Rattle.text.specs.Characters.Class.{capital, small, digit, bracket, blank, other}
 use Rattle.text.specs.Tokens.{tokenwise, member, reserved, firstIs, isName, isSmall, isLocation, isIdentifier, isTicks, plain, number}
-use Rattle.text.specs.Grammar.{Head, headOf, grammar}
-use Rattle.text.specs.Grammar.Head.{stops, goes, sends, receives, calls, nothing}
+use Rattle.text.specs.Grammar.{headOf, grammar}
+use Rattle.text.specs.Grammar.Head.{calls, nothing}
 use Rattle.terms.proofs.Names.{and-inv}
 use Rattle.text.proofs.Exact.{same-eq}
 use Rattle.text.proofs.ReadBack.{identifier-calls}

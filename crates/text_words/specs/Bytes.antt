@@ -1,13 +1,13 @@
 -- What the positions that the code answers with stand for: what is left of a text s, as bytes and as tokens.
 use Prim.Native.Nat.{ℕ, _-_, _≤_, _<_}
-use mathlib.Core.Bool.{Bool, true, false, cond}
+use mathlib.Core.Bool.{Bool, cond}
 use mathlib.Core.List.{List, [], _∷_}
 use mathlib.Core.Path.{_≡_}
 use lib.Dec.{eqb, leb}
 use lib.ListN.{length, take, drop}
 use Rattle.terms.specs.Names.{Name}
 use Rattle.text.specs.Characters.{classOf, isBlank, isAlnum, isDigit}
-use Rattle.text.specs.Tokens.{Token, lex, number}
+use Rattle.text.specs.Tokens.{lex, number}
 use Rattle.text.specs.Grammar.{Rest, Reader, the}
 use Rattle.text.specs.Grammar.Rest.{ok, bad}
 

@@ -6,12 +6,12 @@ use Rattle.text.specs.Characters.Class.{capital, small, digit, bracket, blank, 
 use Rattle.text.specs.Tokens.{isSmall, isLocation, isIdentifier, isTicks}
 use Rattle.text.specs.Grammar.{Head}
 use Rattle.text.specs.Grammar.Head.{stops, goes, sends, receives, calls, nothing}
-use Rattle.text_words.specs.declared.Class.{Class as CodeClass}
 use Rattle.text_words.specs.declared.Class.the-variants as class
 use Rattle.text_words.specs.declared.Sort.{Sort}
 use Rattle.text_words.specs.declared.Sort.the-variants.{Stop, Go, Out, In, Inf, Small, Location, Ticks, Other}
 use Rattle.text_words.specs.declared.Field.{Field}
 use Rattle.text_words.specs.declared.Field.the-variants as field
+use Rattle.text_words.specs.declared.Class.{Class as CodeClass}
 
 abbrev pub classIs : CodeClass → Class
 classIs class.Capital = capital

@@ -11,8 +11,8 @@
 // proofs/WordSorts  the one sort of a word, and the grammar's tests
 ghost use mathlib.Core.Bool.{true};
 ghost use mathlib.Core.Path.{_≡_};
-ghost use Prim.Native.Nat.{ℕ, _≤_, _<_, _-_};
-ghost use lib.ListN.{length, drop};
+ghost use Prim.Native.Nat.{_<_, _-_};
+ghost use lib.ListN.{drop};
 ghost use Rattle.terms.specs.Names.{sameName};
 ghost use Rattle.terms.specs.Same.{every};
 ghost use Rattle.text.specs.Characters.{classOf, isBlank, isAlnum, isDigit, isLower, isCapital};

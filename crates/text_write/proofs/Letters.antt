@@ -3,12 +3,11 @@
 use Prim.Native.Nat.{ℕ, _/_, _%_, _≤_, _<_}
 use native.Mathlib.Omega.{arith}
 use mathlib.Core.List.{List, [], _∷_, _++_}
-use mathlib.Core.Bool.{cond}
 use mathlib.Core.Path.{_≡_, refl, ap, sym, _∙_}
 use lib.ListN.{getD}
 use borrow.Author.Tests.{ne-eqb}
 use Rattle.table.specs.declared.Key.{Key}
-use Rattle.table.specs.Words.{fourBytes, isZero, strip, letters}
+use Rattle.table.specs.Words.{fourBytes, strip, letters}
 use Rattle.table.specs.Tests.{keyName}
 use Rattle.table.proofs.Names.{strip-injective, four-bytes}
 use Rattle.table.proofs.NamesForm.{strip-more}

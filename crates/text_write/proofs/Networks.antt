@@ -6,8 +6,7 @@ use mathlib.Core.List.{List, [], _∷_, _++_, map}
 use mathlib.Core.Bool.{Bool, true, false, _&&_, not}
 use mathlib.Core.Path.{_≡_, refl, ap, sym, _∙_}
 use lib.Dec.{ltb}
-use lib.ListN.{length, getD, take, drop, replicate, length-map, drop-of-length-le}
-use lib.Seq.{drop-cons, getD-take, length-take-le}
+use lib.ListN.{length, getD, take, drop, replicate, drop-of-length-le}
 use native.Mathlib.Numerals.{add-one}
 use borrow.Author.Tests.{ltb-true, ltb-false, lt-ltb, le-ltb, not-true}
 use Rattle.terms.specs.Names.{bytes}
@@ -22,14 +21,14 @@ use Rattle.table.specs.declared.State.{State}
 use Rattle.table.specs.Words.{locsIn, defsIn, nameAt, locName, defName, arityOf, bodyOf, paramsAt, paramsOf}
 use Rattle.table.specs.Meaning.{listFrom, processAt, defOf, defsOf, means, compsOf, netOf, networkOf}
 use Rattle.table.specs.Valid.{scriptOk, compOk, valid}
-use Rattle.table.proofs.Tests.{script-fine, def-fine, comp-fine, StateFine, state-fine, every-getD}
+use Rattle.table.proofs.Tests.{script-fine, def-fine, comp-fine, every-getD}
 use Rattle.table.proofs.Splits.{unmarked-is, marked-is}
 use Rattle.text_write.specs.Forms.{listed, processText, partText, defText, defsText, compText, barred, netText}
 use Rattle.text_write.specs.Values.{partSeen, processSeen, Places}
 use Rattle.text_write.specs.Answer.{textOf, noMark}
 use Rattle.text_write.proofs.Values.{all-shown, none-shown}
 use Rattle.text_write.proofs.Spelled.{text-spelled, network-spelled}
-use Rattle.table.proofs.InUse.{valid-script, valid-state, comps-length, in-use, comp-at}
+use Rattle.table.proofs.InUse.{valid-state, comps-length, in-use, comp-at}
 
 -- ── definitions ──
 -- no slot holds a value

@@ -12,7 +12,7 @@ use borrow.Author.Tests.{ltb-true, lt-ltb, le-ltb, eqb-true}
 use Rattle.terms.specs.Names.{Name, sameName}
 use Rattle.terms.specs.Same.{every}
 use Rattle.terms.specs.Substitution.{Held, env, hide, held, subV}
-use Rattle.terms.specs.Substitution.Held.{unset, is}
+use Rattle.terms.specs.Substitution.Held.{unset}
 use Rattle.terms.proofs.Names.{and-inv, name-eq, name-refl}
 use Rattle.terms.proofs.Substitution.{empty}
 use Rattle.table.specs.Words.{nameAt, locName, field, ownAt, boundAt, atMost8, scopeAt, namesAt}

@@ -1,6 +1,5 @@
 -- The bytes left fall with each text and its mark.
 use Prim.Native.Nat.{_-_, _≤_}
-use native.Mathlib.Omega.{arith}
 use lib.ListN.{length}
 use borrow.Author.Needs.{needs}
 use Rattle.run_many.proofs.all.Statement.{statement}

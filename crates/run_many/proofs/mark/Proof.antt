@@ -1,6 +1,5 @@
 -- The place lies between where the search begins and the end.
 use Prim.Native.Nat.{_-_, _≤_}
-use native.Mathlib.Omega.{arith}
 use lib.ListN.{length}
 use borrow.Author.Needs.{needs}
 use Rattle.run_many.proofs.mark.Statement.{statement}

@@ -1,6 +1,5 @@
 -- The text is refused, or its network plays.
 use native.Mathlib.Omega.{arith}
-use mathlib.Core.Path.{_≡_, refl, sym, ap, _∙_}
 use borrow.Author.Needs.{needs}
 use Rattle.text_write.proofs.Puts.{same}
 use Rattle.run_print.proofs.Playing.{whole-refused, whole-good, whole-printed}

@@ -1,6 +1,6 @@
 -- The text is refused, or written.
 use native.Mathlib.Omega.{arith}
-use mathlib.Core.Path.{_≡_, refl, sym, ap, _∙_}
+use mathlib.Core.Path.{refl}
 use borrow.Author.Needs.{needs}
 use Rattle.text_write.proofs.Puts.{same}
 use Rattle.run_print.proofs.Playing.{ending-refused, ending-short, ending-text}

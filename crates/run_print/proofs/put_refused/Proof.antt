@@ -1,5 +1,4 @@
 -- Three runs of bytes.
-use mathlib.Core.Path.{_≡_, refl, sym, ap, _∙_}
 use borrow.Author.Needs.{needs}
 use Rattle.text_write.proofs.Puts.{then}
 use Rattle.run_print.specs.Print.{refusedText}

@@ -1,6 +1,5 @@
 -- The step is refused, or its line is written.
 use native.Mathlib.Omega.{arith}
-use mathlib.Core.Path.{_≡_, refl, sym, ap, _∙_}
 use borrow.Author.Needs.{needs}
 use Rattle.run_line.proofs.Lines.{step-holds}
 use Rattle.run_line.proofs.Fits.{few}

@@ -1,6 +1,6 @@
 -- Within the word its byte, past the end 0. By the test of the length; a byte is below 256.
 use native.Mathlib.Omega.{arith}
-use mathlib.Core.Path.{_≡_, refl, sym}
+use mathlib.Core.Path.{refl, sym}
 use lib.ListN.{List·getD-eq-default}
 use borrow.Author.Needs.{needs}
 use Rattle.text_build.proofs.byte_in.Statement.{statement}

@@ -1,10 +1,10 @@
 -- `find` gives the number of a name.
 -- The loop's invariant: its number is j more than that among the names from the j-th on.
 use borrow.Author.Needs.{needs}
-use Prim.Native.Nat.{ℕ, _+_, _-_, _≤_}
+use Prim.Native.Nat.{_+_, _-_, _≤_}
 use native.Mathlib.Omega.{arith}
 use mathlib.Core.Bool.{true, false}
-use mathlib.Core.Path.{_≡_, refl, ap, _∙_}
+use mathlib.Core.Path.{_≡_, ap, _∙_}
 use Rattle.terms.specs.Names.{sameName}
 use Rattle.table.specs.Tests.{keyName, rowName}
 use Rattle.table.proofs.NamesRows.{row-near}

@@ -1,5 +1,4 @@
 -- The four words of a word of the text, each from its four bytes.
-use mathlib.Core.Path.{_≡_, refl}
 use Rattle.text_build.specs.Keys.{keyOf}
 use borrow.Author.Needs.{needs}
 use Rattle.text_build.proofs.key_of.Statement.{statement}

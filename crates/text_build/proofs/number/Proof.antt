@@ -1,5 +1,4 @@
 -- The name is there, or is entered behind the last, or is a 65th. By the two tests.
-use mathlib.Core.Path.{_≡_, refl}
 use native.Mathlib.Omega.{arith}
 use Rattle.text_build.specs.Tables.{heldIn, numberIn}
 use Rattle.text_build.proofs.Tables.{enlisted-there, enlisted-new, enlisted-full}

@@ -1,7 +1,7 @@
 -- The four words of a name, one store after the other.
-use Prim.Native.Nat.{ℕ, suc, _+_}
+use Prim.Native.Nat.{suc, _+_}
 use native.Mathlib.Omega.{arith}
-use mathlib.Core.Path.{_≡_, refl}
+use mathlib.Core.Path.{_≡_}
 use borrow.Author.Needs.{needs}
 use Rattle.text_build.proofs.put_key.Statement.{statement}
 use Rattle.text_build.proofs.put_key.Tie as tie

@@ -1,6 +1,5 @@
 -- A row in three runs: its first nine words, its scope, its last seven.
-use native.Mathlib.Omega.{arith}
-use mathlib.Core.Path.{_≡_, refl}
+use mathlib.Core.Path.{_≡_}
 use lib.ListN.{length}
 use Rattle.text_build.proofs.Stores.{row-stores}
 use borrow.Author.Needs.{needs}

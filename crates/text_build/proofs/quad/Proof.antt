@@ -1,5 +1,4 @@
 -- Four bytes in a word: no sum wraps, since each byte is below 256.
-use mathlib.Core.Path.{_≡_, refl}
 use Rattle.text_build.specs.Keys.{quadOf}
 use borrow.Author.Needs.{needs}
 use Rattle.text_build.proofs.quad.Statement.{statement}

@@ -1,7 +1,5 @@
 -- One word of a row.
-use Prim.Native.Nat.{ℕ, suc, _+_, _*_}
-use native.Mathlib.Omega.{arith}
-use mathlib.Core.Path.{_≡_, refl, ap, sym, _∙_}
+use mathlib.Core.Path.{refl}
 use Rattle.text_build.specs.Put.{setSecond}
 use borrow.Author.Needs.{needs}
 use Rattle.text_build.proofs.set_second.Statement.{statement}

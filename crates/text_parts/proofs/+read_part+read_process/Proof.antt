@@ -2,13 +2,13 @@
 -- The falling number is the bytes left, twice, and one more for the process reader; the loop's invariant is `Gathered`.
 use native.Mathlib.Omega.{arith}
 use borrow.Author.Needs.{needs}
-use mathlib.Core.Path.{_≡_, refl, sym, ap, subst, _∙_}
+use mathlib.Core.Path.{refl, sym, ap, subst, _∙_}
 use Prim.Native.Nat.{_+_, _*_, _-_, _≤_}
-use lib.ListN.{length, drop}
+use lib.ListN.{length}
 use Rattle.text.specs.Characters.{classOf}
-use Rattle.text.specs.Tokens.{lex, lexFrom, bar}
+use Rattle.text.specs.Tokens.{lexFrom, bar}
 use Rattle.text.specs.Grammar.{the}
-use Rattle.text_parts.specs.Openings.{leaf, single, double}
+use Rattle.text_parts.specs.Openings.{single, double}
 use Rattle.text_parts.specs.Answers.{began, sized, after, closedSize}
 use Rattle.text_parts.proofs.Cycle.{opening-falls, part-wrong, part-leaf, part-one, part-no-comma, second-falls, part-two, Gathered, gathered-first, gathered-end, turn-falls, gathered-on}
 use Prim.Native.Nat.{ℕ, _<_}

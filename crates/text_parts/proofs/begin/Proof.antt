@@ -1,7 +1,7 @@
 -- `begin` reads a part up to its first process.
 -- The word past the blanks is the next token, and its sort says what the part is.
 use native.Mathlib.Omega.{arith}
-use mathlib.Core.Path.{_≡_, refl, sym, ap, _∙_}
+use mathlib.Core.Path.{ap, _∙_}
 use lib.ListN.{drop}
 use Rattle.text.specs.Tokens.{lex}
 use Rattle.text_words.specs.Sorts.{headIs}

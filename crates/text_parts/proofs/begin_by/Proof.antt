@@ -1,6 +1,6 @@
 -- `begin_by` reads what follows the first word of a part.
 -- By the word's sort, in each of its cases.
-use mathlib.Core.Path.{_≡_, refl, sym, ap, _∙_}
+use mathlib.Core.Path.{sym, ap, _∙_}
 use lib.ListN.{drop}
 use Rattle.text.specs.Tokens.{lex}
 use Rattle.text_words.specs.Sorts.{headIs}

@@ -1,6 +1,5 @@
 -- `call_begin` reads the arguments of a call, if any.
 -- By whether the names in brackets have an end.
-use mathlib.Core.Path.{_≡_, refl, sym, ap, _∙_}
 use lib.ListN.{drop}
 use Rattle.text.specs.Tokens.{lex}
 use Rattle.text_parts.proofs.Fields.{call-none, call-done}

@@ -1,7 +1,7 @@
 -- `closed` ends a part at its `)`, with one more of nesting and parts.
 -- By what the callees ensure, field by field.
-use mathlib.Core.Path.{_≡_, refl, sym, ap, _∙_}
-use Rattle.text.specs.Tokens.{lex, lexFrom}
+use mathlib.Core.Path.{refl}
+use Rattle.text.specs.Tokens.{lexFrom}
 use Rattle.text.specs.Characters.{classOf}
 use Rattle.text_parts.proofs.Cycle.{closed-is}
 use borrow.Author.Needs.{needs}

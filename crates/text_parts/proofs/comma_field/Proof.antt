@@ -1,12 +1,11 @@
 -- `comma_field` reads a word of the field's sort, and a comma.
 -- One reader after the other.
-use mathlib.Core.Path.{_≡_, refl, sym, ap, _∙_}
-use Rattle.text.specs.Tokens.{lex, lexFrom}
+use mathlib.Core.Path.{refl, ap, _∙_}
+use Rattle.text.specs.Tokens.{lexFrom}
 use Rattle.text.specs.Characters.{classOf}
-use lib.ListN.{drop}
 use Rattle.text.specs.Tokens.{comma}
 use Rattle.text.specs.Grammar.{bind, the}
-use Rattle.text_words.proofs.Positions.{done, failed, ended-at, ended-bad, bytes-fall}
+use Rattle.text_words.proofs.Positions.{done, failed, ended-bad}
 use borrow.Author.Needs.{needs}
 use Rattle.text_parts.proofs.comma_field.Statement.{statement}
 use Rattle.text_parts.proofs.comma_field.Tie as tie

@@ -1,12 +1,12 @@
 -- `go_begin` reads `(t,v,`.
 -- Three readers in a row, each of which may fail.
-use mathlib.Core.Path.{_≡_, refl, sym, ap, _∙_}
+use mathlib.Core.Path.{refl}
 use lib.ListN.{drop}
 use Rattle.text.specs.Tokens.{lex, lexFrom}
 use Rattle.text.specs.Characters.{classOf}
-use Rattle.text.specs.Tokens.{opens, isSmall, isIdentifier}
+use Rattle.text.specs.Tokens.{opens, isIdentifier}
 use Rattle.text.specs.Grammar.{the, give}
-use Rattle.text_words.proofs.Positions.{done, failed, ended-at, ended-bad, bytes-fall}
+use Rattle.text_words.proofs.Positions.{done, failed}
 use Rattle.text_parts.proofs.Fields.{row-1, row-2, row-3, row-end}
 use Rattle.text_words.specs.Sorts.{isTimer}
 use Rattle.text_parts.specs.Openings.{single, fieldForm}

@@ -1,6 +1,5 @@
 -- `joined` adds two sizes up, stopping at the limits.
 -- By what the sums and the larger of two numbers ensure, field by field.
-use mathlib.Core.Path.{_≡_, refl, sym, ap, _∙_}
 use borrow.Author.Needs.{needs}
 use Rattle.text_parts.proofs.joined.Statement.{statement}
 use Rattle.text_parts.proofs.joined.Tie as tie

@@ -1,6 +1,6 @@
 -- `list_of` reads nothing, or names in brackets.
 -- By whether `(` comes next.
-use mathlib.Core.Path.{_≡_, refl, sym, ap, _∙_}
+use mathlib.Core.Path.{refl, ap, _∙_}
 use lib.ListN.{drop}
 use Rattle.text.specs.Tokens.{lex, lexFrom}
 use Rattle.text.specs.Characters.{classOf}

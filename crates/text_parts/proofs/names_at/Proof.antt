@@ -1,20 +1,15 @@
 -- `names_at` reads names joined by commas and `)`, and counts them up to 5.
 -- The loop's invariant: what is named from here on, with n added, is what is named from `at` on.
-use Prim.Native.Nat.{ℕ, _+_, _-_, _≤_, _<_, min}
-use native.Mathlib.Omega.{arith}
-use mathlib.Core.Path.{_≡_, refl, sym, ap, _∙_}
+use Prim.Native.Nat.{_-_}
+use mathlib.Core.Path.{_≡_, refl, ap, _∙_}
 use borrow.Author.Needs.{needs}
 use lib.ListN.{length, drop}
 use Rattle.text.specs.Tokens.{lex, lexFrom}
 use Rattle.text.specs.Characters.{classOf}
-use mathlib.Core.List.{List}
-use Rattle.terms.specs.Names.{Name}
-use Rattle.text.specs.Tokens.{comma}
-use Rattle.text.proofs.Unbounded.{the-less}
 use Rattle.text_words.specs.Bytes.{mapped}
 use Rattle.text_words.specs.Sorts.{fits}
 use Rattle.text_parts.specs.Counting.{namesForm, namesCount}
-use Rattle.text_words.proofs.Positions.{done, failed, ended-at, ended-bad, bytes-fall}
+use Rattle.text_words.proofs.Positions.{done, failed, ended-bad, bytes-fall}
 use Rattle.text_parts.proofs.Fields.{From, names-first, names-none, names-last, names-more, names-fall}
 use Rattle.text_parts.proofs.names_at.Statement.{statement}
 use Rattle.text_parts.proofs.names_at.Tie as tie

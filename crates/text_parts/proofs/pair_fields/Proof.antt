@@ -1,10 +1,10 @@
 -- `pair_fields` reads a timer and a field, each with its comma.
 -- One reader after the other.
-use mathlib.Core.Path.{_≡_, refl, sym, ap, _∙_}
+use mathlib.Core.Path.{ap, _∙_}
 use Rattle.text.specs.Grammar.{bind}
 use Rattle.text_words.specs.Sorts.{fits}
 use Rattle.text_parts.specs.Openings.{fieldForm}
-use Rattle.text_words.proofs.Positions.{done, failed, ended-at, ended-bad, bytes-fall}
+use Rattle.text_words.proofs.Positions.{done, failed, ended-bad}
 use borrow.Author.Needs.{needs}
 use Rattle.text_parts.proofs.pair_fields.Statement.{statement}
 use Rattle.text_parts.proofs.pair_fields.Tie as tie

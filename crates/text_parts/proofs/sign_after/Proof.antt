@@ -1,6 +1,5 @@
 -- `sign_after` reads a sign behind what was read, if it was.
 -- By whether the size's end is 0.
-use mathlib.Core.Path.{_≡_, refl, sym, ap, _∙_}
 use Rattle.text_parts.proofs.Cycle.{after-none, after-some}
 use borrow.Author.Needs.{needs}
 use Rattle.text_parts.proofs.sign_after.Statement.{statement}

@@ -1,6 +1,5 @@
 -- The counts, then the three passes one after the other.
 use native.Mathlib.Omega.{arith}
-use mathlib.Core.Path.{_≡_, refl, sym, ap, _∙_}
 use borrow.Author.Needs.{needs}
 use Rattle.text_read.proofs.Answering.{network-at, behind-small, network-of, filled}
 use Rattle.text_read.proofs.fill.Statement.{statement}

@@ -1,6 +1,6 @@
 -- The scan's refusal, the script's refusal, or the network.
 use native.Mathlib.Omega.{arith}
-use mathlib.Core.Path.{_≡_, refl, sym, ap, _∙_}
+use mathlib.Core.Path.{refl}
 use borrow.Author.Needs.{needs}
 use Rattle.text_read.proofs.Answering.{way-1, may-fill, may-ask, way-2, may-make, way-3}
 use Rattle.text_read.proofs.read.Statement.{statement}

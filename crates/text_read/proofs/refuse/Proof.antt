@@ -1,5 +1,5 @@
 -- By the fields.
-use mathlib.Core.Path.{_≡_, refl, sym, ap, _∙_}
+use mathlib.Core.Path.{ap}
 use borrow.Author.Needs.{needs}
 use Rattle.text_read.proofs.refuse.Statement.{statement}
 use Rattle.text_read.proofs.refuse.Tie as tie

@@ -1,7 +1,7 @@
 -- `all_located` reads located processes joined by `|`, and adds their numbers up.
 -- The loop's invariant is `Gathered`: what was gathered, joined with what is left, is the whole.
-use Prim.Native.Nat.{_-_, _≤_, _<_}
-use mathlib.Core.Path.{_≡_, refl, sym, ap, subst, _∙_}
+use Prim.Native.Nat.{_-_}
+use mathlib.Core.Path.{refl, sym, ap, subst, _∙_}
 use borrow.Author.Needs.{needs}
 use lib.ListN.{length}
 use Rattle.text.specs.Tokens.{lexFrom, bar}

@@ -1,6 +1,6 @@
 -- `body` reads a process and a sign.
 -- The sign is read behind the process, whose numbers stay.
-use mathlib.Core.Path.{_≡_, refl, sym, ap, _∙_}
+use mathlib.Core.Path.{refl}
 use Rattle.text_scan.proofs.Texts.{body-is}
 use borrow.Author.Needs.{needs}
 use Rattle.text_scan.proofs.body.Statement.{statement}

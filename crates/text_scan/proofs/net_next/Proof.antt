@@ -1,6 +1,6 @@
 -- `net_next` says whether a word and `[` come next.
 -- The word past the blanks is the next token; then by whether the sign follows.
-use mathlib.Core.Path.{_≡_, refl, sym, ap, _∙_}
+use mathlib.Core.Path.{refl}
 use lib.ListN.{drop}
 use Rattle.text.specs.Tokens.{lex, lexFrom}
 use Rattle.text.specs.Characters.{classOf}

@@ -1,6 +1,6 @@
 -- `network_at` reads located processes, `.` and the end of the text.
 -- Past the dot only blanks may stand.
-use mathlib.Core.Path.{_≡_, refl, sym, ap, _∙_}
+use mathlib.Core.Path.{refl, ap, _∙_}
 use Rattle.text.specs.Tokens.{lexFrom}
 use Rattle.text.specs.Characters.{classOf}
 use Rattle.text_scan.proofs.Texts.{totaled-bad, network-no-dot, network-more, network-end}

@@ -1,6 +1,5 @@
 -- `plus` adds two totals up, stopping at the limits.
 -- By what the sums and the larger of two numbers ensure, field by field.
-use mathlib.Core.Path.{_≡_, refl, sym, ap, _∙_}
 use borrow.Author.Needs.{needs}
 use Rattle.text_scan.proofs.plus.Statement.{statement}
 use Rattle.text_scan.proofs.plus.Tie as tie

@@ -1,6 +1,5 @@
 -- `sign_behind` reads a sign behind what was read, if it was.
 -- By whether the totals' end is 0.
-use mathlib.Core.Path.{_≡_, refl, sym, ap, _∙_}
 use Rattle.text_scan.proofs.Texts.{behind-none, behind-some}
 use borrow.Author.Needs.{needs}
 use Rattle.text_scan.proofs.sign_behind.Statement.{statement}

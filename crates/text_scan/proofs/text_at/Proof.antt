@@ -1,7 +1,7 @@
 -- `text_at` reads definitions and then a network, and adds their numbers up.
 -- The loop's invariant is `Before`: what was gathered, joined with the text that is left, is the whole.
-use Prim.Native.Nat.{_-_, _≤_, _<_}
-use mathlib.Core.Path.{_≡_, refl, sym, ap, subst, _∙_}
+use Prim.Native.Nat.{_-_, _<_}
+use mathlib.Core.Path.{sym, ap, subst, _∙_}
 use borrow.Author.Needs.{needs}
 use lib.ListN.{length}
 use Rattle.text_scan.specs.Answers.{totalsOf, totaled}

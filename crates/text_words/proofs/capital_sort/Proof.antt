@@ -1,6 +1,6 @@
 -- `capital_sort` gives the sort of a word that begins with a capital.
 -- It is no keyword but perhaps `S`, and else a location if it is short enough.
-use mathlib.Core.Path.{_≡_, refl, sym, ap, _∙_}
+use mathlib.Core.Path.{sym, _∙_}
 use Rattle.text_words.proofs.WordSorts.{capital-reserved, capital-name, capital-long}
 use borrow.Author.Needs.{needs}
 use Rattle.text_words.proofs.capital_sort.Statement.{statement}

@@ -1,7 +1,7 @@
 -- `class_of` gives the class that the definition gives.
 -- The match is a run of tests of the ranges' ends, in rising order, and each answer says on which side of each range the byte lies.
 use mathlib.Core.Logic.{⊎-elim, inl, inr}
-use mathlib.Core.Path.{_≡_, sym, ap}
+use mathlib.Core.Path.{sym, ap}
 use native.Mathlib.Omega.{arith}
 use Rattle.text.specs.Characters.{classOf}
 use Rattle.text.proofs.Classes.{capital-class, small-class, digit-class, paren-class, other-class, below, above}

@@ -1,6 +1,6 @@
 -- `digit_sort` gives the sort of a word that begins with a digit.
 -- It is a number of ticks exactly if the definition's three tests say so.
-use mathlib.Core.Path.{_≡_, refl, sym, ap, _∙_}
+use mathlib.Core.Path.{sym, _∙_}
 use borrow.Author.Tests.{not-true, not-false, le-leb, lt-leb}
 use Rattle.text_words.proofs.WordSorts.{digit-not-plain, digit-not-digits, digit-ticks, digit-above}
 use borrow.Author.Needs.{needs}

@@ -1,11 +1,11 @@
 -- `field_at` reads a word of the sort that the field wants.
 -- The word past the blanks is the next token, and its sort suits the field exactly if the field takes the word.
-use Prim.Native.Nat.{_≤_, _<_, _-_}
+use Prim.Native.Nat.{_-_}
 use native.Mathlib.Omega.{arith}
-use mathlib.Core.Path.{_≡_, refl, sym, ap, _∙_}
-use lib.ListN.{length, drop, take}
+use mathlib.Core.Path.{sym, ap, _∙_}
+use lib.ListN.{drop}
 use Rattle.text.specs.Tokens.{lex}
-use Rattle.text_words.specs.Sorts.{sortOf, suitsOf, fits}
+use Rattle.text_words.specs.Sorts.{suitsOf, fits}
 use Rattle.text_words.proofs.Positions.{word-alnum, word-is, word-none, field-yes, field-no, field-none, ended-at, ended-bad}
 use Rattle.text_words.proofs.WordSorts.{suits-is}
 use borrow.Author.Needs.{needs}

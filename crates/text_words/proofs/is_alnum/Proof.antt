@@ -1,6 +1,6 @@
 -- `is_alnum` knows the letters and digits.
 -- The match is a run of tests of the ranges' ends, in rising order, and each answer says on which side of each range the byte lies.
-use mathlib.Core.Path.{_≡_, sym, ap, _∙_}
+use mathlib.Core.Path.{sym, ap}
 use native.Mathlib.Omega.{arith}
 use Rattle.text.specs.Characters.{alnum}
 use Rattle.text.proofs.Classes.{capital-class, small-class, digit-class, not-alnum, below, above}

@@ -1,7 +1,7 @@
 -- `is_blank` knows the two blanks.
 -- By whether the byte is one of them.
 use mathlib.Core.Logic.{⊎-elim, inl, inr}
-use mathlib.Core.Path.{_≡_, sym, ap, _∙_}
+use mathlib.Core.Path.{sym, ap}
 use Rattle.text.specs.Characters.{classOf, isBlank}
 use Rattle.text.proofs.Classes.{not-blank}
 use Rattle.text_words.proofs.is_blank.Statement.{statement}

@@ -1,6 +1,6 @@
 -- `is_digit` knows the digits.
 -- By the side of the range on which the byte lies.
-use mathlib.Core.Path.{_≡_, sym, ap, _∙_}
+use mathlib.Core.Path.{sym, ap}
 use native.Mathlib.Omega.{arith}
 use Rattle.text.specs.Characters.{isDigit}
 use Rattle.text.proofs.Classes.{digit-class, not-digit, below, above}

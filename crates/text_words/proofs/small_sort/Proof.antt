@@ -1,6 +1,6 @@
 -- `small_sort` gives the sort of a word that begins small.
 -- By its keywords in the definition's order; what is left is a name if it is short enough.
-use mathlib.Core.Path.{_≡_, refl, sym, ap, _∙_}
+use mathlib.Core.Path.{sym, _∙_}
 use Rattle.text_words.specs.Sorts.{sortOf}
 use Rattle.text_words.proofs.WordSorts.{small-name, small-long}
 use borrow.Author.Needs.{needs}

@@ -1,6 +1,6 @@
 -- `sort_of` gives the sort of a word of letters and digits.
 -- By the class of its first byte, which is a letter or a digit.
-use mathlib.Core.Path.{_≡_, refl, sym, ap, _∙_}
+use mathlib.Core.Path.{sym, ap, _∙_}
 use mathlib.Core.Bool.{false≢true}
 use Rattle.text.specs.Characters.{isLower, isCapital, isDigit, alnum}
 use Rattle.text_words.specs.Sorts.{classIs}

@@ -1,10 +1,9 @@
 -- The loop's invariant: the first i bytes are copied, and the others as they were.
-use Prim.Native.Nat.{_+_, _-_, _≤_}
+use Prim.Native.Nat.{_-_, _≤_}
 use native.Mathlib.Omega.{arith}
-use native.Mathlib.Numerals.{add-one}
-use mathlib.Core.Path.{_≡_, refl, sym, ap, _∙_}
+use mathlib.Core.Path.{_≡_, refl}
 use lib.ListN.{length, length-set}
-use lib.Seq.{paste, paste-zero, length-paste}
+use lib.Seq.{paste, paste-zero}
 use borrow.Author.Needs.{needs}
 use Rattle.text_write.proofs.Answered.{pasted-on, pasted-all}
 use Rattle.text_write.proofs.copy_front.Statement.{statement}

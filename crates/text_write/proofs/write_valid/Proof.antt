@@ -1,7 +1,7 @@
 -- A valid network's text, or 14 or 15.
 -- Idea: the text is written beside the buffer first, so that a refusal leaves the buffer as it was.
 use native.Mathlib.Omega.{arith}
-use mathlib.Core.Path.{_≡_, refl, sym, ap, _∙_}
+use mathlib.Core.Path.{sym, _∙_}
 use borrow.Author.Tests.{not-true, not-false}
 use Rattle.table.proofs.InUse.{valid-state}
 use Rattle.text_write.proofs.Networks.{unmarked-table}

@@ -1,7 +1,5 @@
 -- `call` meets its contract: 4 is a tick, every other number an action of that kind.
-use native.Mathlib.Omega.{arith}
-use mathlib.Core.Path.{_≡_, refl, sym, ap, subst, _∙_}
-use borrow.Author.Tests.{lt-ltb, le-ltb, le-leb, lt-leb, eq-eqb, ne-eqb}
+use borrow.Author.Tests.{eq-eqb, ne-eqb}
 use Rattle.calls_act.specs.Acted.{actionAnswer}
 use Rattle.calls_tick.specs.Ticked.{tickAnswer}
 use Rattle.calls.specs.Run.{answerTo}
@@ -9,36 +7,25 @@ use Rattle.calls.proofs.Calls.{tick-does, act-does}
 use borrow.Author.Needs.{needs}
 use Rattle.calls.proofs.run.call.Statement.{statement}
 use Rattle.calls.proofs.run.call.Tie as tie
-use Rattle.calls.proofs.run.call.Reads as reads
-use Rattle.calls.proofs.run.call.Lts as lts
-use Rattle.calls.proofs.action.Reads as action-reads
-use Rattle.calls.proofs.tick_at.Reads as tick-at-reads
-use Rattle.table.proofs.words.wide.Reads as wide-reads
 
--- src/run.rt:16:9
 tick-at-requires : tie.Need-tick-at-requires
 tick-at-requires c κs = search needs
 
--- src/run.rt:16:9
 returns : tie.Need-returns
 unfolding answerTo
 returns c =
     let a = c .before .before .args in
     rw (eq-eqb _ _ (c .before .if1 .taken)) (tick-does (a .w .now) (a .st) (tickAnswer (a .w .now) (a .st) (a .p)) (c .tick-at .result) (c .tick-at .ensures))
 
--- src/run.rt:18:40
 wide-requires : tie.Need-wide-requires
 wide-requires c κs = search needs
 
--- src/run.rt:18:56
 wide-requires-2 : tie.Need-wide-requires-2
 wide-requires-2 c κs = search needs
 
--- src/run.rt:18:9
 action-requires : tie.Need-action-requires
 action-requires c κs = search needs
 
--- src/run.rt:12:1
 returns-2 : tie.Need-returns-2
 unfolding answerTo
 returns-2 c =

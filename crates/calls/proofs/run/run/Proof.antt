@@ -1,16 +1,12 @@
 -- `run` meets its contract. The loop's invariant: the calls made so far are a run, and the codes past them are as they were.
 use native.Mathlib.Omega.{arith}
-use mathlib.Core.Path.{_≡_, refl, sym, ap, subst, _∙_}
-use borrow.Author.Tests.{lt-ltb, le-ltb, le-leb, lt-leb, eq-eqb, ne-eqb}
+use mathlib.Core.Path.{_≡_, refl}
 use borrow.Author.Needs.{needs}
 use Prim.Native.Nat.{_≤_, _-_}
 use lib.ListN.{length}
 use Rattle.calls.proofs.Calls.{Running, running-begin, running-more}
 use Rattle.calls.proofs.run.run.Statement.{statement}
 use Rattle.calls.proofs.run.run.Tie as tie
-use Rattle.calls.proofs.run.run.Reads as reads
-use Rattle.calls.proofs.run.run.Lts as lts
-use Rattle.calls.proofs.run.call.Reads as call-reads
 
 abbrev Inv-loop : tie.InvT-loop
 Inv-loop w calls codes₀ n m state₀ j₀ codes state j = (n ≡ length calls) × (m ≡ length codes₀) × (j ≤ n) × Running w state₀ calls codes₀ codes j state
@@ -18,71 +14,55 @@ Inv-loop w calls codes₀ n m state₀ j₀ codes state j = (n ≡ length calls)
 abbrev μ-loop : tie.MeasureT-loop
 μ-loop w calls codes₀ n m state₀ j₀ codes state j = n - j
 
--- src/run.rt:37:5
 loop-holds : tie.Need-loop-holds Inv-loop μ-loop
 loop-holds c = (refl, refl, omega arith, running-begin _ _ _ _)
 
--- src/run.rt:39:13
 same-length : tie.Need-same-length Inv-loop μ-loop
 same-length c = c .before .before .loop .inv .3 .size
 
--- src/run.rt:39:13
 returns : tie.Need-returns Inv-loop μ-loop
 returns c =
     let i = c .before .before .loop .inv in
     ((i .3 .runs, i .3 .rest), omega (arith, i .3 .few))
 
--- src/run.rt:44:17
 mul-e : tie.Need-mul-e Inv-loop μ-loop
 mul-e c = search needs
 
--- src/run.rt:44:17
 shared-slice-copy-out-e : tie.Need-shared-slice-copy-out-e Inv-loop μ-loop
 shared-slice-copy-out-e c = search needs
 
--- src/run.rt:45:32
 array-read-call : tie.Need-array-read-call Inv-loop μ-loop
 array-read-call c = search needs
 
--- src/run.rt:45:38
 array-read-call-2 : tie.Need-array-read-call-2 Inv-loop μ-loop
 array-read-call-2 c = search needs
 
--- src/run.rt:45:44
 array-read-call-3 : tie.Need-array-read-call-3 Inv-loop μ-loop
 array-read-call-3 c = search needs
 
--- src/run.rt:45:13
 call-requires : tie.Need-call-requires Inv-loop μ-loop
 call-requires c κs = search needs
 
--- src/run.rt:46:9
 mul-codes : tie.Need-mul-codes Inv-loop μ-loop
 mul-codes c = search needs
 
--- src/run.rt:46:9
 slice-write-codes : tie.Need-slice-write-codes Inv-loop μ-loop
 slice-write-codes c = omega (arith, c .before .before .before .before .loop .inv .3 .size)
 
--- src/run.rt:48:9
 add-j : tie.Need-add-j Inv-loop μ-loop
 add-j c = omega arith
 
--- src/run.rt:37:5
 loop-less : tie.Need-loop-less Inv-loop μ-loop
 loop-less c = omega arith
 
--- src/run.rt:37:5
 loop-again : tie.Need-loop-again Inv-loop μ-loop
 loop-again c =
     let i = c .before .before .before .before .before .loop .inv in
     (i .0, i .1, omega arith, running-more _ _ _ _ _ _ _ _ _ (omega arith) (omega arith) (i .3) (c .before .call .ensures))
 
--- src/run.rt:29:1
 same-length-2 : tie.Need-same-length-2 Inv-loop μ-loop
 same-length-2 c = c .before .loop .inv .3 .size
 
--- src/run.rt:29:1
 returns-2 : tie.Need-returns-2 Inv-loop μ-loop
 returns-2 c =
     let i = c .before .loop .inv in

@@ -1,7 +1,6 @@
 -- `act_call` meets its contract: a position in use holds a good component, and what it becomes is put in its place.
 use native.Mathlib.Omega.{arith}
-use mathlib.Core.Path.{_≡_, refl, sym, ap, subst, _∙_}
-use borrow.Author.Tests.{lt-ltb, le-ltb, le-leb, lt-leb, eq-eqb, ne-eqb}
+use mathlib.Core.Path.{_≡_, ap, _∙_}
 use lib.ListN.{length}
 use Rattle.terms.specs.Rules.Kind.{calls}
 use Rattle.table.specs.Fire.{aloneAt}
@@ -10,40 +9,28 @@ use Rattle.calls_act.proofs.Positions.{few-comps, comp-good, valid-part
 use borrow.Author.Needs.{needs}
 use Rattle.calls_act.proofs.act.act_call.Statement.{statement}
 use Rattle.calls_act.proofs.act.act_call.Tie as tie
-use Rattle.calls_act.proofs.act.act_call.Reads as reads
-use Rattle.calls_act.proofs.act.act_call.Lts as lts
-use Rattle.calls_act.proofs.act.entry.Reads as entry-reads
-use Rattle.calls_act.proofs.act.refuse.Reads as refuse-reads
-use Rattle.calls_act.proofs.act.settle_one.Reads as settle-one-reads
-use Rattle.calls_act.proofs.fire.fire_call.Reads as fire-call-reads
 
--- src/act.rt:86:9
 refuse-requires : tie.Need-refuse-requires
 refuse-requires c κs = search needs
 
--- src/act.rt:86:9
 returns : tie.Need-returns
 returns c =
     let a = c .before .before .before .args in
     let l : length (c .before .before .before .args .st .c) ≡ 256 = search (needs, mapped) in
     rw (c .refuse .ensures) (one-out (a .w .now) (a .st) calls (a .p) (c .before .before .before .pre) l (c .before .if1 .taken))
 
--- src/act.rt:88:9
 entry-requires : tie.Need-entry-requires
 entry-requires c κs = omega (arith, few-comps (c .before .before .args .w .now) (c .before .before .args .st) (c .before .before .pre))
 
--- src/act.rt:89:9
 fire-call-requires : tie.Need-fire-call-requires
 fire-call-requires c κs =
     let a = c .before .before .before .args in
     let l : length (c .before .before .before .args .st .c) ≡ 256 = search (needs, mapped) in
     (valid-parts (a .w .now) (a .st) (c .before .before .before .pre) .0, rw (c .entry .ensures .0) (comp-good (a .w .now) (a .st) (c .before .before .before .pre) l (a .p) (c .before .if1 .left)))
 
--- src/act.rt:90:5
 settle-one-requires : tie.Need-settle-one-requires
 settle-one-requires c κs = omega (arith, few-comps (c .before .before .before .before .args .w .now) (c .before .before .before .before .args .st) (c .before .before .before .before .pre))
 
--- src/act.rt:81:1
 returns-2 : tie.Need-returns-2
 returns-2 c =
     let a = c .before .before .before .before .before .args in

@@ -1,64 +1,48 @@
 -- `act_pair` meets its contract: two positions in use hold good components, and what they become is put in their places.
 use native.Mathlib.Omega.{arith}
-use mathlib.Core.Path.{_≡_, refl, sym, ap, subst, _∙_}
-use borrow.Author.Tests.{lt-ltb, le-ltb, le-leb, lt-leb, eq-eqb, ne-eqb}
+use mathlib.Core.Path.{_≡_}
 use lib.ListN.{length}
 use Rattle.table.proofs.ValidWhole.{mapped}
 use Rattle.calls_act.proofs.Positions.{few-comps, comp-good, valid-parts, two-left, two-out-p, two-out-q}
 use borrow.Author.Needs.{needs}
 use Rattle.calls_act.proofs.act.act_pair.Statement.{statement}
 use Rattle.calls_act.proofs.act.act_pair.Tie as tie
-use Rattle.calls_act.proofs.act.act_pair.Reads as reads
-use Rattle.calls_act.proofs.act.act_pair.Lts as lts
-use Rattle.calls_act.proofs.act.entry.Reads as entry-reads
-use Rattle.calls_act.proofs.act.refuse.Reads as refuse-reads
-use Rattle.calls_act.proofs.act.settle_two.Reads as settle-two-reads
-use Rattle.calls_act.proofs.fire.fire_pair.Reads as fire-pair-reads
 
--- src/act.rt:110:9
 refuse-requires : tie.Need-refuse-requires
 refuse-requires c κs = search needs
 
--- src/act.rt:110:9
 returns : tie.Need-returns
 returns c =
     let a = c .before .before .before .args in
     let l : length (c .before .before .before .args .st .c) ≡ 256 = search (needs, mapped) in
     rw (c .refuse .ensures) (two-out-p (a .w .now) (a .st) (a .p) (a .q) (c .before .before .before .pre) l (c .before .if1 .taken))
 
--- src/act.rt:113:9
 refuse-requires-2 : tie.Need-refuse-requires-2
 refuse-requires-2 c κs = search needs
 
--- src/act.rt:113:9
 returns-2 : tie.Need-returns-2
 returns-2 c =
     let a = c .before .before .before .before .before .args in
     let l : length (c .before .before .before .before .before .args .st .c) ≡ 256 = search (needs, mapped) in
     rw (c .refuse2 .ensures) (two-out-q (a .w .now) (a .st) (a .p) (a .q) (c .before .before .before .before .before .pre) l (c .before .before .before .if1 .left) (c .before .if2 .taken))
 
--- src/act.rt:115:9
 entry-requires : tie.Need-entry-requires
 entry-requires c κs = omega (arith, few-comps (c .before .before .before .before .args .w .now) (c .before .before .before .before .args .st) (c .before .before .before .before .pre))
 
--- src/act.rt:116:9
 entry-requires-2 : tie.Need-entry-requires-2
 entry-requires-2 c κs = omega (arith, few-comps (c .before .before .before .before .before .args .w .now) (c .before .before .before .before .before .args .st) (c .before .before .before .before .before .pre))
 
--- src/act.rt:117:9
 fire-pair-requires : tie.Need-fire-pair-requires
 fire-pair-requires c κs =
     let a = c .before .before .before .before .before .before .args in
     let l : length (c .before .before .before .before .before .before .args .st .c) ≡ 256 = search (needs, mapped) in
     (valid-parts (a .w .now) (a .st) (c .before .before .before .before .before .before .pre) .0, rw (c .before .entry .ensures .0) (comp-good (a .w .now) (a .st) (c .before .before .before .before .before .before .pre) l (a .p) (c .before .before .before .before .if1 .left)), rw (c .entry2 .ensures .0) (comp-good (a .w .now) (a .st) (c .before .before .before .before .before .before .pre) l (a .q) (c .before .before .if2 .left)))
 
--- src/act.rt:118:5
 settle-two-requires : tie.Need-settle-two-requires
 settle-two-requires c κs =
     let h = few-comps (c .before .before .before .before .before .before .before .args .w .now) (c .before .before .before .before .before .before .before .args .st) (c .before .before .before .before .before .before .before .pre) in
     (omega arith, omega arith)
 
--- src/act.rt:105:1
 returns-3 : tie.Need-returns-3
 returns-3 c =
     let a = c .before .before .before .before .before .before .before .before .args in

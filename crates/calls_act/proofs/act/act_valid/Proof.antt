@@ -1,8 +1,5 @@
 -- `act_valid` meets its contract: the kind decides which action it is, and the action on the table is the rules' action (Positions).
-use native.Mathlib.Omega.{arith}
-use mathlib.Core.Path.{_≡_, refl, sym, ap, subst, _∙_}
-use borrow.Author.Tests.{lt-ltb, le-ltb, le-leb, lt-leb, eq-eqb, ne-eqb}
-use lib.ListN.{length}
+use borrow.Author.Tests.{eq-eqb, ne-eqb}
 use Rattle.terms.specs.Rules.Kind.{calls, moves}
 use Rattle.terms.specs.Rules.Action.{single, pair}
 use Rattle.calls_act.specs.Acted.{actionRule, actionOf}
@@ -10,51 +7,37 @@ use Rattle.calls_act.proofs.Positions.{acts-as}
 use borrow.Author.Needs.{needs}
 use Rattle.calls_act.proofs.act.act_valid.Statement.{statement}
 use Rattle.calls_act.proofs.act.act_valid.Tie as tie
-use Rattle.calls_act.proofs.act.act_valid.Reads as reads
-use Rattle.calls_act.proofs.act.act_valid.Lts as lts
-use Rattle.calls_act.proofs.act.act_call.Reads as act-call-reads
-use Rattle.calls_act.proofs.act.act_move.Reads as act-move-reads
-use Rattle.calls_act.proofs.act.act_pair.Reads as act-pair-reads
-use Rattle.calls_act.proofs.act.refuse.Reads as refuse-reads
 
--- src/act.rt:127:9
 act-call-requires : tie.Need-act-call-requires
 act-call-requires c κs = search needs
 
--- src/act.rt:127:9
 returns : tie.Need-returns
 unfolding actionRule actionOf
 returns c =
     let a = c .before .before .args in
     rw (eq-eqb _ _ (c .before .if1 .taken)) (acts-as (a .w .now) (a .st) (single calls (a .p)) (c .act-call .result) (c .before .before .pre) (c .act-call .ensures))
 
--- src/act.rt:130:9
 act-move-requires : tie.Need-act-move-requires
 act-move-requires c κs = search needs
 
--- src/act.rt:130:9
 returns-2 : tie.Need-returns-2
 unfolding actionRule actionOf
 returns-2 c =
     let a = c .before .before .before .args in
     rw (ne-eqb _ _ (c .before .before .if1 .left), eq-eqb _ _ (c .before .if2 .taken)) (acts-as (a .w .now) (a .st) (single moves (a .p)) (c .act-move .result) (c .before .before .before .pre) (c .act-move .ensures))
 
--- src/act.rt:133:9
 act-pair-requires : tie.Need-act-pair-requires
 act-pair-requires c κs = search needs
 
--- src/act.rt:133:9
 returns-3 : tie.Need-returns-3
 unfolding actionRule actionOf
 returns-3 c =
     let a = c .before .before .before .before .args in
     rw (ne-eqb _ _ (c .before .before .before .if1 .left), ne-eqb _ _ (c .before .before .if2 .left), eq-eqb _ _ (c .before .if3 .taken)) (acts-as (a .w .now) (a .st) (pair (a .p) (a .q)) (c .act-pair .result) (c .before .before .before .before .pre) (c .act-pair .ensures))
 
--- src/act.rt:135:5
 refuse-requires : tie.Need-refuse-requires
 refuse-requires c κs = search needs
 
--- src/act.rt:122:1
 returns-4 : tie.Need-returns-4
 unfolding actionRule actionOf
 returns-4 c = rw (ne-eqb _ _ (c .before .before .before .if1 .left), ne-eqb _ _ (c .before .before .if2 .left), ne-eqb _ _ (c .before .if3 .left)) (c .refuse .ensures)

@@ -1,25 +1,17 @@
 -- `arg_in` meets its contract: the test decides the case.
-use native.Mathlib.Omega.{arith}
-use mathlib.Core.Path.{_≡_, refl, sym, ap, subst, _∙_}
-use borrow.Author.Tests.{lt-ltb, le-ltb, le-leb, lt-leb, eq-eqb, ne-eqb}
+use borrow.Author.Tests.{lt-ltb, le-ltb}
 use Rattle.table.specs.Fire.{argIn}
 use borrow.Author.Needs.{needs}
 use Rattle.calls_act.proofs.fire.arg_in.Statement.{statement}
 use Rattle.calls_act.proofs.fire.arg_in.Tie as tie
-use Rattle.calls_act.proofs.fire.arg_in.Reads as reads
-use Rattle.calls_act.proofs.fire.arg_in.Lts as lts
-use Rattle.calls_act.proofs.fire.value_in.Reads as value-in-reads
 
--- src/fire.rt:81:9
 value-in-requires : tie.Need-value-in-requires
 value-in-requires c κs = search needs
 
--- src/fire.rt:81:9
 returns : tie.Need-returns
 unfolding argIn
 returns c = simp (lt-ltb _ _ (c .before .if1 .taken)) (c .value-in .ensures)
 
--- src/fire.rt:77:1
 returns-2 : tie.Need-returns-2
 unfolding argIn
 returns-2 c = simp (le-ltb _ _ (c .if1 .left))

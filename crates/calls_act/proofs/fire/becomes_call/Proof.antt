@@ -1,7 +1,5 @@
 -- `becomes_call` meets its contract: in each arm the head is known, and the definition computes.
-use native.Mathlib.Omega.{arith}
-use mathlib.Core.Path.{_≡_, refl, sym, ap, subst, _∙_}
-use borrow.Author.Tests.{lt-ltb, le-ltb, le-leb, lt-leb, eq-eqb, ne-eqb}
+use mathlib.Core.Path.{sym, ap, subst}
 use Prim.Native.Nat.{_<_}
 use Rattle.terms.specs.Rules.Kind.{calls}
 use Rattle.table.specs.Fire.{becomesAt, loaded}
@@ -9,100 +7,72 @@ use Rattle.calls_act.specs.Fired.{oneOf, tagOf, callee}
 use borrow.Author.Needs.{needs}
 use Rattle.calls_act.proofs.fire.becomes_call.Statement.{statement}
 use Rattle.calls_act.proofs.fire.becomes_call.Tie as tie
-use Rattle.calls_act.proofs.fire.becomes_call.Reads as reads
-use Rattle.calls_act.proofs.fire.becomes_call.Lts as lts
-use Rattle.calls_act.proofs.fire.arg_in.Reads as arg-in-reads
-use Rattle.calls_act.proofs.fire.left.Reads as left-reads
-use Rattle.calls_act.proofs.fire.not_fired.Reads as not-fired-reads
-use Rattle.table.proofs.words.body_of.Reads as body-of-reads
-use Rattle.table.proofs.words.wide.Reads as wide-reads
 
--- src/fire.rt:92:20
 enum-known-h : tie.Need-enum-known-h
 enum-known-h c = search needs
 
--- src/fire.rt:94:17
 arg-in-requires : tie.Need-arg-in-requires
 arg-in-requires c κs = search needs
 
--- src/fire.rt:95:17
 arg-in-requires-2 : tie.Need-arg-in-requires-2
 arg-in-requires-2 c κs = search needs
 
--- src/fire.rt:96:17
 arg-in-requires-3 : tie.Need-arg-in-requires-3
 arg-in-requires-3 c κs = search needs
 
--- src/fire.rt:97:17
 arg-in-requires-4 : tie.Need-arg-in-requires-4
 arg-in-requires-4 c κs = search needs
 
--- src/fire.rt:98:43
 wide-requires : tie.Need-wide-requires
 wide-requires c κs = search needs
 
--- src/fire.rt:98:17
 body-of-requires : tie.Need-body-of-requires
 unfolding callee
 body-of-requires c κs = rw (c .wide .ensures) (subst (λ h. callee h < 32) (c .before .before .before .before .before .before .before .h .given .1) (c .before .before .before .before .before .before .before .before .before .pre))
 
--- src/fire.rt:108:23
 left-requires : tie.Need-left-requires
 left-requires c κs = search needs
 
--- src/fire.rt:111:23
 enum-told : tie.Need-enum-told
 enum-told c = search needs
 
--- src/fire.rt:111:23
 not-fired-requires : tie.Need-not-fired-requires
 not-fired-requires c κs = search needs
 
--- src/fire.rt:112:30
 enum-told-2 : tie.Need-enum-told-2
 enum-told-2 c = search needs
 
--- src/fire.rt:112:30
 not-fired-requires-2 : tie.Need-not-fired-requires-2
 not-fired-requires-2 c κs = search needs
 
--- src/fire.rt:113:37
 enum-told-3 : tie.Need-enum-told-3
 enum-told-3 c = search needs
 
--- src/fire.rt:113:37
 not-fired-requires-3 : tie.Need-not-fired-requires-3
 not-fired-requires-3 c κs = search needs
 
--- src/fire.rt:114:36
 enum-told-4 : tie.Need-enum-told-4
 enum-told-4 c = search needs
 
--- src/fire.rt:114:36
 not-fired-requires-4 : tie.Need-not-fired-requires-4
 not-fired-requires-4 c κs = search needs
 
--- src/fire.rt:87:1
 returns : tie.Need-returns
 unfolding oneOf tagOf becomesAt loaded
 returns c = rw (c .left .ensures, c .before .body-of .ensures, c .before .before .wide .ensures, c .before .before .before .arg-in4 .ensures, c .before .before .before .before .arg-in3 .ensures, c .before .before .before .before .before .arg-in2 .ensures, c .before .before .before .before .before .before .arg-in .ensures) (sym (ap (becomesAt (c .before .before .before .before .before .before .before .before .before .before .before .args .w .now) calls (c .before .before .before .before .before .before .before .before .before .before .before .args .c)) (c .before .before .before .before .before .before .before .before .before .h .given .1)))
 
--- src/fire.rt:87:1
 returns-2 : tie.Need-returns-2
 unfolding oneOf tagOf becomesAt
 returns-2 c = rw (c .not-fired .ensures) (sym (ap (becomesAt (c .before .before .before .args .w .now) calls (c .before .before .before .args .c)) (c .before .enum-told .given .1)))
 
--- src/fire.rt:87:1
 returns-3 : tie.Need-returns-3
 unfolding oneOf tagOf becomesAt
 returns-3 c = rw (c .not-fired2 .ensures) (sym (ap (becomesAt (c .before .before .before .args .w .now) calls (c .before .before .before .args .c)) (c .before .enum-told2 .given .1)))
 
--- src/fire.rt:87:1
 returns-4 : tie.Need-returns-4
 unfolding oneOf tagOf becomesAt
 returns-4 c = rw (c .not-fired3 .ensures) (sym (ap (becomesAt (c .before .before .before .args .w .now) calls (c .before .before .before .args .c)) (c .before .enum-told3 .given .1)))
 
--- src/fire.rt:87:1
 returns-5 : tie.Need-returns-5
 unfolding oneOf tagOf becomesAt
 returns-5 c = rw (c .not-fired4 .ensures) (sym (ap (becomesAt (c .before .before .before .args .w .now) calls (c .before .before .before .args .c)) (c .before .enum-told4 .given .1)))

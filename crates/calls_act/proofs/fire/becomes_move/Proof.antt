@@ -1,84 +1,61 @@
 -- `becomes_move` meets its contract: in each arm the head is known, and the definition computes.
-use native.Mathlib.Omega.{arith}
-use mathlib.Core.Path.{_≡_, refl, sym, ap, subst, _∙_}
-use borrow.Author.Tests.{lt-ltb, le-ltb, le-leb, lt-leb, eq-eqb, ne-eqb}
+use mathlib.Core.Path.{sym, ap}
 use Rattle.terms.specs.Rules.Kind.{moves}
 use Rattle.table.specs.Fire.{becomesAt}
 use Rattle.calls_act.specs.Fired.{oneOf, tagOf}
 use borrow.Author.Needs.{needs}
 use Rattle.calls_act.proofs.fire.becomes_move.Statement.{statement}
 use Rattle.calls_act.proofs.fire.becomes_move.Tie as tie
-use Rattle.calls_act.proofs.fire.becomes_move.Reads as reads
-use Rattle.calls_act.proofs.fire.becomes_move.Lts as lts
-use Rattle.calls_act.proofs.fire.left.Reads as left-reads
-use Rattle.calls_act.proofs.fire.not_fired.Reads as not-fired-reads
-use Rattle.calls_act.proofs.fire.value_in.Reads as value-in-reads
 
--- src/fire.rt:123:21
 enum-known-h : tie.Need-enum-known-h
 enum-known-h c = search needs
 
--- src/fire.rt:125:17
 value-in-requires : tie.Need-value-in-requires
 value-in-requires c κs = search needs
 
--- src/fire.rt:135:23
 left-requires : tie.Need-left-requires
 left-requires c κs = search needs
 
--- src/fire.rt:138:23
 enum-told : tie.Need-enum-told
 enum-told c = search needs
 
--- src/fire.rt:138:23
 not-fired-requires : tie.Need-not-fired-requires
 not-fired-requires c κs = search needs
 
--- src/fire.rt:139:37
 enum-told-2 : tie.Need-enum-told-2
 enum-told-2 c = search needs
 
--- src/fire.rt:139:37
 not-fired-requires-2 : tie.Need-not-fired-requires-2
 not-fired-requires-2 c κs = search needs
 
--- src/fire.rt:140:36
 enum-told-3 : tie.Need-enum-told-3
 enum-told-3 c = search needs
 
--- src/fire.rt:140:36
 not-fired-requires-3 : tie.Need-not-fired-requires-3
 not-fired-requires-3 c κs = search needs
 
--- src/fire.rt:141:41
 enum-told-4 : tie.Need-enum-told-4
 enum-told-4 c = search needs
 
--- src/fire.rt:141:41
 not-fired-requires-4 : tie.Need-not-fired-requires-4
 not-fired-requires-4 c κs = search needs
 
--- src/fire.rt:119:1
 returns : tie.Need-returns
 unfolding oneOf tagOf becomesAt
 returns c = λ w. rw (c .left .ensures, c .before .value-in .ensures) (sym (ap (becomesAt w moves (c .before .before .before .before .before .before .args .c)) (c .before .before .before .before .h .given .1)))
 
--- src/fire.rt:119:1
 returns-2 : tie.Need-returns-2
 unfolding oneOf tagOf becomesAt
 returns-2 c = λ w. rw (c .not-fired .ensures) (sym (ap (becomesAt w moves (c .before .before .before .args .c)) (c .before .enum-told .given .1)))
 
--- src/fire.rt:119:1
 returns-3 : tie.Need-returns-3
 unfolding oneOf tagOf becomesAt
 returns-3 c = λ w. rw (c .not-fired2 .ensures) (sym (ap (becomesAt w moves (c .before .before .before .args .c)) (c .before .enum-told2 .given .1)))
 
--- src/fire.rt:119:1
 returns-4 : tie.Need-returns-4
 unfolding oneOf tagOf becomesAt
 returns-4 c = λ w. rw (c .not-fired3 .ensures) (sym (ap (becomesAt w moves (c .before .before .before .args .c)) (c .before .enum-told3 .given .1)))
 
--- src/fire.rt:119:1
 returns-5 : tie.Need-returns-5
 unfolding oneOf tagOf becomesAt
 returns-5 c = λ w. rw (c .not-fired4 .ensures) (sym (ap (becomesAt w moves (c .before .before .before .args .c)) (c .before .enum-told4 .given .1)))

@@ -1,7 +1,6 @@
 -- `fire_pair` meets its contract: the marks decide question 9, the heads the rest.
-use native.Mathlib.Omega.{arith}
-use mathlib.Core.Path.{_≡_, refl, sym, ap, subst, _∙_}
-use borrow.Author.Tests.{lt-ltb, le-ltb, le-leb, lt-leb, eq-eqb, ne-eqb}
+use mathlib.Core.Path.{ap, _∙_}
+use borrow.Author.Tests.{lt-ltb, le-ltb}
 use Rattle.table.specs.Words.{headAt}
 use Rattle.table.specs.Fire.{meetAt, togetherAt}
 use Rattle.calls_act.specs.Fired.{twoOf}
@@ -9,58 +8,42 @@ use Rattle.calls_act.proofs.Heads.{place-fits}
 use borrow.Author.Needs.{needs}
 use Rattle.calls_act.proofs.fire.fire_pair.Statement.{statement}
 use Rattle.calls_act.proofs.fire.fire_pair.Tie as tie
-use Rattle.calls_act.proofs.fire.fire_pair.Reads as reads
-use Rattle.calls_act.proofs.fire.fire_pair.Lts as lts
-use Rattle.calls_act.proofs.fire.meet.Reads as meet-reads
-use Rattle.calls_act.proofs.fire.not_met.Reads as not-met-reads
-use Rattle.table.proofs.words.head_at.Reads as head-at-reads
-use Rattle.table.proofs.words.wide.Reads as wide-reads
 
--- src/fire.rt:239:9
 not-met-requires : tie.Need-not-met-requires
 not-met-requires c κs = search needs
 
--- src/fire.rt:239:9
 returns : tie.Need-returns
 unfolding twoOf togetherAt
 returns c = rw (c .not-met .ensures, lt-ltb _ _ (c .before .if1 .taken))
 
--- src/fire.rt:242:9
 not-met-requires-2 : tie.Need-not-met-requires-2
 not-met-requires-2 c κs = search needs
 
--- src/fire.rt:242:9
 returns-2 : tie.Need-returns-2
 unfolding twoOf togetherAt
 returns-2 c = rw (c .not-met2 .ensures, le-ltb _ _ (c .before .before .before .if1 .left), lt-ltb _ _ (c .before .if2 .taken))
 
--- src/fire.rt:244:31
 wide-requires : tie.Need-wide-requires
 wide-requires c κs = search needs
 
--- src/fire.rt:244:9
 head-at-requires : tie.Need-head-at-requires
 head-at-requires c κs =
     let a = c .before .before .before .before .before .args in
     let q = c .before .before .before .before .before .pre in
     rw (c .wide .ensures) (place-fits (a .w .now) (a .c) (q .0) (q .1))
 
--- src/fire.rt:245:31
 wide-requires-2 : tie.Need-wide-requires-2
 wide-requires-2 c κs = search needs
 
--- src/fire.rt:245:9
 head-at-requires-2 : tie.Need-head-at-requires-2
 head-at-requires-2 c κs =
     let a = c .before .before .before .before .before .before .before .args in
     let q = c .before .before .before .before .before .before .before .pre in
     rw (c .wide2 .ensures) (place-fits (a .w .now) (a .e) (q .0) (q .2))
 
--- src/fire.rt:246:5
 meet-requires : tie.Need-meet-requires
 meet-requires c κs = search needs
 
--- src/fire.rt:234:1
 returns-3 : tie.Need-returns-3
 unfolding togetherAt
 returns-3 c =

@@ -1,92 +1,69 @@
 -- `meet` meets its contract: only an output meets, and what it meets is looked at by `meets_input`.
-use native.Mathlib.Omega.{arith}
-use mathlib.Core.Path.{_≡_, refl, sym, ap, subst, _∙_}
-use borrow.Author.Tests.{lt-ltb, le-ltb, le-leb, lt-leb, eq-eqb, ne-eqb}
+use mathlib.Core.Path.{sym, ap, _∙_}
 use Rattle.table.specs.Fire.{meetAt}
-use Rattle.calls_act.specs.Fired.{twoOf, meetsInput}
+use Rattle.calls_act.specs.Fired.{twoOf}
 use Rattle.calls_act.proofs.Heads.{meet-out}
 use borrow.Author.Needs.{needs}
 use Rattle.calls_act.proofs.fire.meet.Statement.{statement}
 use Rattle.calls_act.proofs.fire.meet.Tie as tie
-use Rattle.calls_act.proofs.fire.meet.Reads as reads
-use Rattle.calls_act.proofs.fire.meet.Lts as lts
-use Rattle.calls_act.proofs.fire.meets_input.Reads as meets-input-reads
-use Rattle.calls_act.proofs.fire.not_met.Reads as not-met-reads
-use Rattle.calls_act.proofs.fire.value_in.Reads as value-in-reads
 
--- src/fire.rt:197:19
 enum-known-h : tie.Need-enum-known-h
 enum-known-h c = search needs
 
--- src/fire.rt:199:17
 value-in-requires : tie.Need-value-in-requires
 value-in-requires c κs = search needs
 
--- src/fire.rt:200:13
 meets-input-requires : tie.Need-meets-input-requires
 meets-input-requires c κs = search needs
 
--- src/fire.rt:202:23
 enum-told : tie.Need-enum-told
 enum-told c = search needs
 
--- src/fire.rt:202:23
 not-met-requires : tie.Need-not-met-requires
 not-met-requires c κs = search needs
 
--- src/fire.rt:203:30
 enum-told-2 : tie.Need-enum-told-2
 enum-told-2 c = search needs
 
--- src/fire.rt:203:30
 not-met-requires-2 : tie.Need-not-met-requires-2
 not-met-requires-2 c κs = search needs
 
--- src/fire.rt:204:36
 enum-told-3 : tie.Need-enum-told-3
 enum-told-3 c = search needs
 
--- src/fire.rt:204:36
 not-met-requires-3 : tie.Need-not-met-requires-3
 not-met-requires-3 c κs = search needs
 
--- src/fire.rt:205:41
 enum-told-4 : tie.Need-enum-told-4
 enum-told-4 c = search needs
 
--- src/fire.rt:205:41
 not-met-requires-4 : tie.Need-not-met-requires-4
 not-met-requires-4 c κs = search needs
 
--- src/fire.rt:193:1
 returns : tie.Need-returns
 returns c =
     let a = c .before .before .before .before .before .before .args in
     let h = c .before .before .before .before .h .given in
     (rw (c .before .value-in .ensures) at (c .meets-input .ensures)) ∙ meet-out (a .c) (a .e) (h .0 .0) (h .0 .1 .0) (h .0 .1 .1 .0) (h .0 .1 .1 .1 .0) (h .0 .1 .1 .1 .1 .0) (a .g) ∙ sym (ap (λ h. meetAt (a .c) (a .e) h (a .g)) (h .1))
 
--- src/fire.rt:193:1
 returns-2 : tie.Need-returns-2
 unfolding twoOf meetAt
 returns-2 c =
     let a = c .before .before .before .args in
     rw (c .not-met .ensures) (sym (ap (λ h. meetAt (a .c) (a .e) h (a .g)) (c .before .enum-told .given .1)))
 
--- src/fire.rt:193:1
 returns-3 : tie.Need-returns-3
 unfolding twoOf meetAt
 returns-3 c =
     let a = c .before .before .before .args in
     rw (c .not-met2 .ensures) (sym (ap (λ h. meetAt (a .c) (a .e) h (a .g)) (c .before .enum-told2 .given .1)))
 
--- src/fire.rt:193:1
 returns-4 : tie.Need-returns-4
 unfolding twoOf meetAt
 returns-4 c =
     let a = c .before .before .before .args in
     rw (c .not-met3 .ensures) (sym (ap (λ h. meetAt (a .c) (a .e) h (a .g)) (c .before .enum-told3 .given .1)))
 
--- src/fire.rt:193:1
 returns-5 : tie.Need-returns-5
 unfolding twoOf meetAt
 returns-5 c =

@@ -1,113 +1,87 @@
 -- `meets_input` meets its contract: in each arm the head is known, and the tests decide question 11.
-use native.Mathlib.Omega.{arith}
-use mathlib.Core.Path.{_≡_, refl, sym, ap, subst, _∙_}
-use borrow.Author.Tests.{lt-ltb, le-ltb, le-leb, lt-leb, eq-eqb, ne-eqb}
+use mathlib.Core.Path.{sym, ap, _∙_}
+use borrow.Author.Tests.{eq-eqb, ne-eqb}
 use Rattle.table.specs.Fire.{handed}
 use Rattle.calls_act.specs.Fired.{twoOf, tagOf, meetsInput}
 use borrow.Author.Needs.{needs}
 use Rattle.calls_act.proofs.fire.meets_input.Statement.{statement}
 use Rattle.calls_act.proofs.fire.meets_input.Tie as tie
-use Rattle.calls_act.proofs.fire.meets_input.Reads as reads
-use Rattle.calls_act.proofs.fire.meets_input.Lts as lts
-use Rattle.calls_act.proofs.fire.left.Reads as left-reads
-use Rattle.calls_act.proofs.fire.not_met.Reads as not-met-reads
-use Rattle.calls_act.proofs.fire.received.Reads as received-reads
 
--- src/fire.rt:163:18
 enum-known-g : tie.Need-enum-known-g
 enum-known-g c = search needs
 
--- src/fire.rt:177:33
 left-requires : tie.Need-left-requires
 left-requires c κs = search needs
 
--- src/fire.rt:178:35
 received-requires : tie.Need-received-requires
 received-requires c κs = search needs
 
--- src/fire.rt:169:21
 returns : tie.Need-returns
 unfolding twoOf tagOf meetsInput handed
 returns c =
     let a = c .before .before .before .before .before .before .before .before .args in
     rw (c .received .ensures, c .before .left .ensures) (sym (ap (meetsInput (a .c) (a .e) (a .d) (a .x) (a .p)) (c .before .before .before .before .before .before .g .given .1) ∙ rw (eq-eqb _ _ (c .before .before .before .before .if1 .taken), eq-eqb _ _ (c .before .before .before .if2 .taken))))
 
--- src/fire.rt:181:17
 not-met-requires : tie.Need-not-met-requires
 not-met-requires c κs = search needs
 
--- src/fire.rt:181:17
 returns-2 : tie.Need-returns-2
 unfolding twoOf tagOf meetsInput
 returns-2 c =
     let a = c .before .before .before .before .before .before .args in
     rw (c .not-met .ensures) (sym (ap (meetsInput (a .c) (a .e) (a .d) (a .x) (a .p)) (c .before .before .before .before .g .given .1) ∙ rw (eq-eqb _ _ (c .before .before .if1 .taken), ne-eqb _ _ (c .before .if2 .left))))
 
--- src/fire.rt:183:13
 not-met-requires-2 : tie.Need-not-met-requires-2
 not-met-requires-2 c κs = search needs
 
--- src/fire.rt:185:23
 enum-told : tie.Need-enum-told
 enum-told c = search needs
 
--- src/fire.rt:185:23
 not-met-requires-3 : tie.Need-not-met-requires-3
 not-met-requires-3 c κs = search needs
 
--- src/fire.rt:186:30
 enum-told-2 : tie.Need-enum-told-2
 enum-told-2 c = search needs
 
--- src/fire.rt:186:30
 not-met-requires-4 : tie.Need-not-met-requires-4
 not-met-requires-4 c κs = search needs
 
--- src/fire.rt:187:37
 enum-told-3 : tie.Need-enum-told-3
 enum-told-3 c = search needs
 
--- src/fire.rt:187:37
 not-met-requires-5 : tie.Need-not-met-requires-5
 not-met-requires-5 c κs = search needs
 
--- src/fire.rt:188:41
 enum-told-4 : tie.Need-enum-told-4
 enum-told-4 c = search needs
 
--- src/fire.rt:188:41
 not-met-requires-6 : tie.Need-not-met-requires-6
 not-met-requires-6 c κs = search needs
 
--- src/fire.rt:159:1
 returns-3 : tie.Need-returns-3
 unfolding twoOf tagOf meetsInput
 returns-3 c =
     let a = c .before .before .before .before .before .args in
     rw (c .not-met2 .ensures) (sym (ap (meetsInput (a .c) (a .e) (a .d) (a .x) (a .p)) (c .before .before .before .g .given .1) ∙ rw (ne-eqb _ _ (c .before .if1 .left))))
 
--- src/fire.rt:159:1
 returns-4 : tie.Need-returns-4
 unfolding twoOf meetsInput
 returns-4 c =
     let a = c .before .before .before .args in
     rw (c .not-met3 .ensures) (sym (ap (meetsInput (a .c) (a .e) (a .d) (a .x) (a .p)) (c .before .enum-told .given .1)))
 
--- src/fire.rt:159:1
 returns-5 : tie.Need-returns-5
 unfolding twoOf meetsInput
 returns-5 c =
     let a = c .before .before .before .args in
     rw (c .not-met4 .ensures) (sym (ap (meetsInput (a .c) (a .e) (a .d) (a .x) (a .p)) (c .before .enum-told2 .given .1)))
 
--- src/fire.rt:159:1
 returns-6 : tie.Need-returns-6
 unfolding twoOf meetsInput
 returns-6 c =
     let a = c .before .before .before .args in
     rw (c .not-met5 .ensures) (sym (ap (meetsInput (a .c) (a .e) (a .d) (a .x) (a .p)) (c .before .enum-told3 .given .1)))
 
--- src/fire.rt:159:1
 returns-7 : tie.Need-returns-7
 unfolding twoOf meetsInput
 returns-7 c =

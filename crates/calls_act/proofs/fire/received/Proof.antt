@@ -1,44 +1,32 @@
 -- `received` meets its contract: past the eighth slot nothing is set.
 use native.Mathlib.Omega.{arith}
-use mathlib.Core.Path.{_≡_, refl, sym, ap, subst, _∙_}
-use borrow.Author.Tests.{lt-ltb, le-ltb, le-leb, lt-leb, eq-eqb, ne-eqb}
+use mathlib.Core.Path.{_≡_, sym, ap}
 use lib.ListN.{length}
 use lib.Seq.{set-out}
 use Rattle.table.specs.Fire.{leftAt}
 use borrow.Author.Needs.{needs}
 use Rattle.calls_act.proofs.fire.received.Statement.{statement}
 use Rattle.calls_act.proofs.fire.received.Tie as tie
-use Rattle.calls_act.proofs.fire.received.Reads as reads
-use Rattle.calls_act.proofs.fire.received.Lts as lts
-use Rattle.calls_act.proofs.fire.left.Reads as left-reads
-use Rattle.table.proofs.words.wide.Reads as wide-reads
 
--- src/fire.rt:151:9
 wide-requires : tie.Need-wide-requires
 wide-requires c κs = search needs
 
--- src/fire.rt:153:9
 mul-vals : tie.Need-mul-vals
 mul-vals c = search needs
 
--- src/fire.rt:153:9
 array-write-vals : tie.Need-array-write-vals
 array-write-vals c = search needs
 
--- src/fire.rt:154:9
 left-requires : tie.Need-left-requires
 left-requires c κs = search needs
 
--- src/fire.rt:154:9
 returns : tie.Need-returns
 unfolding leftAt
 returns c = rw (c .left .ensures, c .before .before .wide .ensures)
 
--- src/fire.rt:156:5
 left-requires-2 : tie.Need-left-requires-2
 left-requires-2 c κs = search needs
 
--- src/fire.rt:147:1
 returns-2 : tie.Need-returns-2
 unfolding leftAt
 returns-2 c =

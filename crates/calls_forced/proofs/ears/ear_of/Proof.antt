@@ -7,33 +7,23 @@ use Rattle.calls_forced.specs.Marked.{earIn, earOf}
 use borrow.Author.Needs.{needs}
 use Rattle.calls_forced.proofs.ears.ear_of.Statement.{statement}
 use Rattle.calls_forced.proofs.ears.ear_of.Tie as tie
-use Rattle.calls_forced.proofs.ears.ear_of.Reads as reads
-use Rattle.calls_forced.proofs.ears.ear_of.Lts as lts
-use Rattle.calls_forced.proofs.ears.ear_in.Reads as ear-in-reads
-use Rattle.table.proofs.words.head_at.Reads as head-at-reads
-use Rattle.table.proofs.words.wide.Reads as wide-reads
 
--- src/ears.rt:30:9
 returns : tie.Need-returns
 unfolding earOf
 returns c = rw (lt-ltb _ _ (c .if1 .taken))
 
--- src/ears.rt:32:31
 wide-requires : tie.Need-wide-requires
 wide-requires c κs = search needs
 
--- src/ears.rt:32:9
 head-at-requires : tie.Need-head-at-requires
 head-at-requires c κs =
     let a = c .before .before .before .args in
     let q = c .before .before .before .pre in
     rw (c .wide .ensures) (place-fits (a .w .now) (a .c) (q .0) (q .1))
 
--- src/ears.rt:33:5
 ear-in-requires : tie.Need-ear-in-requires
 ear-in-requires c κs = search needs
 
--- src/ears.rt:25:1
 returns-2 : tie.Need-returns-2
 unfolding earOf
 returns-2 c =

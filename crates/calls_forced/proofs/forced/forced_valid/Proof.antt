@@ -6,25 +6,16 @@ use Rattle.calls_forced.proofs.Forcing.{set-is}
 use borrow.Author.Needs.{needs}
 use Rattle.calls_forced.proofs.forced.forced_valid.Statement.{statement}
 use Rattle.calls_forced.proofs.forced.forced_valid.Tie as tie
-use Rattle.calls_forced.proofs.forced.forced_valid.Reads as reads
-use Rattle.calls_forced.proofs.forced.forced_valid.Lts as lts
-use Rattle.calls_forced.proofs.ears.ears_in.Reads as ears-in-reads
-use Rattle.calls_forced.proofs.forced.set_of.Reads as set-of-reads
-use Rattle.calls_forced.proofs.press.pressed_in.Reads as pressed-in-reads
 
--- src/forced.rt:30:17
 ears-in-requires : tie.Need-ears-in-requires
 ears-in-requires c κs = search needs
 
--- src/forced.rt:31:17
 pressed-in-requires : tie.Need-pressed-in-requires
 pressed-in-requires c κs = search needs
 
--- src/forced.rt:32:9
 set-of-requires : tie.Need-set-of-requires
 set-of-requires c κs = search needs
 
--- src/forced.rt:26:1
 returns : tie.Need-returns
 returns c =
     let a = c .before .before .before .before .before .args in

@@ -9,8 +9,6 @@ use Rattle.calls_forced.specs.Report.{mask}
 use Rattle.calls_forced.proofs.Bits.{mask-none, mask-with, mask-without}
 use Rattle.calls_forced.proofs.forced.set_of.Statement.{statement}
 use Rattle.calls_forced.proofs.forced.set_of.Tie as tie
-use Rattle.calls_forced.proofs.forced.set_of.Reads as reads
-use Rattle.calls_forced.proofs.forced.set_of.Lts as lts
 
 abbrev Inv-loop : tie.InvT-loop
 Inv-loop marks x₀ l₀ x l = (l ≤ 64) × (x ≡ mask (isMarked marks) 0 l)
@@ -18,31 +16,24 @@ Inv-loop marks x₀ l₀ x l = (l ≤ 64) × (x ≡ mask (isMarked marks) 0 l)
 abbrev μ-loop : tie.MeasureT-loop
 μ-loop marks x₀ l₀ x l = 64 - l
 
--- src/forced.rt:17:5
 loop-holds : tie.Need-loop-holds Inv-loop μ-loop
 loop-holds c = (omega arith, mask-none (isMarked (c .args .marks .now)))
 
--- src/forced.rt:18:12
 mul-if1 : tie.Need-mul-if1 Inv-loop μ-loop
 mul-if1 c = omega arith
 
--- src/forced.rt:18:12
 element-copy-out-if1 : tie.Need-element-copy-out-if1 Inv-loop μ-loop
 element-copy-out-if1 c = omega arith
 
--- src/forced.rt:19:22
 shl-x : tie.Need-shl-x Inv-loop μ-loop
 shl-x c = omega arith
 
--- src/forced.rt:21:9
 add-l : tie.Need-add-l Inv-loop μ-loop
 add-l c = omega arith
 
--- src/forced.rt:17:5
 loop-less : tie.Need-loop-less Inv-loop μ-loop
 loop-less c = omega arith
 
--- src/forced.rt:17:5
 loop-again : tie.Need-loop-again Inv-loop μ-loop
 loop-again c =
     let p = isMarked (c .before .before .before .before .args .marks .now) in
@@ -51,7 +42,6 @@ loop-again c =
     let i = c .before .before .before .loop .inv .1 in
     (omega arith, ⊎-elim (λ t. t .1 ∙ mask-with p x l i (c .before .before .loop-test .taken) (eq-eqb _ _ (t .0 .taken))) (λ t. t .1 ∙ mask-without p x l i (ne-eqb _ _ (t .0 .left))) (c .if1 .came))
 
--- src/forced.rt:12:1
 returns : tie.Need-returns Inv-loop μ-loop
 returns c =
     let e : c .before .loop .l ≡ 64 = omega arith in

@@ -4,23 +4,17 @@ use Rattle.calls_forced.specs.Marked.{isHeard}
 use borrow.Author.Needs.{needs}
 use Rattle.calls_forced.proofs.press.is_heard.Statement.{statement}
 use Rattle.calls_forced.proofs.press.is_heard.Tie as tie
-use Rattle.calls_forced.proofs.press.is_heard.Reads as reads
-use Rattle.calls_forced.proofs.press.is_heard.Lts as lts
 
--- src/press.rt:16:16
 mul-result : tie.Need-mul-result
 mul-result c = search needs
 
--- src/press.rt:16:16
 element-copy-out-result : tie.Need-element-copy-out-result
 element-copy-out-result c = search needs
 
--- src/press.rt:16:9
 returns : tie.Need-returns
 unfolding isHeard
 returns c = rw (lt-ltb _ _ (c .before .if1 .taken))
 
--- src/press.rt:12:1
 returns-2 : tie.Need-returns-2
 unfolding isHeard
 returns-2 c = rw (le-ltb _ _ (c .if1 .left))

@@ -7,44 +7,32 @@ use Rattle.calls_forced.specs.Marked.{pressesIn, pressOf}
 use borrow.Author.Needs.{needs}
 use Rattle.calls_forced.proofs.press.press_of.Statement.{statement}
 use Rattle.calls_forced.proofs.press.press_of.Tie as tie
-use Rattle.calls_forced.proofs.press.press_of.Reads as reads
-use Rattle.calls_forced.proofs.press.press_of.Lts as lts
-use Rattle.calls_forced.proofs.press.presses.Reads as presses-reads
-use Rattle.table.proofs.words.head_at.Reads as head-at-reads
-use Rattle.table.proofs.words.wide.Reads as wide-reads
 
--- src/press.rt:39:9
 returns : tie.Need-returns
 unfolding pressOf
 returns c = rw (lt-ltb _ _ (c .if1 .taken))
 
--- src/press.rt:41:31
 wide-requires : tie.Need-wide-requires
 wide-requires c κs = search needs
 
--- src/press.rt:41:9
 head-at-requires : tie.Need-head-at-requires
 head-at-requires c κs =
     let a = c .before .before .before .args in
     let q = c .before .before .before .pre in
     rw (c .wide .ensures) (place-fits (a .w .now) (a .c) (q .0) (q .1))
 
--- src/press.rt:42:8
 presses-requires : tie.Need-presses-requires
 presses-requires c κs = search needs
 
--- src/press.rt:43:9
 wide-requires-2 : tie.Need-wide-requires-2
 wide-requires-2 c κs = search needs
 
--- src/press.rt:43:9
 returns-2 : tie.Need-returns-2
 unfolding pressOf
 returns-2 c =
     let a = c .before .before .before .before .before .before .before .args in
     rw (le-ltb _ _ (c .before .before .before .before .before .if1 .left), sym (c .before .before .presses .ensures ∙ ap (pressesIn (a .ears .now) (a .c .loc) (a .c .timer)) (c .before .before .before .head-at .ensures ∙ ap (headAt (a .w .now)) (c .before .before .before .before .wide .ensures))) ∙ c .before .if2 .taken) (c .wide2 .ensures)
 
--- src/press.rt:34:1
 returns-3 : tie.Need-returns-3
 unfolding pressOf
 returns-3 c =

@@ -5,80 +5,61 @@ use Rattle.calls_forced.specs.Marked.{isHeard, pressesIn}
 use borrow.Author.Needs.{needs}
 use Rattle.calls_forced.proofs.press.presses.Statement.{statement}
 use Rattle.calls_forced.proofs.press.presses.Tie as tie
-use Rattle.calls_forced.proofs.press.presses.Reads as reads
-use Rattle.calls_forced.proofs.press.presses.Lts as lts
-use Rattle.calls_forced.proofs.press.is_heard.Reads as is-heard-reads
-use Rattle.table.proofs.words.wide.Reads as wide-reads
 
--- src/press.rt:25:23
 enum-told : tie.Need-enum-told
 enum-told c = search needs
 
--- src/press.rt:26:30
 enum-told-2 : tie.Need-enum-told-2
 enum-told-2 c = search needs
 
--- src/press.rt:27:19
 enum-known-h : tie.Need-enum-known-h
 enum-known-h c = search needs
 
--- src/press.rt:27:52
 wide-requires : tie.Need-wide-requires
 wide-requires c κs = search needs
 
--- src/press.rt:27:52
 mul-is-heard : tie.Need-mul-is-heard
 mul-is-heard c = search needs
 
--- src/press.rt:27:74
 wide-requires-2 : tie.Need-wide-requires-2
 wide-requires-2 c κs = search needs
 
--- src/press.rt:27:52
 add-is-heard : tie.Need-add-is-heard
 add-is-heard c = search needs
 
--- src/press.rt:27:37
 is-heard-requires : tie.Need-is-heard-requires
 is-heard-requires c κs = search needs
 
--- src/press.rt:28:36
 enum-told-3 : tie.Need-enum-told-3
 enum-told-3 c = search needs
 
--- src/press.rt:29:41
 enum-told-4 : tie.Need-enum-told-4
 enum-told-4 c = search needs
 
--- src/press.rt:21:1
 returns : tie.Need-returns
 unfolding pressesIn
 returns c =
     let a = c .before .before .args in
     sym (ap (pressesIn (a .ears .now) (a .l) (a .t)) (c .enum-told .given .1))
 
--- src/press.rt:21:1
 returns-2 : tie.Need-returns-2
 unfolding pressesIn
 returns-2 c =
     let a = c .before .before .args in
     sym (ap (pressesIn (a .ears .now) (a .l) (a .t)) (c .enum-told2 .given .1))
 
--- src/press.rt:21:1
 returns-3 : tie.Need-returns-3
 unfolding pressesIn
 returns-3 c =
     let a = c .before .before .before .before .before .before .args in
     c .is-heard .ensures ∙ ap (λ k. isHeard (a .ears .now) (k * 64 + c .before .wide2 .result)) (c .before .before .wide .ensures) ∙ ap (λ k. isHeard (a .ears .now) (a .l * 64 + k)) (c .before .wide2 .ensures) ∙ sym (ap (pressesIn (a .ears .now) (a .l) (a .t)) (c .before .before .before .before .h .given .1))
 
--- src/press.rt:21:1
 returns-4 : tie.Need-returns-4
 unfolding pressesIn
 returns-4 c =
     let a = c .before .before .args in
     sym (ap (pressesIn (a .ears .now) (a .l) (a .t)) (c .enum-told3 .given .1))
 
--- src/press.rt:21:1
 returns-5 : tie.Need-returns-5
 unfolding pressesIn
 returns-5 c =

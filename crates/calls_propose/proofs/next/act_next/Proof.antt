@@ -9,36 +9,24 @@ use Rattle.calls_propose.proofs.Proposing.{next-stays, next-refused, po
 use borrow.Author.Needs.{needs}
 use Rattle.calls_propose.proofs.next.act_next.Statement.{statement}
 use Rattle.calls_propose.proofs.next.act_next.Tie as tie
-use Rattle.calls_propose.proofs.next.act_next.Reads as reads
-use Rattle.calls_propose.proofs.next.act_next.Lts as lts
-use Rattle.calls_act.proofs.act.act_valid.Reads as act-valid-reads
-use Rattle.calls_act.proofs.act.entry.Reads as entry-reads
-use Rattle.calls_tick.proofs.tick.refuse.Reads as refuse-reads
-use Rattle.table.proofs.words.wide.Reads as wide-reads
 
--- src/next.rt:35:9
 returns : tie.Need-returns
 returns c =
     let a = c .before .before .args in
     next-stays (a .w .now) (a .out) (a .l) (a .r) (c .before .before .pre) (λ e. omega arith)
 
--- src/next.rt:38:9
 wide-requires : tie.Need-wide-requires
 wide-requires c κs = search needs
 
--- src/next.rt:39:46
 wide-requires-2 : tie.Need-wide-requires-2
 wide-requires-2 c κs = search needs
 
--- src/next.rt:39:9
 act-valid-requires : tie.Need-act-valid-requires
 act-valid-requires c κs = search needs
 
--- src/next.rt:41:9
 refuse-requires : tie.Need-refuse-requires
 refuse-requires c κs = search needs
 
--- src/next.rt:41:9
 returns-2 : tie.Need-returns-2
 returns-2 c =
     let a = c .before .before .before .before .before .before .before .before .before .args in
@@ -48,7 +36,6 @@ returns-2 c =
     rw (← c .before .before .before .before .before .wide .ensures, ← c .before .before .before .before .wide2 .ensures) (c .before .before .before .act-valid .ensures) in
     rw (c .refuse .ensures) (next-refused (a .w .now) (a .out) (a .l) (a .r) g (c .before .before .before .act-valid .result) z h (λ e. omega arith))
 
--- src/next.rt:43:9
 entry-requires : tie.Need-entry-requires
 entry-requires c κs =
     let a = c .before .before .before .before .before .before .before .before .args in
@@ -58,11 +45,9 @@ entry-requires c κs =
     rw (← c .before .before .before .before .wide .ensures, ← c .before .before .before .wide2 .ensures) (c .before .before .act-valid .ensures) in
     omega (arith, position (a .w .now) (a .out) (a .l) (a .r) g (c .before .before .act-valid .result) z h (omega arith), few-comps (a .w .now) (a .out .state) (g .good), c .before .before .before .before .wide .ensures)
 
--- src/next.rt:45:9
 refuse-requires-2 : tie.Need-refuse-requires-2
 refuse-requires-2 c κs = search needs
 
--- src/next.rt:45:9
 returns-3 : tie.Need-returns-3
 returns-3 c =
     let a = c .before .before .before .before .before .before .before .before .before .before .before .before .args in
@@ -74,7 +59,6 @@ returns-3 c =
     let d = ap (λ y. getD (a .out .state .c) y noComp .loc) (sym (c .before .before .before .before .before .before .before .before .wide .ensures)) in
     rw (c .refuse2 .ensures) (next-elsewhere (a .w .now) (a .out) (a .l) (a .r) g (c .before .before .before .before .before .before .act-valid .result) z h (omega arith) (i .1) (λ e. c .before .if3 .taken (ap (λ y. y .loc) (i .0) ∙ sym d ∙ e)))
 
--- src/next.rt:30:1
 returns-4 : tie.Need-returns-4
 returns-4 c =
     let a = c .before .before .before .before .before .before .before .before .before .before .before .before .args in

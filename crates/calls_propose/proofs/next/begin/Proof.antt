@@ -4,26 +4,18 @@ use Rattle.calls_propose.proofs.Proposing.{begin-out, begin-in}
 use borrow.Author.Needs.{needs}
 use Rattle.calls_propose.proofs.next.begin.Statement.{statement}
 use Rattle.calls_propose.proofs.next.begin.Tie as tie
-use Rattle.calls_propose.proofs.next.begin.Reads as reads
-use Rattle.calls_propose.proofs.next.begin.Lts as lts
-use Rattle.calls_tick.proofs.tick.refuse.Reads as refuse-reads
-use Rattle.table.proofs.words.word.Reads as word-reads
 
--- src/next.rt:20:8
 word-requires : tie.Need-word-requires
 word-requires c κs = search needs
 
--- src/next.rt:21:9
 refuse-requires : tie.Need-refuse-requires
 refuse-requires c κs = search needs
 
--- src/next.rt:21:9
 returns : tie.Need-returns
 returns c =
     let a = c .before .before .before .args in
     rw (c .refuse .ensures) (begin-out (a .w .now) (a .st) (a .l) (c .before .before .before .pre) (omega (arith, c .before .before .word .ensures)))
 
--- src/next.rt:16:1
 returns-2 : tie.Need-returns-2
 returns-2 c =
     let a = c .before .before .args in

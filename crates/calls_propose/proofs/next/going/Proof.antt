@@ -2,14 +2,10 @@
 use borrow.Author.Tests.{eq-eqb, ne-eqb}
 use Rattle.calls_propose.proofs.next.going.Statement.{statement}
 use Rattle.calls_propose.proofs.next.going.Tie as tie
-use Rattle.calls_propose.proofs.next.going.Reads as reads
-use Rattle.calls_propose.proofs.next.going.Lts as lts
 
--- src/next.rt:32:9
 returns : tie.Need-returns
 returns c = rw (eq-eqb _ _ (c .if1 .taken))
 
--- src/next.rt:28:1
 returns-2 : tie.Need-returns-2
 returns-2 c = rw (ne-eqb _ _ (c .if1 .left))
 

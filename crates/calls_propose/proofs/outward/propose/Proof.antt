@@ -56,21 +56,21 @@ use Rattle.calls_tick.proofs.Ticked.Laws as T′
 use Rattle.calls_propose.proofs.Record as R
 use Rattle.table.proofs.valid.is_valid as is-valid
 use Rattle.table.proofs.valid.is_valid.Symbol as is-valid-def
-use Rattle.table.proofs.valid.is_valid.Symbol.{name as #is-valid}
 use Rattle.table.proofs.valid.is_valid.Met as is-valid-thm
 use Rattle.calls_tick.proofs.tick.refuse as refuse
 use Rattle.calls_tick.proofs.tick.refuse.Symbol as refuse-def
-use Rattle.calls_tick.proofs.tick.refuse.Symbol.{name as #refuse}
 use Rattle.calls_tick.proofs.tick.refuse.Met as refuse-thm
 use Rattle.calls_propose.proofs.propose.propose_valid as inner
 use Rattle.calls_propose.proofs.propose.propose_valid.Symbol as inner-def
-use Rattle.calls_propose.proofs.propose.propose_valid.Symbol.{name as #inner}
 use Rattle.calls_propose.proofs.propose.propose_valid.Met as inner-thm
-use Rattle.calls_propose.proofs.outward.propose.Key.{name as #propose}
 use Rattle.calls_propose.proofs.outward.propose as propose
 use Rattle.calls_propose.proofs.outward.propose.Statement as stated
 use Rattle.calls_propose.proofs.outward.propose.Code as code
 use Rattle.calls_propose.proofs.outward.propose.Code.Mir as m
+use Rattle.table.proofs.valid.is_valid.Symbol.{name as #is-valid}
+use Rattle.calls_tick.proofs.tick.refuse.Symbol.{name as #refuse}
+use Rattle.calls_propose.proofs.propose.propose_valid.Symbol.{name as #inner}
+use Rattle.calls_propose.proofs.outward.propose.Key.{name as #propose}
 
 -- the script
 abbrev Words : RattleType

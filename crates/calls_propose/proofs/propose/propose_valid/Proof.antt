@@ -65,25 +65,25 @@ use Rattle.calls_propose.proofs.Record as R
 use Rattle.calls_propose.proofs.Record.Laws as R′
 use Rattle.calls_propose.proofs.next.begin as begin
 use Rattle.calls_propose.proofs.next.begin.Symbol as begin-def
-use Rattle.calls_propose.proofs.next.begin.Symbol.{name as #begin}
 use Rattle.calls_propose.proofs.next.begin.Met as begin-thm
 use Rattle.calls_propose.proofs.next.going as going
 use Rattle.calls_propose.proofs.next.going.Symbol as going-def
-use Rattle.calls_propose.proofs.next.going.Symbol.{name as #going}
 use Rattle.calls_propose.proofs.next.going.Met as going-thm
 use Rattle.calls_propose.proofs.next.act_next as act-next
 use Rattle.calls_propose.proofs.next.act_next.Symbol as act-next-def
-use Rattle.calls_propose.proofs.next.act_next.Symbol.{name as #act-next}
 use Rattle.calls_propose.proofs.next.act_next.Met as act-next-thm
 use Rattle.calls_propose.proofs.next.finish as finish
 use Rattle.calls_propose.proofs.next.finish.Symbol as finish-def
-use Rattle.calls_propose.proofs.next.finish.Symbol.{name as #finish}
 use Rattle.calls_propose.proofs.next.finish.Met as finish-thm
-use Rattle.calls_propose.proofs.propose.propose_valid.Key.{name as #propose-valid}
 use Rattle.calls_propose.proofs.propose.propose_valid as propose
 use Rattle.calls_propose.proofs.propose.propose_valid.Statement as stated
 use Rattle.calls_propose.proofs.propose.propose_valid.Code as code
 use Rattle.calls_propose.proofs.propose.propose_valid.Code.Mir as m
+use Rattle.calls_propose.proofs.next.begin.Symbol.{name as #begin}
+use Rattle.calls_propose.proofs.next.going.Symbol.{name as #going}
+use Rattle.calls_propose.proofs.next.act_next.Symbol.{name as #act-next}
+use Rattle.calls_propose.proofs.next.finish.Symbol.{name as #finish}
+use Rattle.calls_propose.proofs.propose.propose_valid.Key.{name as #propose-valid}
 
 -- the script
 abbrev Words : RattleType

@@ -1,7 +1,6 @@
 -- `put_records` meets its contract. The loop's invariant: the records written stand in front of what was there.
 use native.Mathlib.Omega.{arith}
-use mathlib.Core.Path.{_≡_, refl, sym, ap, subst, _∙_}
-use borrow.Author.Tests.{lt-ltb, le-ltb, le-leb, lt-leb, eq-eqb, ne-eqb}
+use mathlib.Core.Path.{_≡_, refl, ap, _∙_}
 use borrow.Author.Needs.{needs}
 use Prim.Native.Nat.{_≤_, _-_}
 use mathlib.Core.List.{map, _++_}
@@ -11,8 +10,6 @@ use Rattle.table.proofs.ValidWhole.{mapped}
 use Rattle.calls_step.proofs.Stepping.{put-more}
 use Rattle.calls_step.proofs.step.put_records.Statement.{statement}
 use Rattle.calls_step.proofs.step.put_records.Tie as tie
-use Rattle.calls_step.proofs.step.put_records.Reads as reads
-use Rattle.calls_step.proofs.step.put_records.Lts as lts
 
 abbrev Inv-loop : tie.InvT-loop
 Inv-loop count records₀ acts j₀ records j = (j ≤ count) × (length records ≡ length records₀) × (records ≡ map wordsOf (take j acts) ++ drop j records₀)
@@ -20,35 +17,27 @@ Inv-loop count records₀ acts j₀ records j = (j ≤ count) × (length records
 abbrev μ-loop : tie.MeasureT-loop
 μ-loop count records₀ acts j₀ records j = count - j
 
--- src/step.rt:33:5
 loop-holds : tie.Need-loop-holds Inv-loop μ-loop
 loop-holds c = (omega arith, refl, refl)
 
--- src/step.rt:34:17
 mul-a : tie.Need-mul-a Inv-loop μ-loop
 mul-a c = omega (arith, c .before .before .pre .0)
 
--- src/step.rt:34:17
 array-copy-out-a : tie.Need-array-copy-out-a Inv-loop μ-loop
 array-copy-out-a c = omega (arith, c .before .before .pre .0)
 
--- src/step.rt:35:9
 mul-t8 : tie.Need-mul-t8 Inv-loop μ-loop
 mul-t8 c = omega (arith, c .before .before .before .pre .0)
 
--- src/step.rt:35:9
 slice-set-from-records : tie.Need-slice-set-from-records Inv-loop μ-loop
 slice-set-from-records c = omega (arith, c .before .before .before .pre .1, c .before .before .loop .inv .1)
 
--- src/step.rt:36:9
 add-j : tie.Need-add-j Inv-loop μ-loop
 add-j c = omega (arith, c .before .before .before .pre .0)
 
--- src/step.rt:33:5
 loop-less : tie.Need-loop-less Inv-loop μ-loop
 loop-less c = omega arith
 
--- src/step.rt:33:5
 loop-again : tie.Need-loop-again Inv-loop μ-loop
 loop-again c =
     let a = c .before .before .before .args in
@@ -56,11 +45,9 @@ loop-again c =
     let l : length (a .t1) ≡ 256 = search (needs, mapped) in
     (omega arith, simp length-set (i .1), put-more (a .t1) (a .records .now) (c .before .before .loop .records) (c .before .before .loop .j) (record { kind = 0; p = 0; q = 0 }) (omega (arith, c .before .before .before .pre .0)) (omega (arith, c .before .before .before .pre .1)) (i .1) (i .2))
 
--- src/step.rt:28:1
 same-length : tie.Need-same-length Inv-loop μ-loop
 same-length c = c .before .loop .inv .1
 
--- src/step.rt:28:1
 returns : tie.Need-returns Inv-loop μ-loop
 returns c =
     let i = c .before .loop .inv in

@@ -1,48 +1,33 @@
 -- `step_valid` meets its contract: each question in turn, by the laws of the step on a table (Stepping).
 use native.Mathlib.Omega.{arith}
-use mathlib.Core.Path.{_≡_, refl, sym, ap, subst, _∙_}
-use borrow.Author.Tests.{lt-ltb, le-ltb, le-leb, lt-leb, eq-eqb, ne-eqb}
+use mathlib.Core.Path.{refl}
 use Prim.Native.Nat.{_<_}
 use lib.ListN.{length}
 use Rattle.table.specs.Words.{locsIn}
-use Rattle.table.proofs.ValidWhole.{mapped}
 use Rattle.calls_act.proofs.Positions.{few-comps}
 use Rattle.calls_step.proofs.Stepping.{step-out, step-small, swept-good, step-full, step-done, step-took}
 use borrow.Author.Needs.{needs}
 use Rattle.calls_step.proofs.step.step_valid.Statement.{statement}
 use Rattle.calls_step.proofs.step.step_valid.Tie as tie
-use Rattle.calls_step.proofs.step.step_valid.Reads as reads
-use Rattle.calls_step.proofs.step.step_valid.Lts as lts
-use Rattle.calls_step.proofs.step.put_records.Reads as put-records-reads
-use Rattle.calls_step.proofs.step.refuse.Reads as refuse-reads
-use Rattle.calls_step.proofs.sweep.sweep.Reads as sweep-reads
-use Rattle.calls_tick.proofs.pass.pass_all.Reads as pass-all-reads
-use Rattle.table.proofs.words.word.Reads as word-reads
 
--- src/step.rt:44:8
 word-requires : tie.Need-word-requires
 word-requires c κs = search needs
 
--- src/step.rt:45:9
 refuse-requires : tie.Need-refuse-requires
 refuse-requires c κs = search needs
 
--- src/step.rt:45:9
 returns : tie.Need-returns
 returns c =
     let a = c .before .before .before .args in
     let v = c .before .before .before .pre in
     rw (step-out (a .w .now) (a .st) (a .l) (length (a .records .now)) (omega (arith, c .before .before .word .ensures))) (c .refuse .ensures, refl)
 
--- src/step.rt:47:9
 sweep-requires : tie.Need-sweep-requires
 sweep-requires c κs = search needs
 
--- src/step.rt:50:9
 refuse-requires-2 : tie.Need-refuse-requires-2
 refuse-requires-2 c κs = search needs
 
--- src/step.rt:50:9
 returns-2 : tie.Need-returns-2
 returns-2 c =
     let a = c .before .before .before .before .before .args in
@@ -51,7 +36,6 @@ returns-2 c =
     let l = c .before .before .sweep .ensures .slots in
     rw (step-small (a .w .now) (a .st) (a .l) v l (c .before .before .sweep .result) (c .before .before .sweep .ensures) h (length (a .records .now)) (c .before .if2 .taken)) (c .refuse2 .ensures, refl)
 
--- src/step.rt:53:9
 pass-all-requires : tie.Need-pass-all-requires
 pass-all-requires c κs =
     let a = c .before .before .before .before .before .args in
@@ -60,11 +44,9 @@ pass-all-requires c κs =
     let l = c .before .before .sweep .ensures .slots in
     swept-good (a .w .now) (a .st) (a .l) v l (c .before .before .sweep .result) (c .before .before .sweep .ensures) h
 
--- src/step.rt:55:9
 refuse-requires-3 : tie.Need-refuse-requires-3
 refuse-requires-3 c κs = search needs
 
--- src/step.rt:55:9
 returns-3 : tie.Need-returns-3
 returns-3 c =
     let a = c .before .before .before .before .before .before .before .before .args in
@@ -73,7 +55,6 @@ returns-3 c =
     let l = c .before .before .before .before .before .sweep .ensures .slots in
     rw (step-full (a .w .now) (a .st) (a .l) v l (c .before .before .before .before .before .sweep .result) (c .before .before .before .before .before .sweep .ensures) h (length (a .records .now)) (omega arith) (c .before .before .pass-all .ensures .0 (c .before .if3 .taken))) (c .refuse3 .ensures, refl)
 
--- src/step.rt:58:5
 put-records-requires : tie.Need-put-records-requires
 put-records-requires c κs =
     let a = c .before .before .before .before .before .before .before .before .before .args in
@@ -81,11 +62,9 @@ put-records-requires c κs =
     let s = c .before .before .before .before .before .before .sweep .ensures in
     (omega (arith, s .few, few-comps (a .w .now) (a .st) v), omega arith)
 
--- src/step.rt:40:1
 same-length : tie.Need-same-length
 same-length c = search needs
 
--- src/step.rt:40:1
 returns-4 : tie.Need-returns-4
 returns-4 c =
     let a = c .before .before .before .before .before .before .before .before .before .before .before .before .args in

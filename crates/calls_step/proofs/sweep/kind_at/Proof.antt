@@ -1,47 +1,33 @@
 -- `kind_at` meets its contract: who is not ready does nothing.
-use native.Mathlib.Omega.{arith}
-use mathlib.Core.Path.{_≡_, refl, sym, ap, subst, _∙_}
-use borrow.Author.Tests.{lt-ltb, le-ltb, le-leb, lt-leb, eq-eqb, ne-eqb}
+use mathlib.Core.Path.{sym, ap, _∙_}
 use Rattle.table.specs.Words.{headAt}
 use Rattle.calls_step.specs.Visit.{kindBy, kindAt}
 use Rattle.calls_act.proofs.Heads.{place-fits}
 use borrow.Author.Needs.{needs}
 use Rattle.calls_step.proofs.sweep.kind_at.Statement.{statement}
 use Rattle.calls_step.proofs.sweep.kind_at.Tie as tie
-use Rattle.calls_step.proofs.sweep.kind_at.Reads as reads
-use Rattle.calls_step.proofs.sweep.kind_at.Lts as lts
-use Rattle.calls_step.proofs.sweep.kind_by.Reads as kind-by-reads
-use Rattle.calls_tick.proofs.forced.ready_at.Reads as ready-at-reads
-use Rattle.table.proofs.words.head_at.Reads as head-at-reads
-use Rattle.table.proofs.words.wide.Reads as wide-reads
 
--- src/sweep.rt:103:8
 ready-at-requires : tie.Need-ready-at-requires
 ready-at-requires c κs = search needs
 
--- src/sweep.rt:104:35
 wide-requires : tie.Need-wide-requires
 wide-requires c κs = search needs
 
--- src/sweep.rt:104:13
 head-at-requires : tie.Need-head-at-requires
 head-at-requires c κs =
     let a = c .before .before .before .args in
     let q = c .before .before .before .pre in
     rw (c .wide .ensures) (place-fits (a .w .now) (a .c) (q .0) (q .1))
 
--- src/sweep.rt:105:9
 kind-by-requires : tie.Need-kind-by-requires
 kind-by-requires c κs = search needs
 
--- src/sweep.rt:105:9
 returns : tie.Need-returns
 unfolding kindAt
 returns c =
     let a = c .before .before .before .before .before .args in
     rw (sym (c .before .before .before .before .ready-at .ensures) ∙ c .before .before .before .if1 .taken) (c .kind-by .ensures ∙ ap (kindBy (a .x) (a .c .timer)) (c .before .head-at .ensures ∙ ap (headAt (a .w .now)) (c .before .before .wide .ensures)))
 
--- src/sweep.rt:99:1
 returns-2 : tie.Need-returns-2
 unfolding kindAt
 returns-2 c = rw (sym (c .before .ready-at .ensures) ∙ c .if1 .left)

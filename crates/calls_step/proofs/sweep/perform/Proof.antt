@@ -1,47 +1,34 @@
 -- `perform` meets its contract: the kind decides what fires.
 use native.Mathlib.Omega.{arith}
-use mathlib.Core.Path.{_≡_, refl, sym, ap, subst, _∙_}
-use borrow.Author.Tests.{lt-ltb, le-ltb, le-leb, lt-leb, eq-eqb, ne-eqb}
+use mathlib.Core.Path.{refl}
 use borrow.Author.Needs.{needs}
 use Rattle.calls_step.proofs.sweep.perform.Statement.{statement}
 use Rattle.calls_step.proofs.sweep.perform.Tie as tie
-use Rattle.calls_step.proofs.sweep.perform.Reads as reads
-use Rattle.calls_step.proofs.sweep.perform.Lts as lts
-use Rattle.calls_act.proofs.fire.fire_call.Reads as fire-call-reads
-use Rattle.calls_act.proofs.fire.fire_move.Reads as fire-move-reads
-use Rattle.calls_act.proofs.fire.fire_pair.Reads as fire-pair-reads
 
--- src/sweep.rt:115:13
 fire-call-requires : tie.Need-fire-call-requires
 fire-call-requires c κs = search needs
 
--- src/sweep.rt:117:9
 returns : tie.Need-returns
 returns c =
     let k = c .before .before .if1 .taken in
     record { none = λ z. absurd (omega (arith, z, k)); call = λ z. (c .before .fire-call .result, c .before .fire-call .ensures, refl, refl); move = λ z. absurd (omega (arith, z, k)); pair = λ z. absurd (omega (arith, z, k)) }
 
--- src/sweep.rt:120:13
 fire-move-requires : tie.Need-fire-move-requires
 fire-move-requires c κs = search needs
 
--- src/sweep.rt:122:9
 returns-2 : tie.Need-returns-2
 returns-2 c =
     let k = c .before .before .if2 .taken in
     record { none = λ z. absurd (omega (arith, z, k)); call = λ z. absurd (omega (arith, z, k)); move = λ z. (c .before .fire-move .result, c .before .fire-move .ensures, refl, refl); pair = λ z. absurd (omega (arith, z, k)) }
 
--- src/sweep.rt:125:13
 fire-pair-requires : tie.Need-fire-pair-requires
 fire-pair-requires c κs = search needs
 
--- src/sweep.rt:128:9
 returns-3 : tie.Need-returns-3
 returns-3 c =
     let k = c .before .before .before .if3 .taken in
     record { none = λ z. absurd (omega (arith, z, k)); call = λ z. absurd (omega (arith, z, k)); move = λ z. absurd (omega (arith, z, k)); pair = λ z. (c .before .before .fire-pair .result, c .before .before .fire-pair .ensures, refl, refl) }
 
--- src/sweep.rt:110:1
 returns-4 : tie.Need-returns-4
 returns-4 c = record { none = λ z. (refl, refl); call = λ z. absurd (c .before .before .if1 .left z); move = λ z. absurd (c .before .if2 .left z); pair = λ z. absurd (c .if3 .left z) }
 

@@ -1,19 +1,12 @@
 -- `popped_of` meets its contract.
-use native.Mathlib.Omega.{arith}
-use mathlib.Core.Path.{_≡_, refl, sym, ap, subst, _∙_}
-use borrow.Author.Tests.{lt-ltb, le-ltb, le-leb, lt-leb, eq-eqb, ne-eqb}
 use Rattle.calls_step.proofs.Queues.{popped-some}
 use borrow.Author.Needs.{needs}
 use Rattle.calls_step.proofs.sweep.popped_of.Statement.{statement}
 use Rattle.calls_step.proofs.sweep.popped_of.Tie as tie
-use Rattle.calls_step.proofs.sweep.popped_of.Reads as reads
-use Rattle.calls_step.proofs.sweep.popped_of.Lts as lts
 
--- src/sweep.rt:146:9
 returns : tie.Need-returns
 returns c = search needs
 
--- src/sweep.rt:142:1
 returns-2 : tie.Need-returns-2
 returns-2 c = popped-some _ _ (c .if1 .left)
 

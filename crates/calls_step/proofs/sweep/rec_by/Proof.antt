@@ -1,30 +1,21 @@
 -- `rec_by` meets its contract: kind 3 has two positions.
-use native.Mathlib.Omega.{arith}
-use mathlib.Core.Path.{_≡_, refl, sym, ap, subst, _∙_}
-use borrow.Author.Tests.{lt-ltb, le-ltb, le-leb, lt-leb, eq-eqb, ne-eqb}
+use borrow.Author.Tests.{eq-eqb, ne-eqb}
 use borrow.Author.Needs.{needs}
 use Rattle.calls_step.proofs.sweep.rec_by.Statement.{statement}
 use Rattle.calls_step.proofs.sweep.rec_by.Tie as tie
-use Rattle.calls_step.proofs.sweep.rec_by.Reads as reads
-use Rattle.calls_step.proofs.sweep.rec_by.Lts as lts
 
--- src/sweep.rt:158:16
 cast-t5 : tie.Need-cast-t5
 cast-t5 c = search needs
 
--- src/sweep.rt:159:16
 cast-t6 : tie.Need-cast-t6
 cast-t6 c = search needs
 
--- src/sweep.rt:156:9
 returns : tie.Need-returns
 returns c = simp (eq-eqb _ _ (c .if1 .taken))
 
--- src/sweep.rt:164:12
 cast-t7 : tie.Need-cast-t7
 cast-t7 c = search needs
 
--- src/sweep.rt:151:1
 returns-2 : tie.Need-returns-2
 returns-2 c = simp (ne-eqb _ _ (c .if1 .left))
 

@@ -1,47 +1,33 @@
 -- `sends_at` meets its contract: who is not ready has no channel.
-use native.Mathlib.Omega.{arith}
-use mathlib.Core.Path.{_≡_, refl, sym, ap, subst, _∙_}
-use borrow.Author.Tests.{lt-ltb, le-ltb, le-leb, lt-leb, eq-eqb, ne-eqb}
+use mathlib.Core.Path.{sym, ap, _∙_}
 use Rattle.table.specs.Words.{headAt}
 use Rattle.calls_step.specs.Visit.{sentOn, sendsAt}
 use Rattle.calls_act.proofs.Heads.{place-fits}
 use borrow.Author.Needs.{needs}
 use Rattle.calls_step.proofs.sweep.sends_at.Statement.{statement}
 use Rattle.calls_step.proofs.sweep.sends_at.Tie as tie
-use Rattle.calls_step.proofs.sweep.sends_at.Reads as reads
-use Rattle.calls_step.proofs.sweep.sends_at.Lts as lts
-use Rattle.calls_step.proofs.sweep.sent_on.Reads as sent-on-reads
-use Rattle.calls_tick.proofs.forced.ready_at.Reads as ready-at-reads
-use Rattle.table.proofs.words.head_at.Reads as head-at-reads
-use Rattle.table.proofs.words.wide.Reads as wide-reads
 
--- src/sweep.rt:60:8
 ready-at-requires : tie.Need-ready-at-requires
 ready-at-requires c κs = search needs
 
--- src/sweep.rt:61:35
 wide-requires : tie.Need-wide-requires
 wide-requires c κs = search needs
 
--- src/sweep.rt:61:13
 head-at-requires : tie.Need-head-at-requires
 head-at-requires c κs =
     let a = c .before .before .before .args in
     let q = c .before .before .before .pre in
     rw (c .wide .ensures) (place-fits (a .w .now) (a .c) (q .0) (q .1))
 
--- src/sweep.rt:62:9
 sent-on-requires : tie.Need-sent-on-requires
 sent-on-requires c κs = search needs
 
--- src/sweep.rt:62:9
 returns : tie.Need-returns
 unfolding sendsAt
 returns c =
     let a = c .before .before .before .before .before .args in
     rw (sym (c .before .before .before .before .ready-at .ensures) ∙ c .before .before .before .if1 .taken) (c .sent-on .ensures ∙ ap sentOn (c .before .head-at .ensures ∙ ap (headAt (a .w .now)) (c .before .before .wide .ensures)))
 
--- src/sweep.rt:56:1
 returns-2 : tie.Need-returns-2
 unfolding sendsAt
 returns-2 c = rw (sym (c .before .ready-at .ensures) ∙ c .if1 .left)

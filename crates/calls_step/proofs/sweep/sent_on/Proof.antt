@@ -1,55 +1,41 @@
 -- `sent_on` meets its contract: in each arm the head is known.
-use native.Mathlib.Omega.{arith}
-use mathlib.Core.Path.{_≡_, refl, sym, ap, subst, _∙_}
-use borrow.Author.Tests.{lt-ltb, le-ltb, le-leb, lt-leb, eq-eqb, ne-eqb}
+use mathlib.Core.Path.{sym, ap}
 use Rattle.calls_step.specs.Visit.{sentOn}
 use borrow.Author.Needs.{needs}
 use Rattle.calls_step.proofs.sweep.sent_on.Statement.{statement}
 use Rattle.calls_step.proofs.sweep.sent_on.Tie as tie
-use Rattle.calls_step.proofs.sweep.sent_on.Reads as reads
-use Rattle.calls_step.proofs.sweep.sent_on.Lts as lts
 
--- src/sweep.rt:37:19
 enum-known-h : tie.Need-enum-known-h
 enum-known-h c = search needs
 
--- src/sweep.rt:38:23
 enum-told : tie.Need-enum-told
 enum-told c = search needs
 
--- src/sweep.rt:39:30
 enum-told-2 : tie.Need-enum-told-2
 enum-told-2 c = search needs
 
--- src/sweep.rt:40:36
 enum-told-3 : tie.Need-enum-told-3
 enum-told-3 c = search needs
 
--- src/sweep.rt:41:41
 enum-told-4 : tie.Need-enum-told-4
 enum-told-4 c = search needs
 
--- src/sweep.rt:33:1
 returns : tie.Need-returns
 unfolding sentOn
 returns c = sym (ap sentOn (c .before .h .given .1))
 
--- src/sweep.rt:33:1
 returns-2 : tie.Need-returns-2
 unfolding sentOn
 returns-2 c = sym (ap sentOn (c .enum-told .given .1))
 
--- src/sweep.rt:33:1
 returns-3 : tie.Need-returns-3
 unfolding sentOn
 returns-3 c = sym (ap sentOn (c .enum-told2 .given .1))
 
--- src/sweep.rt:33:1
 returns-4 : tie.Need-returns-4
 unfolding sentOn
 returns-4 c = sym (ap sentOn (c .enum-told3 .given .1))
 
--- src/sweep.rt:33:1
 returns-5 : tie.Need-returns-5
 unfolding sentOn
 returns-5 c = sym (ap sentOn (c .enum-told4 .given .1))

@@ -1,7 +1,6 @@
 -- `forced_at` meets its contract. The loop's invariant: no component looked at presses.
 use native.Mathlib.Omega.{arith}
-use mathlib.Core.Path.{_≡_, refl, sym, ap, subst, _∙_}
-use borrow.Author.Tests.{lt-ltb, le-ltb, le-leb, lt-leb, eq-eqb, ne-eqb}
+use mathlib.Core.Path.{_≡_, refl, sym, subst, _∙_}
 use borrow.Author.Needs.{needs}
 use Prim.Native.Nat.{_≤_, _-_}
 use mathlib.Core.Bool.{false}
@@ -14,10 +13,6 @@ use Rattle.calls_act.proofs.Positions.{few-comps, valid-parts, comp-good}
 use Rattle.calls_tick.proofs.Hearing.{quiet, quiet-more, some-getD, pressed-is}
 use Rattle.calls_tick.proofs.forced.forced_at.Statement.{statement}
 use Rattle.calls_tick.proofs.forced.forced_at.Tie as tie
-use Rattle.calls_tick.proofs.forced.forced_at.Reads as reads
-use Rattle.calls_tick.proofs.forced.forced_at.Lts as lts
-use Rattle.calls_tick.proofs.forced.heard_at.Reads as heard-at-reads
-use Rattle.calls_tick.proofs.forced.pressed_by.Reads as pressed-by-reads
 
 abbrev Inv-loop : tie.InvT-loop
 Inv-loop w l st ears n j₀ j = (j ≤ n) × (quiet w l (compsOf st) (take j (st .c)) ≡ false)
@@ -25,31 +20,25 @@ Inv-loop w l st ears n j₀ j = (j ≤ n) × (quiet w l (compsOf st) (take j (st
 abbrev μ-loop : tie.MeasureT-loop
 μ-loop w l st ears n j₀ j = n - j
 
--- src/forced.rt:109:9
 heard-at-requires : tie.Need-heard-at-requires Inv-loop μ-loop
 heard-at-requires c κs = c .pre
 
--- src/forced.rt:112:5
 loop-holds : tie.Need-loop-holds Inv-loop μ-loop
 unfolding some
 loop-holds c = (omega arith, refl)
 
--- src/forced.rt:113:17
 mul-c : tie.Need-mul-c Inv-loop μ-loop
 mul-c c = omega (arith, few-comps (c .before .before .before .args .w .now) (c .before .before .before .args .t2) (c .before .before .before .pre))
 
--- src/forced.rt:113:17
 element-copy-out-c : tie.Need-element-copy-out-c Inv-loop μ-loop
 element-copy-out-c c = omega (arith, few-comps (c .before .before .before .args .w .now) (c .before .before .before .args .t2) (c .before .before .before .pre))
 
--- src/forced.rt:114:12
 pressed-by-requires : tie.Need-pressed-by-requires Inv-loop μ-loop
 pressed-by-requires c κs =
     let a = c .before .before .before .before .before .args in
     let l : length (a .t2 .c) ≡ 256 = search (needs, mapped) in
     (valid-parts (a .w .now) (a .t2) (c .before .before .before .before .before .pre) .0, comp-good (a .w .now) (a .t2) (c .before .before .before .before .before .pre) l (c .before .before .before .loop .j) (c .before .before .loop-test .taken))
 
--- src/forced.rt:115:13
 returns : tie.Need-returns Inv-loop μ-loop
 unfolding forcedAt compsOf
 returns c =
@@ -61,15 +50,12 @@ returns c =
     let g = comp-good (a .w .now) (a .t2) v l j (c .before .before .before .before .loop-test .taken) in
     sym (some-getD _ (a .t2 .c) (a .t2 .n) j noComp (c .before .before .before .before .loop-test .taken) (omega arith) (sym (pressed-is (a .w .now) (a .l) (compsOf (a .t2)) (c .before .before .before .before .before .before .heard-at .result) (getD (a .t2 .c) j noComp) (valid-parts (a .w .now) (a .t2) v .0) g (c .before .before .before .before .before .before .heard-at .ensures)) ∙ sym (c .before .pressed-by .ensures) ∙ c .if1 .taken))
 
--- src/forced.rt:117:9
 add-j : tie.Need-add-j Inv-loop μ-loop
 add-j c = omega arith
 
--- src/forced.rt:112:5
 loop-less : tie.Need-loop-less Inv-loop μ-loop
 loop-less c = omega arith
 
--- src/forced.rt:112:5
 loop-again : tie.Need-loop-again Inv-loop μ-loop
 loop-again c =
     let a = c .before .before .before .before .before .before .before .args in
@@ -80,7 +66,6 @@ loop-again c =
     let g = comp-good (a .w .now) (a .t2) v l j (c .before .before .before .before .loop-test .taken) in
     (omega arith, quiet-more (a .w .now) (a .l) (compsOf (a .t2)) (a .t2 .c) j noComp (omega arith) (c .before .before .before .before .before .loop .inv .1) (sym (pressed-is (a .w .now) (a .l) (compsOf (a .t2)) (c .before .before .before .before .before .before .heard-at .result) (getD (a .t2 .c) j noComp) (valid-parts (a .w .now) (a .t2) v .0) g (c .before .before .before .before .before .before .heard-at .ensures)) ∙ sym (c .before .pressed-by .ensures) ∙ c .if1 .left))
 
--- src/forced.rt:105:1
 returns-2 : tie.Need-returns-2 Inv-loop μ-loop
 unfolding forcedAt compsOf
 returns-2 c =

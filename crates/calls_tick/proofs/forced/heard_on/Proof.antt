@@ -1,13 +1,9 @@
 -- `heard_on` meets its contract: in each arm the head is known.
-use native.Mathlib.Omega.{arith}
-use mathlib.Core.Path.{_≡_, refl, sym, ap, subst, _∙_}
-use borrow.Author.Tests.{lt-ltb, le-ltb, le-leb, lt-leb, eq-eqb, ne-eqb}
+use mathlib.Core.Path.{sym, ap}
 use Rattle.calls_tick.specs.Heard.{heardOn}
 use borrow.Author.Needs.{needs}
 use Rattle.calls_tick.proofs.forced.heard_on.Statement.{statement}
 use Rattle.calls_tick.proofs.forced.heard_on.Tie as tie
-use Rattle.calls_tick.proofs.forced.heard_on.Reads as reads
-use Rattle.calls_tick.proofs.forced.heard_on.Lts as lts
 
 enum-known-h : tie.Need-enum-known-h
 enum-known-h c = search needs

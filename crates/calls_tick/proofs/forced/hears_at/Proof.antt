@@ -1,19 +1,11 @@
 -- `hears_at` meets its contract: who is not ready has no channel.
-use native.Mathlib.Omega.{arith}
-use mathlib.Core.Path.{_≡_, refl, sym, ap, subst, _∙_}
-use borrow.Author.Tests.{lt-ltb, le-ltb, le-leb, lt-leb, eq-eqb, ne-eqb}
+use mathlib.Core.Path.{sym, ap, _∙_}
 use Rattle.table.specs.Words.{headAt}
 use Rattle.calls_tick.specs.Heard.{heardOn, hearsAt}
 use Rattle.calls_act.proofs.Heads.{place-fits}
 use borrow.Author.Needs.{needs}
 use Rattle.calls_tick.proofs.forced.hears_at.Statement.{statement}
 use Rattle.calls_tick.proofs.forced.hears_at.Tie as tie
-use Rattle.calls_tick.proofs.forced.hears_at.Reads as reads
-use Rattle.calls_tick.proofs.forced.hears_at.Lts as lts
-use Rattle.calls_tick.proofs.forced.heard_on.Reads as heard-on-reads
-use Rattle.calls_tick.proofs.forced.ready_at.Reads as ready-at-reads
-use Rattle.table.proofs.words.head_at.Reads as head-at-reads
-use Rattle.table.proofs.words.wide.Reads as wide-reads
 
 ready-at-requires : tie.Need-ready-at-requires
 ready-at-requires c κs = search needs

@@ -1,47 +1,33 @@
 -- `pressed_by` meets its contract: who is not ready does not press.
-use native.Mathlib.Omega.{arith}
-use mathlib.Core.Path.{_≡_, refl, sym, ap, subst, _∙_}
-use borrow.Author.Tests.{lt-ltb, le-ltb, le-leb, lt-leb, eq-eqb, ne-eqb}
+use mathlib.Core.Path.{sym, ap, _∙_}
 use Rattle.table.specs.Words.{headAt}
 use Rattle.calls_tick.specs.Heard.{pressesBy, pressedBy}
 use Rattle.calls_act.proofs.Heads.{place-fits}
 use borrow.Author.Needs.{needs}
 use Rattle.calls_tick.proofs.forced.pressed_by.Statement.{statement}
 use Rattle.calls_tick.proofs.forced.pressed_by.Tie as tie
-use Rattle.calls_tick.proofs.forced.pressed_by.Reads as reads
-use Rattle.calls_tick.proofs.forced.pressed_by.Lts as lts
-use Rattle.calls_tick.proofs.forced.presses_by.Reads as presses-by-reads
-use Rattle.calls_tick.proofs.forced.ready_at.Reads as ready-at-reads
-use Rattle.table.proofs.words.head_at.Reads as head-at-reads
-use Rattle.table.proofs.words.wide.Reads as wide-reads
 
--- src/forced.rt:98:8
 ready-at-requires : tie.Need-ready-at-requires
 ready-at-requires c κs = search needs
 
--- src/forced.rt:99:35
 wide-requires : tie.Need-wide-requires
 wide-requires c κs = search needs
 
--- src/forced.rt:99:13
 head-at-requires : tie.Need-head-at-requires
 head-at-requires c κs =
     let a = c .before .before .before .args in
     let q = c .before .before .before .pre in
     rw (c .wide .ensures) (place-fits (a .w .now) (a .c) (q .0) (q .1))
 
--- src/forced.rt:100:9
 presses-by-requires : tie.Need-presses-by-requires
 presses-by-requires c κs = search needs
 
--- src/forced.rt:100:9
 returns : tie.Need-returns
 unfolding pressedBy
 returns c =
     let a = c .before .before .before .before .before .args in
     rw (sym (c .before .before .before .before .ready-at .ensures) ∙ c .before .before .before .if1 .taken) (c .presses-by .ensures ∙ ap (pressesBy (a .ears .now) (a .c .timer)) (c .before .head-at .ensures ∙ ap (headAt (a .w .now)) (c .before .before .wide .ensures)))
 
--- src/forced.rt:94:1
 returns-2 : tie.Need-returns-2
 unfolding pressedBy
 returns-2 c = rw (sym (c .before .ready-at .ensures) ∙ c .if1 .left)

@@ -1,75 +1,57 @@
 -- `presses_by` meets its contract: in each arm the head is known.
-use native.Mathlib.Omega.{arith}
-use mathlib.Core.Path.{_≡_, refl, sym, ap, subst, _∙_}
-use borrow.Author.Tests.{lt-ltb, le-ltb, le-leb, lt-leb, eq-eqb, ne-eqb}
+use mathlib.Core.Path.{sym, ap, _∙_}
 use lib.Dec.{eqb}
 use lib.ListN.{getD}
 use Rattle.calls_tick.specs.Heard.{pressesBy}
 use borrow.Author.Needs.{needs}
 use Rattle.calls_tick.proofs.forced.presses_by.Statement.{statement}
 use Rattle.calls_tick.proofs.forced.presses_by.Tie as tie
-use Rattle.calls_tick.proofs.forced.presses_by.Reads as reads
-use Rattle.calls_tick.proofs.forced.presses_by.Lts as lts
-use Rattle.calls_tick.proofs.forced.is_heard.Reads as is-heard-reads
-use Rattle.table.proofs.words.wide.Reads as wide-reads
 
--- src/forced.rt:77:23
 enum-told : tie.Need-enum-told
 enum-told c = search needs
 
--- src/forced.rt:78:30
 enum-told-2 : tie.Need-enum-told-2
 enum-told-2 c = search needs
 
--- src/forced.rt:79:19
 enum-known-h : tie.Need-enum-known-h
 enum-known-h c = search needs
 
--- src/forced.rt:79:52
 wide-requires : tie.Need-wide-requires
 wide-requires c κs = search needs
 
--- src/forced.rt:79:37
 is-heard-requires : tie.Need-is-heard-requires
 is-heard-requires c κs = search needs
 
--- src/forced.rt:80:36
 enum-told-3 : tie.Need-enum-told-3
 enum-told-3 c = search needs
 
--- src/forced.rt:81:41
 enum-told-4 : tie.Need-enum-told-4
 enum-told-4 c = search needs
 
--- src/forced.rt:73:1
 returns : tie.Need-returns
 unfolding pressesBy
 returns c =
     let a = c .before .before .args in
     sym (ap (pressesBy (a .ears .now) (a .t)) (c .enum-told .given .1))
 
--- src/forced.rt:73:1
 returns-2 : tie.Need-returns-2
 unfolding pressesBy
 returns-2 c =
     let a = c .before .before .args in
     sym (ap (pressesBy (a .ears .now) (a .t)) (c .enum-told2 .given .1))
 
--- src/forced.rt:73:1
 returns-3 : tie.Need-returns-3
 unfolding pressesBy
 returns-3 c =
     let a = c .before .before .before .before .before .before .args in
     c .is-heard .ensures ∙ ap (λ k. eqb (getD (a .ears .now) k 0) 1) (c .before .wide .ensures) ∙ sym (ap (pressesBy (a .ears .now) (a .t)) (c .before .before .before .before .h .given .1))
 
--- src/forced.rt:73:1
 returns-4 : tie.Need-returns-4
 unfolding pressesBy
 returns-4 c =
     let a = c .before .before .args in
     sym (ap (pressesBy (a .ears .now) (a .t)) (c .enum-told3 .given .1))
 
--- src/forced.rt:73:1
 returns-5 : tie.Need-returns-5
 unfolding pressesBy
 returns-5 c =

@@ -1,20 +1,13 @@
 -- `ready_at` meets its contract: the mark decides, then the location.
-use native.Mathlib.Omega.{arith}
-use mathlib.Core.Path.{_≡_, refl, sym, ap, subst, _∙_}
-use borrow.Author.Tests.{lt-ltb, le-ltb, le-leb, lt-leb, eq-eqb, ne-eqb}
-use borrow.Author.Needs.{needs}
+use borrow.Author.Tests.{lt-ltb, le-ltb}
 use Rattle.table.specs.Fire.{readyAt}
 use Rattle.calls_tick.proofs.forced.ready_at.Statement.{statement}
 use Rattle.calls_tick.proofs.forced.ready_at.Tie as tie
-use Rattle.calls_tick.proofs.forced.ready_at.Reads as reads
-use Rattle.calls_tick.proofs.forced.ready_at.Lts as lts
 
--- src/forced.rt:22:9
 returns : tie.Need-returns
 unfolding readyAt
 returns c = rw (lt-ltb _ _ (c .if1 .taken))
 
--- src/forced.rt:18:1
 returns-2 : tie.Need-returns-2
 unfolding readyAt
 returns-2 c = rw (le-ltb _ _ (c .before .if1 .left))

@@ -1,7 +1,6 @@
 -- `first_turn` meets its contract: mark and location decide.
-use native.Mathlib.Omega.{arith}
-use mathlib.Core.Path.{_≡_, refl, sym, ap, subst, _∙_}
-use borrow.Author.Tests.{lt-ltb, le-ltb, le-leb, lt-leb, eq-eqb, ne-eqb}
+use mathlib.Core.Path.{ap, _∙_}
+use borrow.Author.Tests.{lt-ltb, le-ltb, eq-eqb, ne-eqb}
 use Rattle.table.specs.Words.{headAt}
 use Rattle.calls_tick.specs.Turn.{waitTurn, firstTurn}
 use Rattle.calls_act.proofs.Heads.{place-fits}
@@ -9,63 +8,46 @@ use Rattle.table.proofs.Tests.{part-fine, comp-fine}
 use borrow.Author.Needs.{needs}
 use Rattle.calls_tick.proofs.pass.first_turn.Statement.{statement}
 use Rattle.calls_tick.proofs.pass.first_turn.Tie as tie
-use Rattle.calls_tick.proofs.pass.first_turn.Reads as reads
-use Rattle.calls_tick.proofs.pass.first_turn.Lts as lts
-use Rattle.calls_tick.proofs.pass.part_turn.Reads as part-turn-reads
-use Rattle.calls_tick.proofs.pass.wait_turn.Reads as wait-turn-reads
-use Rattle.calls_tick.proofs.pass.whole_turn.Reads as whole-turn-reads
-use Rattle.table.proofs.words.head_at.Reads as head-at-reads
-use Rattle.table.proofs.words.wide.Reads as wide-reads
 
--- src/pass.rt:126:13
 part-turn-requires : tie.Need-part-turn-requires
 part-turn-requires c κs =
     let q = c .before .before .before .before .pre in
     place-fits (c .before .before .before .before .args .w .now) (c .before .before .before .before .args .c) (q .0) (q .1)
 
--- src/pass.rt:126:13
 returns : tie.Need-returns
 unfolding firstTurn
 returns c = rw (lt-ltb _ _ (c .before .before .before .if1 .taken), eq-eqb _ _ (c .before .if2 .taken)) (c .part-turn .ensures)
 
--- src/pass.rt:128:9
 whole-turn-requires : tie.Need-whole-turn-requires
 whole-turn-requires c κs = search needs
 
--- src/pass.rt:128:9
 returns-2 : tie.Need-returns-2
 unfolding firstTurn
 returns-2 c = rw (lt-ltb _ _ (c .before .before .before .if1 .taken), ne-eqb _ _ (c .before .if2 .left)) (c .whole-turn .ensures)
 
--- src/pass.rt:131:35
 wide-requires : tie.Need-wide-requires
 wide-requires c κs = search needs
 
--- src/pass.rt:131:13
 head-at-requires : tie.Need-head-at-requires
 head-at-requires c κs =
     let q = c .before .before .before .before .before .pre in
     rw (c .wide .ensures) (place-fits (c .before .before .before .before .before .args .w .now) (c .before .before .before .before .before .args .c) (q .0) (q .1))
 
--- src/pass.rt:132:9
 wait-turn-requires : tie.Need-wait-turn-requires
 wait-turn-requires c κs =
     let a = c .before .before .before .before .before .before .args in
     let q = c .before .before .before .before .before .before .pre in
     (rw (c .head-at .ensures, c .before .wide .ensures) (part-fine (a .w .now) (q .0) (a .c .place) (comp-fine (a .w .now) (a .c) (q .1) .place) .head), place-fits (a .w .now) (a .c) (q .0) (q .1))
 
--- src/pass.rt:132:9
 returns-3 : tie.Need-returns-3
 unfolding firstTurn
 returns-3 c =
     let a = c .before .before .before .before .before .before .before .args in
     rw (le-ltb _ _ (c .before .before .before .before .before .if1 .left), eq-eqb _ _ (c .before .before .before .if3 .taken)) (c .wait-turn .ensures ∙ ap (waitTurn (a .w .now) (a .c)) (c .before .head-at .ensures ∙ ap (headAt (a .w .now)) (c .before .before .wide .ensures)))
 
--- src/pass.rt:134:5
 whole-turn-requires-2 : tie.Need-whole-turn-requires-2
 whole-turn-requires-2 c κs = search needs
 
--- src/pass.rt:120:1
 returns-4 : tie.Need-returns-4
 unfolding firstTurn
 returns-4 c = rw (le-ltb _ _ (c .before .before .before .if1 .left), ne-eqb _ _ (c .before .if3 .left)) (c .whole-turn2 .ensures)

@@ -1,21 +1,16 @@
 -- `pass_all` meets its contract. The loop's invariant: what was written and what remains are what the tick leaves (Passing).
 use native.Mathlib.Omega.{arith}
-use mathlib.Core.Path.{_≡_, refl, sym, ap, subst, _∙_}
-use borrow.Author.Tests.{lt-ltb, le-ltb, le-leb, lt-leb, eq-eqb, ne-eqb}
+use mathlib.Core.Path.{_≡_, sym, ap}
 use borrow.Author.Needs.{needs}
-use Prim.Native.Nat.{_≤_, _-_}
+use Prim.Native.Nat.{_-_}
 use mathlib.Core.Bool.{true, false, false≢true}
-use lib.ListN.{length, take, getD, set}
-use Rattle.table.specs.Meaning.{compsOf, noComp}
+use lib.ListN.{length}
+use Rattle.table.specs.Meaning.{compsOf}
 use Rattle.table.proofs.ValidWhole.{mapped}
 use Rattle.calls_act.proofs.Positions.{few-comps, valid-parts, comp-good}
-use Rattle.calls_tick.specs.Turn.{turnOf}
 use Rattle.calls_tick.proofs.Passing.{Passing, passing-begin, passing-turn, passing-full, passing-done, left-over, turn-less, step-fits}
 use Rattle.calls_tick.proofs.pass.pass_all.Statement.{statement}
 use Rattle.calls_tick.proofs.pass.pass_all.Tie as tie
-use Rattle.calls_tick.proofs.pass.pass_all.Reads as reads
-use Rattle.calls_tick.proofs.pass.pass_all.Lts as lts
-use Rattle.calls_tick.proofs.pass.turn.Reads as turn-reads
 
 abbrev Inv-loop : tie.InvT-loop
 Inv-loop w l st n out₀ k₀ i₀ next₀ out k i next = Passing w l st out k i next
@@ -23,47 +18,38 @@ Inv-loop w l st n out₀ k₀ i₀ next₀ out k i next = Passing w l st out k i
 abbrev μ-loop : tie.MeasureT-loop
 μ-loop w l st n out₀ k₀ i₀ next₀ out k i next = left-over n i next
 
--- src/pass.rt:157:5
 loop-holds : tie.Need-loop-holds Inv-loop μ-loop
 loop-holds c =
     let l : length (c .args .t2 .c) ≡ 256 = search (needs, mapped) in
     passing-begin (c .args .w .now) (c .args .l) (c .args .t2) l
 
--- src/pass.rt:159:13
 returns : tie.Need-returns Inv-loop μ-loop
 returns c =
     let a = c .before .before .before .args in
     let l : length (a .t2 .c) ≡ 256 = search (needs, mapped) in
     (λ q. passing-full (a .w .now) (a .l) (a .t2) _ _ _ _ (c .before .before .before .pre) l (c .before .before .loop .inv) (c .before .loop-test .taken) (c .if1 .taken), λ q. absurd (false≢true (sym q)))
 
--- src/pass.rt:164:17
 mul-c : tie.Need-mul-c Inv-loop μ-loop
 mul-c c = omega (arith, few-comps (c .before .before .before .args .w .now) (c .before .before .before .args .t2) (c .before .before .before .pre))
 
--- src/pass.rt:164:17
 element-copy-out-c : tie.Need-element-copy-out-c Inv-loop μ-loop
 element-copy-out-c c = omega (arith, few-comps (c .before .before .before .args .w .now) (c .before .before .before .args .t2) (c .before .before .before .pre))
 
--- src/pass.rt:165:13
 turn-requires : tie.Need-turn-requires Inv-loop μ-loop
 turn-requires c κs =
     let a = c .before .before .before .before .args in
     let l : length (a .t2 .c) ≡ 256 = search (needs, mapped) in
     (valid-parts (a .w .now) (a .t2) (c .before .before .before .before .pre) .0, comp-good (a .w .now) (a .t2) (c .before .before .before .before .pre) l (c .before .before .before .loop .i) (c .before .before .loop-test .taken), c .before .before .before .loop .inv .part)
 
--- src/pass.rt:167:9
 mul-d : tie.Need-mul-d Inv-loop μ-loop
 mul-d c = omega arith
 
--- src/pass.rt:167:9
 element-set-from-d : tie.Need-element-set-from-d Inv-loop μ-loop
 element-set-from-d c = omega arith
 
--- src/pass.rt:168:9
 add-k : tie.Need-add-k Inv-loop μ-loop
 add-k c = omega arith
 
--- src/pass.rt:170:9
 add-i : tie.Need-add-i Inv-loop μ-loop
 add-i c =
     let a = c .before .before .before .before .before .before .before .args in
@@ -74,7 +60,6 @@ add-i c =
     let q = c .before .before .turn .ensures in
     omega (arith, few-comps (a .w .now) (a .t2) v, ap (λ t. t .step) q, step-fits (a .w .now) (a .l) (a .t2) (c .before .before .before .before .before .before .loop .out) (c .before .before .before .before .before .before .loop .k) (c .before .before .before .before .before .before .loop .i) (c .before .before .before .before .before .before .loop .next) v l p h)
 
--- src/pass.rt:157:5
 loop-less : tie.Need-loop-less Inv-loop μ-loop
 loop-less c =
     let a = c .before .before .before .before .before .before .before .args in
@@ -85,7 +70,6 @@ loop-less c =
     let q = c .before .before .turn .ensures in
     rw q (turn-less (a .w .now) (a .l) (a .t2) (c .before .before .before .before .before .before .loop .out) (c .before .before .before .before .before .before .loop .k) (c .before .before .before .before .before .before .loop .i) (c .before .before .before .before .before .before .loop .next) v l p h)
 
--- src/pass.rt:157:5
 loop-again : tie.Need-loop-again Inv-loop μ-loop
 loop-again c =
     let a = c .before .before .before .before .before .before .before .args in
@@ -96,7 +80,6 @@ loop-again c =
     let q = c .before .before .turn .ensures in
     rw q (passing-turn (a .w .now) (a .l) (a .t2) (c .before .before .before .before .before .before .loop .out) (c .before .before .before .before .before .before .loop .k) (c .before .before .before .before .before .before .loop .i) (c .before .before .before .before .before .before .loop .next) v l p h (omega arith))
 
--- src/pass.rt:148:1
 returns-2 : tie.Need-returns-2 Inv-loop μ-loop
 unfolding compsOf
 returns-2 c =

@@ -1,55 +1,41 @@
 -- `timer_in` meets its contract: in each arm the head is known.
-use native.Mathlib.Omega.{arith}
-use mathlib.Core.Path.{_≡_, refl, sym, ap, subst, _∙_}
-use borrow.Author.Tests.{lt-ltb, le-ltb, le-leb, lt-leb, eq-eqb, ne-eqb}
+use mathlib.Core.Path.{sym, ap}
 use Rattle.table.specs.Split.{timerIn}
 use borrow.Author.Needs.{needs}
 use Rattle.calls_tick.proofs.pass.timer_in.Statement.{statement}
 use Rattle.calls_tick.proofs.pass.timer_in.Tie as tie
-use Rattle.calls_tick.proofs.pass.timer_in.Reads as reads
-use Rattle.calls_tick.proofs.pass.timer_in.Lts as lts
 
--- src/pass.rt:26:23
 enum-told : tie.Need-enum-told
 enum-told c = search needs
 
--- src/pass.rt:27:18
 enum-known-h : tie.Need-enum-known-h
 enum-known-h c = search needs
 
--- src/pass.rt:28:22
 enum-known-h-2 : tie.Need-enum-known-h-2
 enum-known-h-2 c = search needs
 
--- src/pass.rt:29:21
 enum-known-h-3 : tie.Need-enum-known-h-3
 enum-known-h-3 c = search needs
 
--- src/pass.rt:30:41
 enum-told-2 : tie.Need-enum-told-2
 enum-told-2 c = search needs
 
--- src/pass.rt:22:1
 returns : tie.Need-returns
 unfolding timerIn
 returns c = sym (ap timerIn (c .enum-told .given .1))
 
--- src/pass.rt:22:1
 returns-2 : tie.Need-returns-2
 unfolding timerIn
 returns-2 c = sym (ap timerIn (c .before .h .given .1))
 
--- src/pass.rt:22:1
 returns-3 : tie.Need-returns-3
 unfolding timerIn
 returns-3 c = sym (ap timerIn (c .before .h2 .given .1))
 
--- src/pass.rt:22:1
 returns-4 : tie.Need-returns-4
 unfolding timerIn
 returns-4 c = sym (ap timerIn (c .before .h3 .given .1))
 
--- src/pass.rt:22:1
 returns-5 : tie.Need-returns-5
 unfolding timerIn
 returns-5 c = sym (ap timerIn (c .enum-told2 .given .1))

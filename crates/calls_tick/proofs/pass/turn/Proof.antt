@@ -1,36 +1,26 @@
 -- `turn` meets its contract: 0 is the first turn.
 use Rattle.calls_tick.proofs.Turns.{turn-part}
 use native.Mathlib.Omega.{arith}
-use mathlib.Core.Path.{_≡_, refl, sym, ap, subst, _∙_}
-use borrow.Author.Tests.{lt-ltb, le-ltb, le-leb, lt-leb, eq-eqb, ne-eqb}
+use mathlib.Core.Path.{sym, _∙_}
 use Rattle.table.proofs.Tests.{script-fine}
 use Rattle.calls_tick.specs.Turn.{turnOf}
 use borrow.Author.Needs.{needs}
 use Rattle.calls_tick.proofs.pass.turn.Statement.{statement}
 use Rattle.calls_tick.proofs.pass.turn.Tie as tie
-use Rattle.calls_tick.proofs.pass.turn.Reads as reads
-use Rattle.calls_tick.proofs.pass.turn.Lts as lts
-use Rattle.calls_tick.proofs.pass.first_turn.Reads as first-turn-reads
-use Rattle.calls_tick.proofs.pass.part_turn.Reads as part-turn-reads
 
--- src/pass.rt:142:9
 first-turn-requires : tie.Need-first-turn-requires
 first-turn-requires c κs = search needs
 
--- src/pass.rt:142:9
 returns : tie.Need-returns
 unfolding turnOf
 returns c = rw (c .before .if1 .taken) (c .first-turn .ensures)
 
--- src/pass.rt:144:21
 sub-part-turn : tie.Need-sub-part-turn
 sub-part-turn c = search needs
 
--- src/pass.rt:144:5
 part-turn-requires : tie.Need-part-turn-requires
 part-turn-requires c κs = omega (arith, c .before .pre .2, script-fine (c .before .args .w .now) (c .before .pre .0) .parts)
 
--- src/pass.rt:137:1
 returns-2 : tie.Need-returns-2
 returns-2 c =
     let a = c .before .before .args in

@@ -1,7 +1,6 @@
 -- `wait_turn` meets its contract: in each arm the head is known, and a Q comes from a lesser place.
 use native.Mathlib.Omega.{arith}
-use mathlib.Core.Path.{_≡_, refl, sym, ap, subst, _∙_}
-use borrow.Author.Tests.{lt-ltb, le-ltb, le-leb, lt-leb, eq-eqb, ne-eqb}
+use mathlib.Core.Path.{_≡_, sym, ap, subst, _∙_}
 use mathlib.Core.Bool.{true}
 use Rattle.table.specs.Valid.{headOk}
 use Rattle.table.proofs.Places.{out-fine, in-fine}
@@ -9,87 +8,67 @@ use Rattle.calls_tick.specs.Turn.{waitTurn}
 use borrow.Author.Needs.{needs}
 use Rattle.calls_tick.proofs.pass.wait_turn.Statement.{statement}
 use Rattle.calls_tick.proofs.pass.wait_turn.Tie as tie
-use Rattle.calls_tick.proofs.pass.wait_turn.Reads as reads
-use Rattle.calls_tick.proofs.pass.wait_turn.Lts as lts
-use Rattle.calls_tick.proofs.pass.else_turn.Reads as else-turn-reads
-use Rattle.calls_tick.proofs.pass.timed_turn.Reads as timed-turn-reads
-use Rattle.calls_tick.proofs.pass.whole_turn.Reads as whole-turn-reads
 
--- src/pass.rt:112:23
 enum-told : tie.Need-enum-told
 enum-told c = search needs
 
--- src/pass.rt:112:23
 whole-turn-requires : tie.Need-whole-turn-requires
 whole-turn-requires c κs = search needs
 
--- src/pass.rt:113:30
 enum-told-2 : tie.Need-enum-told-2
 enum-told-2 c = search needs
 
--- src/pass.rt:113:30
 timed-turn-requires : tie.Need-timed-turn-requires
 timed-turn-requires c κs = search needs
 
--- src/pass.rt:114:31
 enum-known-h : tie.Need-enum-known-h
 enum-known-h c = search needs
 
--- src/pass.rt:114:37
 else-turn-requires : tie.Need-else-turn-requires
 else-turn-requires c κs =
     let a = c .before .before .before .args in
     let h = c .before .h .given in
     omega (arith, out-fine (a .w .now) (a .c .place) (h .0 .0) (h .0 .1 .0) (h .0 .1 .1 .0) (h .0 .1 .1 .1 .0) (h .0 .1 .1 .1 .1 .0) (subst (λ z. headOk (a .w .now) (a .c .place) z ≡ true) (h .1) (c .before .before .before .pre .0)) .second .lesser, c .before .before .before .pre .1)
 
--- src/pass.rt:115:30
 enum-known-h-2 : tie.Need-enum-known-h-2
 enum-known-h-2 c = search needs
 
--- src/pass.rt:115:36
 else-turn-requires-2 : tie.Need-else-turn-requires-2
 else-turn-requires-2 c κs =
     let a = c .before .before .before .args in
     let h = c .before .h2 .given in
     omega (arith, in-fine (a .w .now) (a .c .place) (h .0 .0) (h .0 .1 .0) (h .0 .1 .1 .0) (h .0 .1 .1 .1 .0) (h .0 .1 .1 .1 .1 .0) (subst (λ z. headOk (a .w .now) (a .c .place) z ≡ true) (h .1) (c .before .before .before .pre .0)) .second .lesser, c .before .before .before .pre .1)
 
--- src/pass.rt:116:41
 enum-told-3 : tie.Need-enum-told-3
 enum-told-3 c = search needs
 
--- src/pass.rt:116:41
 whole-turn-requires-2 : tie.Need-whole-turn-requires-2
 whole-turn-requires-2 c κs = search needs
 
--- src/pass.rt:107:1
 returns : tie.Need-returns
 unfolding waitTurn
 returns c =
     let a = c .before .before .before .args in
     c .whole-turn .ensures ∙ sym (ap (waitTurn (a .w .now) (a .c)) (c .before .enum-told .given .1))
 
--- src/pass.rt:107:1
 returns-2 : tie.Need-returns-2
 unfolding waitTurn
 returns-2 c =
     let a = c .before .before .before .args in
     c .timed-turn .ensures ∙ sym (ap (waitTurn (a .w .now) (a .c)) (c .before .enum-told2 .given .1))
 
--- src/pass.rt:107:1
 returns-3 : tie.Need-returns-3
 unfolding waitTurn
 returns-3 c =
     let a = c .before .before .before .before .args in
     c .else-turn .ensures ∙ sym (ap (waitTurn (a .w .now) (a .c)) (c .before .before .h .given .1))
 
--- src/pass.rt:107:1
 returns-4 : tie.Need-returns-4
 unfolding waitTurn
 returns-4 c =
     let a = c .before .before .before .before .args in
     c .else-turn2 .ensures ∙ sym (ap (waitTurn (a .w .now) (a .c)) (c .before .before .h2 .given .1))
 
--- src/pass.rt:107:1
 returns-5 : tie.Need-returns-5
 unfolding waitTurn
 returns-5 c =

@@ -1,7 +1,6 @@
 -- `tick_valid` meets its contract: each question in turn, by the laws of the tick on a table (Ticking).
 use native.Mathlib.Omega.{arith}
-use mathlib.Core.Path.{_≡_, refl, sym, ap, subst, _∙_}
-use borrow.Author.Tests.{lt-ltb, le-ltb, le-leb, lt-leb, eq-eqb, ne-eqb}
+use mathlib.Core.Path.{_≡_, sym, _∙_}
 use Prim.Native.Nat.{_<_}
 use lib.ListN.{length}
 use Rattle.table.specs.Words.{locsIn}
@@ -10,37 +9,25 @@ use Rattle.calls_tick.proofs.Ticking.{tick-out, tick-forced, tick-full,
 use borrow.Author.Needs.{needs}
 use Rattle.calls_tick.proofs.tick.tick_valid.Statement.{statement}
 use Rattle.calls_tick.proofs.tick.tick_valid.Tie as tie
-use Rattle.calls_tick.proofs.tick.tick_valid.Reads as reads
-use Rattle.calls_tick.proofs.tick.tick_valid.Lts as lts
-use Rattle.calls_tick.proofs.forced.forced_at.Reads as forced-at-reads
-use Rattle.calls_tick.proofs.pass.pass_all.Reads as pass-all-reads
-use Rattle.calls_tick.proofs.tick.refuse.Reads as refuse-reads
-use Rattle.table.proofs.words.word.Reads as word-reads
 
--- src/tick.rt:26:8
 word-requires : tie.Need-word-requires
 word-requires c κs = search needs
 
--- src/tick.rt:27:9
 refuse-requires : tie.Need-refuse-requires
 refuse-requires c κs = search needs
 
--- src/tick.rt:27:9
 returns : tie.Need-returns
 returns c =
     let a = c .before .before .before .args in
     let v = c .before .before .before .pre in
     rw (tick-out (a .w .now) (a .st) (a .l) (omega (arith, c .before .before .word .ensures))) (c .refuse .ensures)
 
--- src/tick.rt:29:8
 forced-at-requires : tie.Need-forced-at-requires
 forced-at-requires c κs = search needs
 
--- src/tick.rt:30:9
 refuse-requires-2 : tie.Need-refuse-requires-2
 refuse-requires-2 c κs = search needs
 
--- src/tick.rt:30:9
 returns-2 : tie.Need-returns-2
 returns-2 c =
     let a = c .before .before .before .before .before .args in
@@ -48,15 +35,12 @@ returns-2 c =
     let h : a .l < locsIn (a .w .now) = omega (arith, c .before .before .before .before .word .ensures) in
     rw (tick-forced (a .w .now) (a .st) (a .l) v h (sym (c .before .before .forced-at .ensures) ∙ c .before .if2 .taken)) (c .refuse2 .ensures)
 
--- src/tick.rt:32:9
 pass-all-requires : tie.Need-pass-all-requires
 pass-all-requires c κs = search needs
 
--- src/tick.rt:34:9
 refuse-requires-3 : tie.Need-refuse-requires-3
 refuse-requires-3 c κs = search needs
 
--- src/tick.rt:34:9
 returns-3 : tie.Need-returns-3
 returns-3 c =
     let a = c .before .before .before .before .before .before .before .args in
@@ -64,7 +48,6 @@ returns-3 c =
     let h : a .l < locsIn (a .w .now) = omega (arith, c .before .before .before .before .before .before .word .ensures) in
     rw (tick-full (a .w .now) (a .st) (a .l) v h (sym (c .before .before .before .before .forced-at .ensures) ∙ c .before .before .before .if2 .left) (c .before .before .pass-all .ensures .0 (c .before .if3 .taken))) (c .refuse3 .ensures)
 
--- src/tick.rt:22:1
 returns-4 : tie.Need-returns-4
 returns-4 c =
     let a = c .before .before .before .before .before .before .before .args in

@@ -1,6 +1,5 @@
 -- Names are compared where the numbers leave it open; where no number stands again, no name does.
 -- By the law that names whose numbers differ are different.
-use native.Mathlib.Omega.{arith}
 use mathlib.Core.Path.{sym}
 use borrow.Author.Needs.{needs}
 use Rattle.table.specs.Tests.{rowName}

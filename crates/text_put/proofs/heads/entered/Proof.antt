@@ -1,6 +1,4 @@
 -- By the two tests.
-use native.Mathlib.Omega.{arith}
-use mathlib.Core.Path.{_≡_, refl, sym, ap, _∙_}
 use borrow.Author.Needs.{needs}
 use Rattle.text_put.proofs.Fronts.{entered-there, entered-new, entered-full}
 use Rattle.text_put.proofs.heads.entered.Statement.{statement}

@@ -1,6 +1,5 @@
 -- By the two tests.
-use native.Mathlib.Omega.{arith}
-use mathlib.Core.Path.{_≡_, refl, sym, ap, _∙_}
+use mathlib.Core.Path.{_≡_}
 use borrow.Author.Needs.{needs}
 use lib.ListN.{length}
 use Rattle.text_put.proofs.Fronts.{marked-there, marked-new, marked-full}

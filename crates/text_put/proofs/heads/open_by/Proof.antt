@@ -1,6 +1,6 @@
 -- The sort of the first word says which form the part has.
 use Prim.Native.Nat.{_-_}
-use mathlib.Core.Path.{_≡_, refl, sym, ap, _∙_}
+use mathlib.Core.Path.{refl, ap}
 use borrow.Author.Needs.{needs}
 use Rattle.text_words.specs.Sorts.{headIs}
 use Rattle.text_put.specs.Opened.{OpenIs}

@@ -1,6 +1,6 @@
 -- A bracket, a timer, a value; then the row.
 use mathlib.Core.List.{_∷_}
-use mathlib.Core.Path.{_≡_, refl, sym, ap, _∙_}
+use mathlib.Core.Path.{refl, ap, _∙_}
 use borrow.Author.Needs.{needs}
 use Rattle.text.specs.Characters.{classOf}
 use Rattle.text.specs.Tokens.{lexFrom, opens, comma}

@@ -1,6 +1,5 @@
 -- A channel, a timer, a name; its slot and the scope of P; then the row.
 use native.Mathlib.Omega.{arith}
-use mathlib.Core.Path.{_≡_, refl, sym, ap, _∙_}
 use borrow.Author.Needs.{needs}
 use Rattle.text_put.proofs.Fronts.{chan-few, in-open}
 use Rattle.text_put.proofs.heads.open_in.Statement.{statement}

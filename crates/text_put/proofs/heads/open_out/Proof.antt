@@ -1,7 +1,7 @@
 -- A channel, a timer, a value; then the row.
 use native.Mathlib.Omega.{arith}
 use mathlib.Core.List.{_∷_}
-use mathlib.Core.Path.{_≡_, refl, sym, ap, _∙_}
+use mathlib.Core.Path.{ap, _∙_}
 use borrow.Author.Needs.{needs}
 use Rattle.text.specs.Tokens.{opens, comma}
 use Rattle.text.specs.Tokens.Token.{word, sign}

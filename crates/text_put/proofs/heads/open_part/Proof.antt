@@ -1,6 +1,6 @@
 -- The first word, then what is behind it.
 use native.Mathlib.Omega.{arith}
-use mathlib.Core.Path.{_≡_, refl, sym, ap, _∙_}
+use mathlib.Core.Path.{_∙_}
 use borrow.Author.Needs.{needs}
 use Rattle.text_words.proofs.Positions.{word-alnum}
 use Rattle.text_put.specs.Opened.{headName}

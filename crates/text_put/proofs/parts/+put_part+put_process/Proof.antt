@@ -1,7 +1,7 @@
 -- Process reader and part reader, each the other's callee. The falling number is the bytes left, twice, and one more for the process reader.
 use native.Mathlib.Omega.{arith}
 use borrow.Author.Needs.{needs}
-use mathlib.Core.Path.{_≡_, refl, sym, ap, _∙_}
+use mathlib.Core.Path.{refl}
 use Prim.Native.Nat.{_+_, _*_, _-_}
 use lib.ListN.{length}
 use Rattle.text.specs.Characters.{classOf}

@@ -1,7 +1,6 @@
 -- The loop's invariant: of the values some are read, and from here on stand the others. The bytes left fall with each value and its comma.
 use Prim.Native.Nat.{_-_}
-use native.Mathlib.Omega.{arith}
-use mathlib.Core.Path.{_≡_, refl, sym, ap, _∙_}
+use mathlib.Core.Path.{refl}
 use lib.ListN.{length}
 use borrow.Author.Needs.{needs}
 use Rattle.text.specs.Characters.{classOf}

@@ -1,6 +1,6 @@
 -- A location is looked up or entered, a variable has its slot. Both numbers are small.
 use native.Mathlib.Omega.{arith}
-use mathlib.Core.Path.{_≡_, refl, sym, ap, _∙_}
+use mathlib.Core.Path.{_≡_}
 use lib.ListN.{length}
 use Rattle.table.specs.Tests.{keyName}
 use Rattle.text_put.proofs.Arguments.{number-few, slot-few, by-capital, by-small}

@@ -1,5 +1,5 @@
 -- By the word's number.
-use mathlib.Core.Path.{_≡_, refl, sym, ap, _∙_}
+use mathlib.Core.Path.{sym, ap}
 use Rattle.text_put.specs.Found.{withWord}
 use Rattle.text_put.proofs.Arguments.{with-rest}
 use Rattle.text_put.proofs.values.with_word.Statement.{statement}

@@ -1,6 +1,4 @@
 -- By the first byte, if there is one.
-use mathlib.Core.Path.{_≡_, sym, ap, _∙_}
-use native.Mathlib.Omega.{arith}
 use Rattle.text.specs.Characters.{isCapital}
 use Rattle.text_put.proofs.Peeling.{first-none, first-of}
 use borrow.Author.Needs.{needs}

@@ -1,5 +1,5 @@
 -- By the side of the range on which the byte lies.
-use mathlib.Core.Path.{_≡_, sym, ap, _∙_}
+use mathlib.Core.Path.{sym, ap}
 use native.Mathlib.Omega.{arith}
 use Rattle.text.specs.Characters.{isCapital}
 use Rattle.text.proofs.Classes.{capital-class, below, above}

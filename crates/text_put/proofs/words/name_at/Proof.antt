@@ -1,8 +1,7 @@
 -- The word past the blanks is the next token.
-use Prim.Native.Nat.{_≤_, _<_, _-_}
+use Prim.Native.Nat.{_-_}
 use native.Mathlib.Omega.{arith}
-use mathlib.Core.Path.{_≡_, refl, sym, ap, _∙_}
-use lib.ListN.{length, drop, take}
+use mathlib.Core.Path.{ap, _∙_}
 use Rattle.text.specs.Characters.{isCapital}
 use Rattle.text.specs.Tokens.{firstIs}
 use Rattle.text_build.specs.Keys.{keyOf}

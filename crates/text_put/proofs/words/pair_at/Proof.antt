@@ -1,5 +1,5 @@
 -- A timer, a comma, a word, a comma, one after the other.
-use mathlib.Core.Path.{_≡_, refl, sym, ap, _∙_}
+use mathlib.Core.Path.{refl}
 use Rattle.text.specs.Characters.{classOf}
 use Rattle.text.specs.Tokens.{lexFrom, comma}
 use Rattle.text_put.proofs.Peeling.{peel-sign}

@@ -1,9 +1,8 @@
 -- The word past the blanks is the timer's.
-use Prim.Native.Nat.{_≤_, _<_, _-_}
+use Prim.Native.Nat.{_-_}
 use native.Mathlib.Omega.{arith}
 use mathlib.Core.List.{_∷_}
-use mathlib.Core.Path.{_≡_, refl, sym, ap, _∙_}
-use lib.ListN.{length, drop, take}
+use mathlib.Core.Path.{sym, ap, _∙_}
 use Rattle.text.specs.Tokens.Token.{word}
 use Rattle.text_put.proofs.Peeling.{peel-name, peel-word, peel-none, timerName, timer-word}
 use borrow.Author.Needs.{needs}

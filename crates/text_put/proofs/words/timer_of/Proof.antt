@@ -1,5 +1,5 @@
 -- `inf` is the only timer of letters; the constructor takes the number of any other.
-use mathlib.Core.Path.{_≡_, refl, sym, ap, _∙_}
+use mathlib.Core.Path.{sym, _∙_}
 use Rattle.text_put.proofs.Peeling.{timer-inf, timer-made, timer-large}
 use borrow.Author.Needs.{needs}
 use Rattle.text_put.proofs.words.timer_of.Statement.{statement}

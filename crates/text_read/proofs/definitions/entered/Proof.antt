@@ -1,5 +1,4 @@
 -- By whether the name is in scope.
-use mathlib.Core.Path.{_≡_, refl, sym, ap, _∙_}
 use borrow.Author.Needs.{needs}
 use Rattle.text_read.proofs.Defs.{scope-there, scope-new}
 use Rattle.text_read.proofs.definitions.entered.Statement.{statement}

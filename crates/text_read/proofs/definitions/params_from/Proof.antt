@@ -1,7 +1,7 @@
 -- The loop's invariant: from here on stand the parameters that are left to write. The bytes left fall with each name and its comma.
 use Prim.Native.Nat.{_-_}
 use native.Mathlib.Omega.{arith}
-use mathlib.Core.Path.{_≡_, refl, sym, ap, _∙_}
+use mathlib.Core.Path.{refl}
 use lib.ListN.{length}
 use borrow.Author.Needs.{needs}
 use Rattle.text.specs.Characters.{classOf}

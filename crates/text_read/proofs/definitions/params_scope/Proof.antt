@@ -1,8 +1,7 @@
 -- The loop's invariant: the parameters that are left, entered after those before them, make the scope.
 use Prim.Native.Nat.{_+_, _-_, _*_, _≤_}
 use native.Mathlib.Omega.{arith}
-use mathlib.Core.Path.{_≡_, refl, sym, ap, _∙_}
-use borrow.Author.Needs.{needs}
+use mathlib.Core.Path.{_≡_, ap, _∙_}
 use Rattle.text_tree.specs.Pass.{noScope, paramsFrom}
 use Rattle.text_read.proofs.Defs.{enter-few, scope-on, scope-end, scope-first}
 use Rattle.text_read.proofs.definitions.params_scope.Statement.{statement}

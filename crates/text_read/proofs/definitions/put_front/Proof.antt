@@ -1,7 +1,7 @@
 -- Two words, then a name.
 use Prim.Native.Nat.{suc, _+_, _*_}
 use native.Mathlib.Omega.{arith}
-use mathlib.Core.Path.{_≡_, refl, sym, ap, _∙_}
+use mathlib.Core.Path.{_≡_, _∙_}
 use borrow.Author.Needs.{needs}
 use Rattle.text_read.proofs.definitions.put_front.Statement.{statement}
 use Rattle.text_read.proofs.definitions.put_front.Tie as tie

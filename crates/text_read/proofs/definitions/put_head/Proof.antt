@@ -1,6 +1,5 @@
 -- The name, the number of parameters, the parameters; the body is skipped.
-use native.Mathlib.Omega.{arith}
-use mathlib.Core.Path.{_≡_, refl, sym, ap, _∙_}
+use mathlib.Core.Path.{refl}
 use borrow.Author.Needs.{needs}
 use Rattle.text.specs.Characters.{classOf}
 use Rattle.text.specs.Tokens.{lexFrom}

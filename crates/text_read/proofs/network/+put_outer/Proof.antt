@@ -1,8 +1,8 @@
 -- A process whose outermost parts are gathered, part by part. The falling number is the bytes left.
 use native.Mathlib.Omega.{arith}
 use borrow.Author.Needs.{needs}
-use mathlib.Core.Path.{_≡_, refl, sym, ap, _∙_}
-use Prim.Native.Nat.{_+_, _*_, _-_}
+use mathlib.Core.Path.{refl}
+use Prim.Native.Nat.{_+_, _-_}
 use lib.ListN.{length}
 use Rattle.text.specs.Characters.{classOf}
 use Rattle.text.specs.Tokens.{lexFrom}

@@ -1,5 +1,4 @@
 -- By whether there is space.
-use mathlib.Core.Path.{_≡_, refl, sym, ap, _∙_}
 use borrow.Author.Needs.{needs}
 use Rattle.text_read.proofs.Spreading.{spread-here, spread-full}
 use Rattle.text_read.proofs.network.spot.Statement.{statement}

@@ -1,7 +1,4 @@
 -- By the fields.
-use mathlib.Core.Path.{_≡_, refl, sym, ap, _∙_}
-use Prim.Native.Nat.{_+_, _*_}
-use lib.ListN.{getD}
 use borrow.Author.Needs.{needs}
 use Rattle.text_tree.specs.Asked.{compOf}
 use Rattle.text_read.proofs.state.comp_at.Statement.{statement}

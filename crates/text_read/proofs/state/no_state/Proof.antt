@@ -1,5 +1,5 @@
 -- The same component 256 times.
-use mathlib.Core.Path.{_≡_, refl, sym, ap, _∙_}
+use mathlib.Core.Path.{ap}
 use lib.ListN.{replicate}
 use borrow.Author.Needs.{needs}
 use Rattle.text_read.proofs.state.no_state.Statement.{statement}
