@@ -18,11 +18,13 @@ fn mark(s: &[u8], a: usize) -> usize
     i
 }
 
-// One text.
+// One text. A printout that is longer than the buffer is left out; none of the stored ones is.
 fn one(text: &[u8]) {
     let mut out = io::large_buffer();
     let k = run_print::printout(text, &mut out);
-    run_emit::emit(&out, k);
+    if k <= out.len() {
+        run_emit::emit(&out, k);
+    }
     io::write_all(1, b"#\n");
 }
 

@@ -225,26 +225,27 @@ module _ (w : List ℕ) where
   play-end st round l h p b = let m : 4 - round ≡ 0 = omega arith in last (left-as (ap (λ n. playing (defsOf w) (remaining n l (locsOf w)) (netOf w st)) m) p) b
 
 -- ── the whole ──
--- no question has the number 0
-pub never-0 : (s : List ℕ) → read s ≡ refused 0 → ⊥
+-- the questions of a text have the numbers 1 to 7
+abbrev Among : Answer Network → Type 0
+Among (refused n) = (0 < n) × (n < 8)
+Among (accepted m) = Unit {0}
+
+among : (s : List ℕ) → Among (read s)
 unfolding read form
-never-0 s e = go (short s) (text (lex s)) e
+among s = go (short s) (text (lex s))
   where
-    clash : {n : ℕ} → _≡_ {A = Answer Network} (refused (suc n)) (refused 0) → ⊥
-    clash {n} e = let z : _≡_ {A = ℕ} (suc n) 0 = cc in omega arith
+    tree : (t : Tree) (a b c d f : Bool) → Among (ask 3 a >> (ask 4 b >> (ask 5 c >> (ask 6 d >> (ask 7 f >> accepted (networkOf t))))))
+    tree t false b c d f = (omega arith, omega arith)
+    tree t true false c d f = (omega arith, omega arith)
+    tree t true true false d f = (omega arith, omega arith)
+    tree t true true true false f = (omega arith, omega arith)
+    tree t true true true true false = (omega arith, omega arith)
+    tree t true true true true true = tt
 
-    tree : (t : Tree) (a b c d f : Bool) → (ask 3 a >> (ask 4 b >> (ask 5 c >> (ask 6 d >> (ask 7 f >> accepted (networkOf t)))))) ≡ refused 0 → ⊥
-    tree t false b c d f e = clash e
-    tree t true false c d f e = clash e
-    tree t true true false d f e = clash e
-    tree t true true true false f e = clash e
-    tree t true true true true false e = clash e
-    tree t true true true true true e = let z : _≡_ {A = ℕ} 0 1 = cc in omega arith
-
-    go : (y : Bool) (x : Rest Tree) → (ask 1 y >> (whole x >>= λ t. ask 3 (shallow t) >> (ask 4 (fits t) >> (ask 5 (distinct (t .defs)) >> (ask 6 (callsMet t) >> (ask 7 (bound t) >> accepted (networkOf t))))))) ≡ refused 0 → ⊥
-    go false x e = clash e
-    go true bad e = clash e
-    go true (ok t us) e = tree t (shallow t) (fits t) (distinct (t .defs)) (callsMet t) (bound t) e
+    go : (y : Bool) (x : Rest Tree) → Among (ask 1 y >> (whole x >>= λ t. ask 3 (shallow t) >> (ask 4 (fits t) >> (ask 5 (distinct (t .defs)) >> (ask 6 (callsMet t) >> (ask 7 (bound t) >> accepted (networkOf t)))))))
+    go false x = (omega arith, omega arith)
+    go true bad = (omega arith, omega arith)
+    go true (ok t us) = tree t (shallow t) (fits t) (distinct (t .defs)) (callsMet t) (bound t)
 
 module _ (s w v : List ℕ) (r : Reading) (x : ReadsAs s w v r) where
   pub whole-refused : (r .code ≡ 0 → ⊥) → refusedText (r .code) ≡ printout s
@@ -255,9 +256,16 @@ module _ (s w v : List ℕ) (r : Reading) (x : ReadsAs s w v r) where
       go (refused m) k = ap refusedText (ap (λ q. q .code) (k .0))
       go (accepted m) k = absurd (n (k .code))
 
+  pub whole-number : (r .code ≡ 0 → ⊥) → r .code < 8
+  whole-number n = go (read s) (among s) x
+    where
+      go : (y : Answer Network) → Among y → readsAs s y w v r → r .code < 8
+      go (refused m) a k = let h : r .code ≡ m = ap (λ q. q .code) (k .0) in omega arith
+      go (accepted m) a k = absurd (n (k .code))
+
   module _ (z : r .code ≡ 0) where
     not-refused : (m : ℕ) → read s ≡ refused m → r ≡ refusal m → ⊥
-    not-refused m e k = let h : m ≡ 0 = sym (ap (λ q. q .code) k) ∙ z in never-0 s (e ∙ ap refused h)
+    not-refused m e k = let h : r .code ≡ m = ap (λ q. q .code) k in let a : Among (refused m) = rw e at (among s) in omega arith
 
     pub whole-good : valid v (r .state) ≡ true
     whole-good = go (read s) refl x

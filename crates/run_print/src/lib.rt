@@ -3,6 +3,7 @@
 // specs/Print     the printout
 // specs/Examples  document 01's own printout, computed
 // proofs/Playing  the ways of the code to it
+// proofs/Fits     what its parts add to its length, which is at most 3,477,760
 ghost use mathlib.Core.Bool.{true};
 ghost use mathlib.Core.Path.{_≡_};
 ghost use Prim.Native.Nat.{_≤_, _<_};
@@ -83,10 +84,10 @@ fn put_network(w: &[u32; 99592], st: State, buf: &mut [u8], at: usize) -> usize
     put_first(&text, r.len, buf, at)
 }
 
-// Four rounds of steps over all locations by number, then the network.
+// Four rounds of steps over all locations by number, then the network. That is at most 4 rounds of 64 lines of 13,329 bytes, and 65,536 bytes.
 fn play(w: &[u32; 99592], st: State, buf: &mut [u8]) -> usize
     requires { ⌜ valid (now w) st ≡ true ⌝ }
-    ensures { λ r. ⌜ Wrote (now (buf .entry)) 0 (playing (defsOf (now (w .entry))) (four (locsOf (now (w .entry)))) (netOf (now (w .entry)) st)) (now (buf .exit)) r ⌝ }
+    ensures { λ r. ⌜ Wrote (now (buf .entry)) 0 (playing (defsOf (now (w .entry))) (four (locsOf (now (w .entry)))) (netOf (now (w .entry)) st)) (now (buf .exit)) r × (r ≤ 3477760) ⌝ }
 {
     let n = wide(word(w, 1));
     let mut now = st;
@@ -110,9 +111,10 @@ fn play(w: &[u32; 99592], st: State, buf: &mut [u8]) -> usize
     put_network(w, now, buf, at)
 }
 
-// The printout of a text, from the buffer's first byte on: its length. Bytes behind the buffer's end are counted and dropped.
+// The printout of a text, from the buffer's first byte on: its length, which is at most 3,477,760. Bytes behind the buffer's end are counted and
+// dropped.
 pub fn printout(text: &[u8], buf: &mut [u8]) -> usize
-    ensures { λ r. ⌜ Wrote (now (buf .entry)) 0 (printout (now (text .entry))) (now (buf .exit)) r ⌝ }
+    ensures { λ r. ⌜ Wrote (now (buf .entry)) 0 (printout (now (text .entry))) (now (buf .exit)) r × (r ≤ 3477760) ⌝ }
 {
     let mut w = [0; 99592];
     let r = text_read::read(text, &mut w);

@@ -1,7 +1,7 @@
 // Layer 4, the program: reads a text from standard input and writes its printout, which `run_print` promises byte by byte.
 //
 // A text of 65,536 bytes or more fills the buffer, and so is refused by question 1, in however many pieces it comes.
-// A printout has at most 4 rounds of 64 lines of 13,329 bytes, and the text of the network in 65,536.
+// A printout has at most 3,477,760 bytes, which `run_print` promises too, so that the buffer below holds it whole and `run_emit` may write it.
 
 ghost use mathlib.Core.Path.{_≡_};
 ghost use lib.ListN.{length};

@@ -1,5 +1,6 @@
--- The loop's invariant: what was printed stands in front of what is left, l locations of the round being done.
-use Prim.Native.Nat.{_*_, _-_, _≤_, _<_}
+-- The loop's invariant: what was printed stands in front of what is left, l locations of the round being done. A round is counted
+-- as 64 steps, and what a step prints as 13,329 bytes.
+use Prim.Native.Nat.{_+_, _*_, _-_, _≤_, _<_}
 use native.Mathlib.Omega.{arith}
 use mathlib.Core.Bool.{true}
 use mathlib.Core.Path.{_≡_, refl, _∙_}
@@ -11,11 +12,12 @@ use Rattle.text_build.specs.Rows.{locsOf}
 use Rattle.run_print.specs.Print.{four, playing}
 use Rattle.table.proofs.ValidWhole.{mapped}
 use Rattle.run_print.proofs.Playing.{locs-some, locs-few, Playing, play-first, play-stopped, play-on, play-next, play-end}
+use Rattle.run_print.proofs.Fits.{turn-ends, ending-ends}
 use Rattle.run_print.proofs.play.Statement.{statement}
 use Rattle.run_print.proofs.play.Tie as tie
 
 abbrev Inv-loop : tie.InvT-loop
-Inv-loop w buf₀ n now₀ at₀ round₀ l₀ buf now at round l = (valid w now ≡ true) × (l < n) × (round ≤ 4) × (length buf ≡ length buf₀) × Playing w buf₀ (playing (defsOf w) (four (locsOf w)) (netOf w now₀)) buf at now round l
+Inv-loop w buf₀ n now₀ at₀ round₀ l₀ buf now at round l = (valid w now ≡ true) × (l < n) × (round * 64 + l ≤ 256) × (length buf ≡ length buf₀) × Playing w buf₀ (playing (defsOf w) (four (locsOf w)) (netOf w now₀)) buf at now round l × (at ≤ 13_329 * (round * 64 + l))
 
 abbrev μ-loop : tie.MeasureT-loop
 μ-loop w buf₀ n now₀ at₀ round₀ l₀ buf now at round l = (4 - round) * 100 - l
@@ -31,7 +33,7 @@ loop-holds c =
     let q : length (c .before .before .before .args .st .c) ≡ 256 = search (needs, mapped) in
     let h = locs-some _ _ (c .before .before .before .pre) q in
     let e = c .wide .ensures ∙ c .before .word .ensures in
-    (c .before .before .before .pre, omega arith, omega arith, refl, play-first _ _ _)
+    (c .before .before .before .pre, omega arith, omega arith, refl, play-first _ _ _, omega arith)
 
 cast-turn : tie.Need-cast-turn Inv-loop μ-loop
 cast-turn c =
@@ -56,7 +58,8 @@ returns c =
     let v = c .before .before .before .before .before .before .before .loop .inv in
     let e = c .before .before .before .before .before .before .before .before .wide .ensures ∙ c .before .before .before .before .before .before .before .before .before .word .ensures in
     let a = v .1 in
-    play-stopped _ (c .before .before .before .before .before .before .before .loop .now) (c .before .before .before .before .before .before .before .loop .round) (c .before .before .before .before .before .before .before .loop .l) (c .before .before .before .before .before .before .loop-test .taken) (omega arith) (v .4) _ (c .before .before .before .before .turn .ensures) (c .if1 .taken)
+    let f = turn-ends _ (c .before .before .before .before .before .before .before .loop .now) (c .before .before .before .before .before .before .before .loop .l) (v .0) _ _ _ _ (c .before .before .before .before .turn .ensures) in
+    (play-stopped _ (c .before .before .before .before .before .before .before .loop .now) (c .before .before .before .before .before .before .before .loop .round) (c .before .before .before .before .before .before .before .loop .l) (c .before .before .before .before .before .before .loop-test .taken) (omega arith) (v .4) _ (c .before .before .before .before .turn .ensures) (c .if1 .taken), omega arith)
 
 add-l : tie.Need-add-l Inv-loop μ-loop
 add-l c =
@@ -87,7 +90,9 @@ loop-again c =
     let b = c .before .before .before .before .before .before .before .before .loop-test .taken in
     let z = c .before .before .if1 .left in
     let p = play-on _ (c .before .before .before .before .before .before .before .before .before .loop .now) (c .before .before .before .before .before .before .before .before .before .loop .round) (c .before .before .before .before .before .before .before .before .before .loop .l) b (omega arith) (v .4) _ (c .before .before .before .before .before .before .turn .ensures) (omega arith) in
-    (p .0, omega arith, omega arith, c .before .before .before .before .before .buf .given ∙ v .3, play-next _ (c .before .before .before .before .before .before .before .before .before .loop .now) (c .before .before .before .before .before .before .before .before .before .loop .round) (c .before .before .before .before .before .before .before .before .before .loop .l) b (omega arith) (v .4) _ (c .before .before .before .before .before .before .turn .ensures) (omega arith) (c .if2 .taken ∙ e))
+    let f = turn-ends _ (c .before .before .before .before .before .before .before .before .before .loop .now) (c .before .before .before .before .before .before .before .before .before .loop .l) (v .0) _ _ _ _ (c .before .before .before .before .before .before .turn .ensures) in
+    let g = locs-few _ _ (v .0) in
+    (p .0, omega arith, omega arith, c .before .before .before .before .before .buf .given ∙ v .3, play-next _ (c .before .before .before .before .before .before .before .before .before .loop .now) (c .before .before .before .before .before .before .before .before .before .loop .round) (c .before .before .before .before .before .before .before .before .before .loop .l) b (omega arith) (v .4) _ (c .before .before .before .before .before .before .turn .ensures) (omega arith) (c .if2 .taken ∙ e), omega arith)
 
 loop-less-2 : tie.Need-loop-less-2 Inv-loop μ-loop
 loop-less-2 c =
@@ -106,7 +111,9 @@ loop-again-2 c =
     let b = c .before .before .before .before .before .before .before .before .loop-test .taken in
     let z = c .before .before .if1 .left in
     let p = play-on _ (c .before .before .before .before .before .before .before .before .before .loop .now) (c .before .before .before .before .before .before .before .before .before .loop .round) (c .before .before .before .before .before .before .before .before .before .loop .l) b (omega arith) (v .4) _ (c .before .before .before .before .before .before .turn .ensures) (omega arith) in
-    (p .0, omega (arith, c .if2 .left), omega arith, c .before .before .before .before .before .buf .given ∙ v .3, p .1)
+    let f = turn-ends _ (c .before .before .before .before .before .before .before .before .before .loop .now) (c .before .before .before .before .before .before .before .before .before .loop .l) (v .0) _ _ _ _ (c .before .before .before .before .before .before .turn .ensures) in
+    let g = locs-few _ _ (v .0) in
+    (p .0, omega (arith, c .if2 .left), omega arith, c .before .before .before .before .before .buf .given ∙ v .3, p .1, omega arith)
 
 put-network-requires : tie.Need-put-network-requires Inv-loop μ-loop
 put-network-requires c κs = c .before .before .loop .inv .0
@@ -119,7 +126,8 @@ same-length-2 c =
 returns-2 : tie.Need-returns-2 Inv-loop μ-loop
 returns-2 c =
     let v = c .before .before .before .before .before .loop .inv in
-    play-end _ (c .before .before .before .before .before .loop .now) (c .before .before .before .before .before .loop .round) (c .before .before .before .before .before .loop .l) (c .before .before .before .before .loop-test .left) (v .4) (c .before .before .put-network .ensures)
+    let f = ending-ends _ _ (c .before .before .put-network .ensures) in
+    (play-end _ (c .before .before .before .before .before .loop .now) (c .before .before .before .before .before .loop .round) (c .before .before .before .before .before .loop .l) (c .before .before .before .before .loop-test .left) (v .4) (c .before .before .put-network .ensures), omega arith)
 
 pub play-spec : {M : Type 1} → statement M
 play-spec =
