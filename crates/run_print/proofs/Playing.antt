@@ -19,7 +19,7 @@ use Rattle.text.specs.Tokens.{lex}
 use Rattle.text.specs.Tree.{Tree, networkOf}
 use Rattle.text.specs.Grammar.{Rest, text}
 use Rattle.text.specs.Grammar.Rest.{ok, bad}
-use Rattle.text.specs.Questions.{ask, _>>_, short, whole, form, shallow, fits, distinct, callsMet, bound, read}
+use Rattle.text.specs.Questions.{ask, _>>_, short, whole, form, shallow, fits, definedOnce, callsMet, bound, read}
 use Rattle.table.specs.declared.State.{State}
 use Rattle.table.specs.Words.{locsIn, locName}
 use Rattle.table.specs.Meaning.{defsOf, netOf, networkOf as tableNetwork, noComp}
@@ -242,10 +242,10 @@ among s = go (short s) (text (lex s))
     tree t true true true true false = (omega arith, omega arith)
     tree t true true true true true = tt
 
-    go : (y : Bool) (x : Rest Tree) → Among (ask 1 y >> (whole x >>= λ t. ask 3 (shallow t) >> (ask 4 (fits t) >> (ask 5 (distinct (t .defs)) >> (ask 6 (callsMet t) >> (ask 7 (bound t) >> accepted (networkOf t)))))))
+    go : (y : Bool) (x : Rest Tree) → Among (ask 1 y >> (whole x >>= λ t. ask 3 (shallow t) >> (ask 4 (fits t) >> (ask 5 (definedOnce (t .defs)) >> (ask 6 (callsMet t) >> (ask 7 (bound t) >> accepted (networkOf t)))))))
     go false x = (omega arith, omega arith)
     go true bad = (omega arith, omega arith)
-    go true (ok t us) = tree t (shallow t) (fits t) (distinct (t .defs)) (callsMet t) (bound t)
+    go true (ok t us) = tree t (shallow t) (fits t) (definedOnce (t .defs)) (callsMet t) (bound t)
 
 module _ (s w v : List ℕ) (r : Reading) (x : ReadsAs s w v r) where
   pub whole-refused : (r .code ≡ 0 → ⊥) → refusedText (r .code) ≡ printout s

@@ -15,7 +15,6 @@ use Rattle.terms.specs.Terms.Part.{go}
 use Rattle.terms.specs.Terms.Mark.{by}
 use Rattle.terms.specs.Terms.Component.{comp}
 use Rattle.terms.specs.Terms.Label.{sent}
-use Rattle.terms.specs.Letters.{isSmall, isIdentifier}
 use Rattle.terms.specs.Same.{every}
 use Rattle.terms.specs.Substitution.{held, env, just, hide, sub, subP, subV, subVs}
 use Rattle.terms.specs.Rules.{Answer, Kind, Action, Acted, Fired, Became, Met, _>>=_, at, setAll, positions, locations, filled, body, becomes, meet, fire, firingAt, act}
@@ -28,6 +27,7 @@ use Rattle.terms.specs.Clock.{ticksOf}
 use Rattle.terms.proofs.Names.{and-inv}
 use Rattle.terms.proofs.Substitution.{env-more}
 use Rattle.terms.proofs.Answers.{clash, took}
+use Rattle.terms.specs.Letters.{isSmall, isIdentifier}
 use Rattle.table.specs.declared.Head.{Head}
 use Rattle.table.specs.declared.Head.the-variants.{Stop, Go, Out, In, Call}
 use Rattle.table.specs.declared.Comp.{Comp}

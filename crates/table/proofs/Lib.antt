@@ -9,7 +9,6 @@ pub mod Ticks
 pub mod Kept
 pub mod Names
 pub mod WordsHead
-pub mod NamesClass
 pub mod NamesForm
 pub mod ValidBool
 pub mod ValidLists

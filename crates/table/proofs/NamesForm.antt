@@ -12,9 +12,10 @@ use borrow.Author.Tests.{le-leb}
 use Rattle.terms.specs.Names.{Name, sameName}
 use Rattle.terms.specs.Rules.{some}
 use Rattle.terms.specs.Same.{every}
-use Rattle.terms.specs.Letters.{Class, classOf, isSolid, firstIs, member, reserved, isName}
-use Rattle.terms.specs.Letters.Class.{mark}
+use Rattle.terms.specs.Characters.Class.{other}
 use Rattle.terms.proofs.Names.{eqb-eq}
+use Rattle.terms.specs.Characters.{Class, classOf, isAlnum}
+use Rattle.terms.specs.Letters.{firstIs, member, reserved, isName}
 use Rattle.table.specs.declared.Key.{Key}
 use Rattle.table.specs.declared.Sort.{Sort}
 use Rattle.table.specs.declared.Sort.the-variants.{Location, Small, Identifier}
@@ -56,10 +57,10 @@ word-empty a h e = four-bytes-injective a 0 [] [] h (omega arith) (strip-injecti
 
 -- ── letters and digits ──
 abbrev pub solid : ℕ → Bool
-solid a = every isSolid (strip (fourBytes a []))
+solid a = every isAlnum (strip (fourBytes a []))
 
 abbrev pub full : ℕ → Bool
-full a = every isSolid (fourBytes a [])
+full a = every isAlnum (fourBytes a [])
 
 -- the bytes after the first are those of the word shifted down
 shifted : (a : ℕ) → a < 4_294_967_296 → strip (fourBytes (a / 256) []) ≡ strip (a / 256 % 256 ∷ a / 65_536 % 256 ∷ a / 16_777_216 % 256 ∷ [])
@@ -70,11 +71,11 @@ shifted a h = go (a / 256 / 256 % 256) (a / 256 / 65_536 % 256) (a / 256 / 16_77
         → strip (a / 256 % 256 ∷ p ∷ q ∷ r ∷ []) ≡ strip (a / 256 % 256 ∷ a / 65_536 % 256 ∷ a / 16_777_216 % 256 ∷ [])
     go p q r e f g = rw (e, f, g)
 
-pub solid-turn : (a : ℕ) → a < 4_294_967_296 → (a ≡ 0 → ⊥) → solid a ≡ (isSolid (a % 256) && solid (a / 256))
+pub solid-turn : (a : ℕ) → a < 4_294_967_296 → (a ≡ 0 → ⊥) → solid a ≡ (isAlnum (a % 256) && solid (a / 256))
 unfolding every
 solid-turn a h n =
-    ap (every isSolid) (strip-keeps (a % 256) (a / 256 % 256 ∷ a / 65_536 % 256 ∷ a / 16_777_216 % 256 ∷ []) (λ e. n (word-empty a h e)))
-    ∙ ap (λ t. isSolid (a % 256) && every isSolid t) (sym (shifted a h))
+    ap (every isAlnum) (strip-keeps (a % 256) (a / 256 % 256 ∷ a / 65_536 % 256 ∷ a / 16_777_216 % 256 ∷ []) (λ e. n (word-empty a h e)))
+    ∙ ap (λ t. isAlnum (a % 256) && every isAlnum t) (sym (shifted a h))
 
 pub solid-zero : solid 0 ≡ true
 unfolding strip every
@@ -85,12 +86,12 @@ pub full-low : (a : ℕ) → a < 16_777_216 → full a ≡ false
 unfolding every classOf
 full-low a h = go (a / 16_777_216 % 256) (omega arith)
   where
-    go : (r : ℕ) → r ≡ 0 → (isSolid (a % 256) && (isSolid (a / 256 % 256) && (isSolid (a / 65_536 % 256) && (isSolid r && true)))) ≡ false
+    go : (r : ℕ) → r ≡ 0 → (isAlnum (a % 256) && (isAlnum (a / 256 % 256) && (isAlnum (a / 65_536 % 256) && (isAlnum r && true)))) ≡ false
     go r e = rw e (simp and-false)
 
 pub full-high : (a : ℕ) → 16_777_216 ≤ a → a < 4_294_967_296 → solid a ≡ full a
 unfolding strip
-full-high a h k = ap (every isSolid) (all (a / 16_777_216 % 256) (omega arith))
+full-high a h k = ap (every isAlnum) (all (a / 16_777_216 % 256) (omega arith))
   where
     ends : (b : ℕ) → (b ≡ 0 → ⊥) → strip (b ∷ []) ≡ b ∷ []
     ends b n = strip-keeps b [] (go (eqb b 0) refl)
@@ -116,17 +117,17 @@ four-and true true true false t = refl
 four-and true true true true t = refl
 
 -- before more letters a word must be full
-solid-more : (a : ℕ) (l : List ℕ) → (strip l ≡ [] → ⊥) → every isSolid (strip (fourBytes a l)) ≡ (full a && every isSolid (strip l))
+solid-more : (a : ℕ) (l : List ℕ) → (strip l ≡ [] → ⊥) → every isAlnum (strip (fourBytes a l)) ≡ (full a && every isAlnum (strip l))
 unfolding every
 solid-more a l h =
-    ap (every isSolid) (word-more a l h)
-    ∙ four-and (isSolid (a % 256)) (isSolid (a / 256 % 256)) (isSolid (a / 65_536 % 256)) (isSolid (a / 16_777_216 % 256)) (every isSolid (strip l))
+    ap (every isAlnum) (word-more a l h)
+    ∙ four-and (isAlnum (a % 256)) (isAlnum (a / 256 % 256)) (isAlnum (a / 65_536 % 256)) (isAlnum (a / 16_777_216 % 256)) (every isAlnum (strip l))
 
 more-letters : (a : ℕ) (l : List ℕ) → (strip l ≡ [] → ⊥) → strip (fourBytes a l) ≡ [] → ⊥
 more-letters a l h e = cons≢nil (sym (word-more a l h) ∙ e)
 
 -- by the last word that is not zero
-pub solid-4 : (a b c d : ℕ) → d < 4_294_967_296 → (d ≡ 0 → ⊥) → every isSolid (letters a b c d) ≡ (full a && (full b && (full c && solid d)))
+pub solid-4 : (a b c d : ℕ) → d < 4_294_967_296 → (d ≡ 0 → ⊥) → every isAlnum (letters a b c d) ≡ (full a && (full b && (full c && solid d)))
 unfolding letters
 solid-4 a b c d h n =
     let z : strip (fourBytes d []) ≡ [] → ⊥ = λ e. n (word-empty d h e) in
@@ -135,23 +136,23 @@ solid-4 a b c d h n =
     solid-more a (fourBytes b (fourBytes c (fourBytes d []))) x
     ∙ ap (λ t. full a && t) (solid-more b (fourBytes c (fourBytes d [])) y ∙ ap (λ t. full b && t) (solid-more c (fourBytes d []) z))
 
-pub solid-3 : (a b c : ℕ) → c < 4_294_967_296 → (c ≡ 0 → ⊥) → every isSolid (letters a b c 0) ≡ (full a && (full b && solid c))
+pub solid-3 : (a b c : ℕ) → c < 4_294_967_296 → (c ≡ 0 → ⊥) → every isAlnum (letters a b c 0) ≡ (full a && (full b && solid c))
 unfolding letters strip
 solid-3 a b c h n =
     let z : strip (fourBytes c []) ≡ [] → ⊥ = λ e. n (word-empty c h e) in
     let y = more-letters b (fourBytes c []) z in
     solid-more a (fourBytes b (fourBytes c [])) y ∙ ap (λ t. full a && t) (solid-more b (fourBytes c []) z)
 
-pub solid-2 : (a b : ℕ) → b < 4_294_967_296 → (b ≡ 0 → ⊥) → every isSolid (letters a b 0 0) ≡ (full a && solid b)
+pub solid-2 : (a b : ℕ) → b < 4_294_967_296 → (b ≡ 0 → ⊥) → every isAlnum (letters a b 0 0) ≡ (full a && solid b)
 unfolding letters strip
 solid-2 a b h n = solid-more a (fourBytes b []) (λ e. n (word-empty b h e))
 
-pub solid-1 : (a : ℕ) → every isSolid (letters a 0 0 0) ≡ solid a
+pub solid-1 : (a : ℕ) → every isAlnum (letters a 0 0 0) ≡ solid a
 unfolding letters strip
 solid-1 a = refl
 
 -- ── the first letter ──
-pub first-is : (p : Class → Bool) → p mark ≡ false → (a b c d : ℕ) → firstIs p (letters a b c d) ≡ p (classOf (a % 256))
+pub first-is : (p : Class → Bool) → p other ≡ false → (a b c d : ℕ) → firstIs p (letters a b c d) ≡ p (classOf (a % 256))
 unfolding letters strip classOf
 first-is p n a b c d = go (a % 256) (strip (a / 256 % 256 ∷ a / 65_536 % 256 ∷ a / 16_777_216 % 256 ∷ fourBytes b (fourBytes c (fourBytes d []))))
   where
@@ -197,7 +198,7 @@ pub record Unlike (k : Key) : Type 0 where
   pub no-S : k ≡ short 83 → ⊥
 
 pub not-reserved : (k : Key) → Words k → Unlike k → member (keyName k) reserved ≡ false
-unfolding member letters strip
+unfolding member some letters strip
 not-reserved k h u =
     some-none (keyName k) _ _ _ _ _ _
     (other 1_886_352_499 (omega arith) (u .no-stop))
@@ -252,12 +253,12 @@ pub reserved-word : (k : Key) → k .b ≡ 0 → k .c ≡ 0 → k .d ≡ 0
 reserved-word k p q r s = rw (p, q, r) (each-reserved (k .a) s)
 
 -- ── the whole form ──
-pub no-mark : (s : Sort) → firstOf s mark ≡ false
+pub no-mark : (s : Sort) → firstOf s other ≡ false
 no-mark Location = refl
 no-mark Small = refl
 no-mark Identifier = refl
 
 pub name-is : (s : Sort) (k : Key)
-    → isName (firstOf s) (keyName k) ≡ (firstOf s (classOf (k .a % 256)) && (every isSolid (keyName k) && not (member (keyName k) reserved)))
+    → isName (firstOf s) (keyName k) ≡ (firstOf s (classOf (k .a % 256)) && (every isAlnum (keyName k) && not (member (keyName k) reserved)))
 unfolding isName
 name-is s k = rw (first-is (firstOf s) (no-mark s) (k .a) (k .b) (k .c) (k .d), short-enough k)

@@ -13,11 +13,10 @@ use lib.Seq.{getD-drop, getD-set-same, getD-set-other}
 use borrow.Author.Count.{below-more}
 use Rattle.terms.specs.Names.{Name, sameName}
 use Rattle.terms.specs.Same.{every}
-use Rattle.terms.specs.Letters.{member}
 use Rattle.terms.proofs.Names.{name-eq}
+use Rattle.terms.specs.Letters.{member, distinct}
 use Rattle.table.specs.Meaning.{listFrom}
 use Rattle.table.specs.Tests.{Mixed}
-use Rattle.table.specs.Valid.{distinct}
 use Rattle.table.proofs.Names.{Words, key-injective}
 use Rattle.table.proofs.ValidLists.{every-all, every-miss, member-hit, member-none, distinct-all, distinct-miss, listFrom-length, listFrom-at}
 

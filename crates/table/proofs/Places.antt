@@ -7,8 +7,8 @@ use mathlib.Core.Bool.{true}
 use mathlib.Core.Path.{_≡_, refl}
 use lib.Dec.{ltb, eqb}
 use Rattle.terms.specs.Terms.{Part, Process}
-use Rattle.terms.specs.Letters.{isSmall}
 use Rattle.terms.proofs.Names.{and-inv}
+use Rattle.terms.specs.Letters.{isSmall}
 use Rattle.table.specs.declared.Head.{Head}
 use Rattle.table.specs.declared.Head.the-variants.{Stop, Go, Out, In, Call}
 use Rattle.table.specs.Words.{partsIn, chansIn, headAt, nextAt, boundAt, scopeAt, namesAt}

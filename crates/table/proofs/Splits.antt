@@ -14,10 +14,10 @@ use Rattle.terms.specs.Terms.Process.{one}
 use Rattle.terms.specs.Terms.Mark.{none, by}
 use Rattle.terms.specs.Terms.Component.{comp}
 use Rattle.terms.specs.Substitution.{Env, sub, subP}
-use Rattle.terms.specs.Letters.{isLocation}
 use Rattle.terms.specs.Rules.{wait, split, pass}
 use Rattle.terms.specs.Clock.{ticksOf, lessRaw}
 use Rattle.terms.proofs.Clock.{expired-is, less-raw}
+use Rattle.terms.specs.Letters.{isLocation}
 use Rattle.table.specs.declared.Head.{Head}
 use Rattle.table.specs.declared.Head.the-variants.{Stop, Go, Out, In, Call}
 use Rattle.table.specs.declared.Comp.{Comp}

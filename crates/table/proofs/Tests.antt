@@ -10,14 +10,14 @@ use lib.ListN.{length, getD}
 use borrow.Author.Tests.{ltb-true, ltb-false, leb-true, lt-ltb, eqb-true, eqb-false}
 use Rattle.terms.specs.Names.{Name, sameName}
 use Rattle.terms.specs.Rules.{some}
-use Rattle.terms.specs.Letters.{isLocation, isSmall, isIdentifier, member}
 use Rattle.terms.specs.Same.{every}
 use Rattle.terms.proofs.Names.{and-inv, and-in, name-eq, name-refl}
+use Rattle.terms.specs.Letters.{isLocation, isSmall, isIdentifier, member, distinct}
 use Rattle.table.specs.declared.Comp.{Comp}
 use Rattle.table.specs.declared.State.{State}
 use Rattle.table.specs.Words.{partsIn, locsIn, chansIn, defsIn, locName, chanName, arityOf, bodyOf, defName, paramsAt, paramsOf, field, headAt, nextAt, scopeAt}
 use Rattle.table.specs.Meaning.{listFrom, compsOf}
-use Rattle.table.specs.Valid.{below, alike, distinct, timerOk, innerOk, headOk, nextOk, scopeOk, treeOk, partOk, defOk, sortOk, scriptOk, markOk, compOk, stateOk}
+use Rattle.table.specs.Valid.{below, alike, timerOk, innerOk, headOk, nextOk, scopeOk, treeOk, partOk, defOk, sortOk, scriptOk, markOk, compOk, stateOk}
 
 -- ── lists and numbers ──
 pub below-at : (n : ℕ) (f : ℕ → Bool) → below n f ≡ true → (i : ℕ) → i < n → f i ≡ true

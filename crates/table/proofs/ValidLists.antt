@@ -11,9 +11,9 @@ use borrow.Author.Tests.{eq-eqb, ne-eqb, eqb-true, eqb-false}
 use Rattle.terms.specs.Names.{Name, sameName}
 use Rattle.terms.specs.Rules.{some}
 use Rattle.terms.specs.Same.{every}
-use Rattle.terms.specs.Letters.{member}
+use Rattle.terms.specs.Letters.{member, distinct}
 use Rattle.table.specs.Meaning.{listFrom}
-use Rattle.table.specs.Valid.{below, alike, distinct, index}
+use Rattle.table.specs.Valid.{below, alike, index}
 use Rattle.table.proofs.ValidBool.{and-false}
 
 -- ── every ──

@@ -8,16 +8,16 @@ use mathlib.Core.Path.{_≡_, refl, ap, sym, _∙_}
 use lib.Dec.{eqb, leb, ltb}
 use lib.ListN.{length, getD, length-map}
 use borrow.Author.Tests.{leb-true, eq-eqb}
-use Rattle.terms.specs.Letters.{isName, isLocation, isSmall, isIdentifier}
 use Rattle.terms.specs.Same.{every}
 use Rattle.terms.proofs.Names.{and-inv}
+use Rattle.terms.specs.Letters.{isName, isLocation, isSmall, isIdentifier, distinct}
 use Rattle.table.specs.declared.Comp.{Comp}
 use Rattle.table.specs.declared.State.{State}
 use Rattle.table.specs.declared.Sort.{Sort}
 use Rattle.table.specs.declared.Sort.the-variants.{Location, Small, Identifier}
 use Rattle.table.specs.Words.{partsIn, locsIn, chansIn, defsIn, locName, chanName, defName}
 use Rattle.table.specs.Meaning.{listFrom, compsOf, noComp}
-use Rattle.table.specs.Valid.{distinct, timerOk, sortOk, markOk, compOk}
+use Rattle.table.specs.Valid.{timerOk, sortOk, markOk, compOk}
 use Rattle.table.specs.Tests.{firstOf, rowName, countsOk}
 use Rattle.table.proofs.ValidLists.{every-all, every-miss}
 use Rattle.table.proofs.InUse.{comps-length, in-use}

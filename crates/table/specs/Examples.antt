@@ -12,17 +12,19 @@ use Rattle.terms.specs.Terms.Process.{one, _∥_}
 use Rattle.terms.specs.Terms.Mark.{none, by}
 use Rattle.terms.specs.Terms.Component.{comp}
 use Rattle.terms.specs.Terms.Def.{define}
-use Rattle.terms.specs.Letters.{classOf, member, isName, isLocation, isSmall, isIdentifier}
 use Rattle.terms.specs.Clock.{ticksOf}
 use Rattle.terms.specs.Runs.{rules}
+use Rattle.terms.specs.Characters.{classOf}
+use Rattle.terms.specs.Letters.{member, isName, isLocation, isSmall, isIdentifier, distinct}
+use Rattle.terms.specs.Rules.{some}
 use Rattle.table.specs.declared.Comp.{Comp}
 use Rattle.table.specs.declared.State.{State}
 use Rattle.table.specs.Words.{strip, letters, nameAt, locName, chanName, arityOf, bodyOf, defName, paramsAt, paramsOf, headAt, nextAt, lowAt, ownAt, boundAt, scopeAt, namesAt}
 use Rattle.table.specs.Meaning.{valueOf, valuesOf, partOf, joined, deep, processAt, partAt, listFrom, defOf, defsOf, withTimer, envAt, markOf, processOf, means, compsOf, netOf, networkOf}
-use Rattle.table.specs.Valid.{below, alike, distinct, index, timerOk, slotOk, refOk, innerOk, entered, headOk, nextOk, scopeOk, stacked, floor, lowOk, treeOk, partOk, defOk, sortOk, scriptOk, markOk, compOk, stateOk, valid}
+use Rattle.table.specs.Valid.{below, alike, index, timerOk, slotOk, refOk, innerOk, entered, headOk, nextOk, scopeOk, stacked, floor, lowOk, treeOk, partOk, defOk, sortOk, scriptOk, markOk, compOk, stateOk, valid}
 
 unfoldable pub tables : Unit {0}
-unfolding rules classOf member isName isLocation isSmall isIdentifier ticksOf strip letters nameAt locName chanName arityOf bodyOf defName paramsAt paramsOf headAt nextAt lowAt ownAt boundAt scopeAt namesAt valueOf valuesOf partOf joined deep processAt partAt listFrom defOf defsOf withTimer envAt markOf processOf means compsOf netOf networkOf below alike distinct index timerOk slotOk refOk innerOk entered headOk nextOk scopeOk stacked floor lowOk treeOk partOk defOk sortOk scriptOk markOk compOk stateOk valid
+unfolding rules classOf member some isName isLocation isSmall isIdentifier ticksOf strip letters nameAt locName chanName arityOf bodyOf defName paramsAt paramsOf headAt nextAt lowAt ownAt boundAt scopeAt namesAt valueOf valuesOf partOf joined deep processAt partAt listFrom defOf defsOf withTimer envAt markOf processOf means compsOf netOf networkOf below alike distinct index timerOk slotOk refOk innerOk entered headOk nextOk scopeOk stacked floor lowOk treeOk partOk defOk sortOk scriptOk markOk compOk stateOk valid
 tables = tt
 
 abbrev zeros : ℕ → List ℕ

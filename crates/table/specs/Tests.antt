@@ -1,12 +1,12 @@
 -- What the contracts of internal functions cite: a name by its four words, names at equal distances, and the parts of a part's test.
 use Prim.Native.Nat.{ℕ, suc, _+_, _*_, _≤_, _<_}
 use mathlib.Core.List.{List, [], _∷_}
-use mathlib.Core.Bool.{Bool, _&&_, _||_}
+use mathlib.Core.Bool.{Bool, _&&_}
 use mathlib.Core.Path.{_≡_}
 use lib.Bits.{bitXor}
 use lib.Dec.{eqb, leb, ltb}
 use Rattle.terms.specs.Names.{Name}
-use Rattle.terms.specs.Letters.{Class, isCapital, isLittle}
+use Rattle.terms.specs.Characters.{Class, isCapital, isLower, isLetter}
 use Rattle.table.specs.declared.Head.{Head}
 use Rattle.table.specs.declared.Key.{Key}
 use Rattle.table.specs.declared.Sort.{Sort}
@@ -22,8 +22,8 @@ keyName k = letters (k .a) (k .b) (k .c) (k .d)
 -- what a sort wants of a name's first letter
 abbrev pub firstOf : Sort → Class → Bool
 firstOf Location c = isCapital c
-firstOf Small c = isLittle c
-firstOf Identifier c = isCapital c || isLittle c
+firstOf Small c = isLower c
+firstOf Identifier c = isLetter c
 
 -- name j of those that stand s words apart from o on
 unfoldable pub rowName : List ℕ → ℕ → ℕ → ℕ → Name

@@ -2,12 +2,12 @@
 -- That each process has a part, and each unmarked component one part, holds by what places mean (Meaning).
 use Prim.Native.Nat.{ℕ, zero, suc, _-_, _+_}
 use mathlib.Core.List.{List, [], _∷_, _++_}
-use mathlib.Core.Bool.{Bool, true, false, cond, _&&_, _||_, not}
+use mathlib.Core.Bool.{Bool, true, false, cond, _&&_, _||_}
 use lib.Dec.{eqb, leb, ltb}
 use lib.ListN.{length, getD, take}
 use Rattle.terms.specs.Names.{Name, sameName}
-use Rattle.terms.specs.Letters.{isLocation, isSmall, isIdentifier, member}
 use Rattle.terms.specs.Same.{every}
+use Rattle.terms.specs.Letters.{isLocation, isSmall, isIdentifier, distinct}
 use Rattle.table.specs.declared.Head.{Head}
 use Rattle.table.specs.declared.Head.the-variants.{Stop, Go, Out, In, Call}
 use Rattle.table.specs.declared.Comp.{Comp}
@@ -25,10 +25,6 @@ alike [] [] = true
 alike [] (y ∷ ys) = false
 alike (x ∷ xs) [] = false
 alike (x ∷ xs) (y ∷ ys) = eqb x y && alike xs ys
-
-unfoldable pub distinct : List Name → Bool
-distinct [] = true
-distinct (x ∷ xs) = not (member x xs) && distinct xs
 
 -- the index of the first name equal to x; the list's length if there is none
 unfoldable pub index : List Name → Name → ℕ

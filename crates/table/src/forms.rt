@@ -1,53 +1,18 @@
 // The form of a name, told by its words: most names are one word, of which the highest bytes are zero.
 ghost use mathlib.Core.Path.{_≡_};
-ghost use mathlib.Core.Bool.{_||_};
 ghost use mathlib.Core.List.{[]};
 ghost use Prim.Native.Nat.{_%_};
-ghost use Rattle.terms.specs.Letters.{classOf, isCapital, isLittle, isSolid, member, reserved, isName};
 ghost use Rattle.terms.specs.Same.{every};
+ghost use Rattle.terms.specs.Characters.{classOf, isAlnum};
+ghost use Rattle.terms.specs.Letters.{member, reserved, isName};
 ghost use Rattle.table.specs.Words.{fourBytes, strip};
 ghost use Rattle.table.specs.Tests.{keyName, firstOf};
 use super::Key;
 use super::Sort;
-
-fn is_capital(b: u8) -> bool
-    ensures { λ r. ⌜ r ≡ isCapital (classOf b) ⌝ }
-{
-    match b {
-        b'A'..=b'Z' => true,
-        _ => false,
-    }
-}
-
-fn is_little(b: u8) -> bool
-    ensures { λ r. ⌜ r ≡ isLittle (classOf b) ⌝ }
-{
-    match b {
-        b'a'..=b'z' => true,
-        _ => false,
-    }
-}
-
-fn is_letter(b: u8) -> bool
-    ensures { λ r. ⌜ r ≡ (isCapital (classOf b) || isLittle (classOf b)) ⌝ }
-{
-    match b {
-        b'A'..=b'Z' => true,
-        b'a'..=b'z' => true,
-        _ => false,
-    }
-}
-
-fn is_solid(b: u8) -> bool
-    ensures { λ r. ⌜ r ≡ isSolid b ⌝ }
-{
-    match b {
-        b'A'..=b'Z' => true,
-        b'a'..=b'z' => true,
-        b'0'..=b'9' => true,
-        _ => false,
-    }
-}
+use terms::characters::is_alnum;
+use terms::characters::is_capital;
+use terms::characters::is_letter;
+use terms::characters::is_lower;
 
 fn low_byte(x: u32) -> u8
     ensures { λ r. ⌜ r ≡ x % 256 ⌝ }
@@ -57,12 +22,12 @@ fn low_byte(x: u32) -> u8
 
 // Letters and digits up to the last byte that is not zero?
 fn solid_word(x: u32) -> bool
-    ensures { λ r. ⌜ r ≡ every isSolid (strip (fourBytes x [])) ⌝ }
+    ensures { λ r. ⌜ r ≡ every isAlnum (strip (fourBytes x [])) ⌝ }
 {
     let mut y = x;
     while y != 0 {
         let b = low_byte(y);
-        if !is_solid(b) {
+        if !is_alnum(b) {
             return false;
         }
         y = y / 256;
@@ -72,7 +37,7 @@ fn solid_word(x: u32) -> bool
 
 // Four letters and digits?
 fn full_word(x: u32) -> bool
-    ensures { λ r. ⌜ r ≡ every isSolid (fourBytes x []) ⌝ }
+    ensures { λ r. ⌜ r ≡ every isAlnum (fourBytes x []) ⌝ }
 {
     if x < 16777216 {
         return false;
@@ -82,7 +47,7 @@ fn full_word(x: u32) -> bool
 
 // Letters and digits? Every word before the last that is not zero is full.
 fn solid_key(k: Key) -> bool
-    ensures { λ r. ⌜ r ≡ every isSolid (keyName k) ⌝ }
+    ensures { λ r. ⌜ r ≡ every isAlnum (keyName k) ⌝ }
 {
     if k.d != 0 {
         if !full_word(k.c) {
@@ -139,7 +104,7 @@ fn first_ok(s: Sort, b: u8) -> bool
 {
     match s {
         Sort::Location => is_capital(b),
-        Sort::Small => is_little(b),
+        Sort::Small => is_lower(b),
         Sort::Identifier => is_letter(b),
     }
 }

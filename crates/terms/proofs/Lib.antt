@@ -1,4 +1,6 @@
 pub mod Names
+pub mod Classes
+pub mod Letters
 pub mod Answers
 pub mod Sums
 pub mod Mixed

@@ -5,6 +5,7 @@ pub mod Rules
 pub mod Step
 pub mod Runs
 pub mod Same
+pub mod Characters
 pub mod Letters
 pub mod Clock
 pub mod Examples

@@ -17,7 +17,7 @@ use Rattle.terms.specs.Terms.Part.{stop, go, out, inp, call}
 use Rattle.terms.specs.Terms.Process.{one, _∥_}
 use Rattle.terms.specs.Terms.Def.{define}
 use Rattle.terms.specs.Rules.Answer.{accepted}
-use Rattle.text.specs.Tokens.{Token, lex, number, isTicks, isLocation, isSmall, isIdentifier, opens, closes, left, right, comma, bar, dot, equals}
+use Rattle.text.specs.Tokens.{Token, lex, number, isTicks, opens, closes, left, right, comma, bar, dot, equals}
 use Rattle.text.specs.Tokens.Token.{word, sign}
 use Rattle.text.specs.Tree.{Located, Tree}
 use Rattle.text.specs.Tree.Located.{at}
@@ -28,6 +28,7 @@ use Rattle.text.specs.Write.{Printer, nameT, timerT, valueT, joinedT, li
 use Rattle.text.specs.WellFormed.{Is, WellTimer, WellValue, Each, WellPart, WellProcess, WellDef, WellLocated, NonEmpty, WellTree}
 use Rattle.text.specs.Questions.{form, whole}
 use Rattle.terms.proofs.Names.{and-inv}
+use Rattle.terms.specs.Letters.{isLocation, isSmall, isIdentifier}
 use Rattle.text.proofs.Digits.{ticks-exact}
 use Rattle.text.proofs.ReadBack.{tokens-back}
 

@@ -14,12 +14,12 @@ use Rattle.terms.specs.Terms.Component.{comp}
 use Rattle.terms.specs.Rules.{Answer, _>>=_, split, unmarked}
 use Rattle.terms.specs.Rules.Answer.{refused, accepted}
 use Rattle.terms.specs.Same.{every}
-use Rattle.text.specs.Tokens.{isLocation}
+use Rattle.terms.specs.Letters.{isLocation}
 use Rattle.text.specs.Tree.{Located, Tree, components, networkOf}
 use Rattle.text.specs.Tree.Located.{at}
 use Rattle.text.specs.Write.{write}
 use Rattle.text.specs.WellFormed.{Is, Each, WellProcess, WellLocated, NonEmpty, WellTree, WellComponent, Writable}
-use Rattle.text.specs.Questions.{ask, form, read, short, shallow, fits, distinct, callsMet, bound, places, partPlaces, processPlaces, locatedPlaces, componentPlaces, networkPlaces, Sound}
+use Rattle.text.specs.Questions.{ask, form, read, short, shallow, fits, definedOnce, callsMet, bound, places, partPlaces, processPlaces, locatedPlaces, componentPlaces, networkPlaces, Sound}
 use Rattle.text.proofs.Exact.{form-tokens}
 use Rattle.text.proofs.RoundTrip.{limited, only-limits}
 
@@ -67,7 +67,7 @@ unfolding networkPlaces networkOf places
 network-places t = rw (comps-places (t .located))
 
 -- the network of a tree that the questions let pass
-tree-sound : (t : Tree) → distinct (t .defs) ≡ true → callsMet t ≡ true → bound t ≡ true → Sound (networkOf t)
+tree-sound : (t : Tree) → definedOnce (t .defs) ≡ true → callsMet t ≡ true → bound t ≡ true → Sound (networkOf t)
 unfolding callsMet bound networkOf
 tree-sound t a b c = record { once = a; defined = rw (network-places t) b; closed = rw (network-places t) c }
 
@@ -94,12 +94,12 @@ pub read-gives : (s : List ℕ) (n : Network) → read s ≡ accepted n → Give
 unfolding read
 read-gives s n e = ask-inv 1 (short s) _ e λ a e. go (form s) refl e
   where
-    go : (x : Answer Tree) → form s ≡ x → (x >>= λ t. ask 3 (shallow t) >>= λ a. ask 4 (fits t) >>= λ a. ask 5 (distinct (t .defs)) >>= λ a. ask 6 (callsMet t) >>= λ a. ask 7 (bound t) >>= λ a. accepted (networkOf t)) ≡ accepted n → Given s n
+    go : (x : Answer Tree) → form s ≡ x → (x >>= λ t. ask 3 (shallow t) >>= λ a. ask 4 (fits t) >>= λ a. ask 5 (definedOnce (t .defs)) >>= λ a. ask 6 (callsMet t) >>= λ a. ask 7 (bound t) >>= λ a. accepted (networkOf t)) ≡ accepted n → Given s n
     go (refused m) h e = clash e
     go (accepted t) h e =
         ask-inv 3 (shallow t) _ e λ q3 e.
         ask-inv 4 (fits t) _ e λ q4 e.
-        ask-inv 5 (distinct (t .defs)) _ e λ q5 e.
+        ask-inv 5 (definedOnce (t .defs)) _ e λ q5 e.
         ask-inv 6 (callsMet t) _ e λ q6 e.
         ask-inv 7 (bound t) _ e λ q7 e.
         let i : networkOf t ≡ n = cc in

@@ -3,9 +3,9 @@
 use Prim.Native.Nat.{ℕ, zero, suc, _+_, _*_, _≤_, _<_}
 use native.Mathlib.Omega.{arith}
 use mathlib.Core.List.{List, [], _∷_}
-use mathlib.Core.Bool.{Bool, true, false, _&&_, _||_, not, false≢true}
+use mathlib.Core.Bool.{Bool, true, false, _||_, not, false≢true}
 use mathlib.Core.Path.{_≡_, refl}
-use lib.Dec.{eqb, leb}
+use lib.Dec.{eqb}
 use borrow.Author.Tests.{eq-eqb}
 use lib.ListN.{length}
 use Rattle.terms.specs.Names.{Name, bytes, sameName}
@@ -15,10 +15,8 @@ use Rattle.terms.specs.Terms.Value.{loc, var}
 use Rattle.terms.specs.Terms.Part.{stop, go, out, inp, call}
 use Rattle.terms.specs.Terms.Process.{one, _∥_}
 use Rattle.terms.specs.Terms.Def.{define}
-use Rattle.terms.specs.Same.{every}
-use Rattle.text.specs.Characters.{Class, classOf, isCapital, isLower}
-use Rattle.text.specs.Characters.Class.{capital, small, digit, bracket, blank, other}
-use Rattle.text.specs.Tokens.{Token, member, isName, isLocation, isSmall, isIdentifier, reserved, firstIs, opens, closes, right, comma, bar, dot, equals}
+use Rattle.terms.specs.Characters.Class.{capital, small, digit, bracket, blank, other}
+use Rattle.text.specs.Tokens.{Token, opens, closes, right, comma, bar, dot, equals}
 use Rattle.text.specs.Tokens.Token.{word, sign}
 use Rattle.text.specs.Tree.{Located, Tree}
 use Rattle.text.specs.Tree.Located.{at}
@@ -27,22 +25,19 @@ use Rattle.text.specs.Grammar.Rest.{ok}
 use Rattle.text.specs.Grammar.Head.{calls}
 use Rattle.text.specs.Write.{Printer, nameT, timerT, valueT, joinedT, listT, partT, processT, defT, locatedT, networkT, textT, tokens}
 use Rattle.text.specs.WellFormed.{Is, WellTimer, WellValue, Each, WellPart, WellProcess, WellDef, WellLocated, NonEmpty, WellTree}
-use Rattle.terms.proofs.Names.{and-inv}
+use Rattle.terms.specs.Characters.{Class, classOf, isCapital, isLower}
+use Rattle.terms.specs.Rules.{some}
+use Rattle.terms.specs.Letters.{member, isLocation, isSmall, isIdentifier, reserved, firstIs}
+use Rattle.terms.proofs.Letters.{name-form, no-name}
 use Rattle.text.proofs.Digits.{digits-ticks, digits-number, digits-not-inf}
 
 eqb-same : (n : ℕ) → eqb n n ≡ true
 eqb-same n = eq-eqb n n refl
 
 -- ── names ──
-first-of : (p : Class → Bool) (w : Name) → isName p w ≡ true → firstIs p w ≡ true
-first-of p w e = and-inv (firstIs p w) _ (and-inv (firstIs p w && every _ w) _ (and-inv (firstIs p w && every _ w && leb (length w) 16) _ e .0) .0) .0
-
-free-of : (p : Class → Bool) (w : Name) → isName p w ≡ true → not (member w reserved) ≡ true
-free-of p w e = and-inv (firstIs p w && every _ w && leb (length w) 16) _ e .1
-
 small-not-location : (w : Name) → isSmall w ≡ true → isLocation w ≡ false
 unfolding isSmall isLocation
-small-not-location w e = rw (go w (first-of isLower w e))
+small-not-location w e = no-name isCapital w (go w (name-form isLower w e .first))
   where
     low : (c : Class) → isLower c ≡ true → isCapital c ≡ false
     low capital e = absurd (false≢true e)
@@ -62,10 +57,10 @@ not-or false b e = (refl, e)
 
 identifier-free : (w : Name) → isIdentifier w ≡ true → not (member w reserved) ≡ true
 unfolding isIdentifier
-identifier-free w e = free-of _ w e
+identifier-free w e = name-form _ w e .free
 
 pub identifier-calls : (w : Name) → isIdentifier w ≡ true → headOf w ≡ calls
-unfolding headOf member
+unfolding headOf member some
 identifier-calls w e =
     let f = identifier-free w e in
     let a = not-or (sameName w (bytes "stop")) _ f in

@@ -2,10 +2,8 @@
 -- No word follows a word directly, a word's bytes are letters and digits, and each sign's spelling has that sign alone.
 use Prim.Native.Nat.{ℕ, _+_}
 use mathlib.Core.List.{List, [], _∷_, _++_, append-assoc, append-nil}
-use mathlib.Core.Bool.{Bool, true, false, _&&_, false≢true}
+use mathlib.Core.Bool.{Bool, true, false, false≢true}
 use mathlib.Core.Path.{_≡_, refl, ap, sym, _∙_}
-use lib.Dec.{leb}
-use lib.ListN.{length}
 use Rattle.terms.specs.Names.{Name}
 use Rattle.terms.specs.Terms.{Def}
 use Rattle.terms.specs.Terms.Timer.{ticks, inf}
@@ -14,15 +12,17 @@ use Rattle.terms.specs.Terms.Part.{stop, go, out, inp, call}
 use Rattle.terms.specs.Terms.Process.{one, _∥_}
 use Rattle.terms.specs.Terms.Def.{define}
 use Rattle.terms.specs.Same.{every}
-use Rattle.text.specs.Characters.{Class, classOf, isDigit, alnum, isAlnum}
-use Rattle.text.specs.Characters.Class.{capital, small, digit, bracket, blank, other}
-use Rattle.text.specs.Tokens.{Token, isName, isLocation, isSmall, isIdentifier, firstIs, flush, step, lexFrom, lex, digits, opens, closes, left, right, comma, bar, dot, equals}
+use Rattle.terms.specs.Characters.Class.{capital, small, digit, bracket, blank, other}
+use Rattle.text.specs.Tokens.{Token, flush, step, lexFrom, lex, digits, opens, closes, left, right, comma, bar, dot, equals}
 use Rattle.text.specs.Tokens.Token.{word, sign}
 use Rattle.text.specs.Tree.{Located, Tree}
 use Rattle.text.specs.Tree.Located.{at}
 use Rattle.text.specs.Write.{Printer, nameT, timerT, valueT, joinedT, listT, partT, processT, locatedT, networkT, textT, tokens, spell, spelled}
 use Rattle.text.specs.WellFormed.{Is, WellTimer, WellValue, Each, WellPart, WellProcess, WellDef, WellLocated, WellTree}
 use Rattle.terms.proofs.Names.{and-inv}
+use Rattle.terms.specs.Characters.{Class, classOf, isDigit, alnum, isAlnum}
+use Rattle.terms.specs.Letters.{isName, isLocation, isSmall, isIdentifier}
+use Rattle.terms.proofs.Letters.{name-form}
 use Rattle.text.proofs.Digits.{every-map, digits-digit, digits-lead, Leads, leads}
 
 -- ── words ──
@@ -107,8 +107,8 @@ is-equals w s = refl
 
 -- ── the words ──
 name-worded : (p : Class → Bool) (w : Name) → isName p w ≡ true → Worded w
-name-worded p [] e = absurd (false≢true e)
-name-worded p (b ∷ w) e = worded (and-inv (firstIs p (b ∷ w)) _ (and-inv (firstIs p (b ∷ w) && every isAlnum (b ∷ w)) _ (and-inv (firstIs p (b ∷ w) && every isAlnum (b ∷ w) && leb (length (b ∷ w)) 16) _ e .0) .0) .1)
+name-worded p [] e = absurd (false≢true (name-form p [] e .first))
+name-worded p (b ∷ w) e = worded (name-form p (b ∷ w) e .solid)
 
 location-worded : (w : Name) → Is isLocation w → Worded w
 unfolding isLocation

@@ -8,7 +8,8 @@ use mathlib.Core.Path.{_≡_, refl, ap, sym, _∙_}
 use lib.ListN.{length}
 use Rattle.terms.specs.Names.{Name}
 use Rattle.terms.specs.Terms.{Value, Part, Process}
-use Rattle.text.specs.Tokens.{Token, isSmall, opens, comma, bar}
+use Rattle.terms.specs.Letters.{isSmall}
+use Rattle.text.specs.Tokens.{Token, opens, comma, bar}
 use Rattle.text.specs.Tree.{Tree}
 use Rattle.text.specs.Grammar.{Rest, Reader, bind, named, the, aWord, next, more, joined, sepBy, listOf, aTimer, aValue, Head, headOf, partForm, aPart, moreParts, aProcess, partOf, processOf, part, process, aDef, aLocated, netNext, addDef, textForm, textOf, text, _>>_}
 use Rattle.text.specs.Grammar.Rest.{ok, bad}

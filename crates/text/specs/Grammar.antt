@@ -12,7 +12,8 @@ use Rattle.terms.specs.Terms.Value.{loc, var}
 use Rattle.terms.specs.Terms.Part.{stop, go, out, inp, call}
 use Rattle.terms.specs.Terms.Process.{one, _∥_}
 use Rattle.terms.specs.Terms.Def.{define}
-use Rattle.text.specs.Tokens.{Token, number, isLocation, isSmall, isIdentifier, isTicks, opens, closes, left, right, comma, bar, dot, equals}
+use Rattle.terms.specs.Letters.{isLocation, isSmall, isIdentifier}
+use Rattle.text.specs.Tokens.{Token, number, isTicks, opens, closes, left, right, comma, bar, dot, equals}
 use Rattle.text.specs.Tokens.Token.{word, sign}
 use Rattle.text.specs.Tree.{Located, Tree}
 use Rattle.text.specs.Tree.Located.{at}

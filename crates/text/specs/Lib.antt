@@ -1,4 +1,3 @@
-pub mod Characters
 pub mod Tokens
 pub mod Tree
 pub mod Grammar

@@ -2,7 +2,7 @@
 -- Each question is asked of the whole text, one after the other, and the first no gives the answer.
 use Prim.Native.Nat.{ℕ, suc, max}
 use mathlib.Core.List.{List, [], _∷_, _++_, map, flatMap}
-use mathlib.Core.Bool.{Bool, true, false, cond, _&&_, not}
+use mathlib.Core.Bool.{Bool, true, false, cond, _&&_}
 use mathlib.Core.Path.{_≡_}
 use lib.Dec.{eqb, leb}
 use lib.ListN.{length}
@@ -16,7 +16,8 @@ use Rattle.terms.specs.Terms.Def.{define}
 use Rattle.terms.specs.Rules.{Answer, _>>=_, some, split}
 use Rattle.terms.specs.Rules.Answer.{refused, accepted}
 use Rattle.terms.specs.Same.{every}
-use Rattle.text.specs.Tokens.{lex, member}
+use Rattle.terms.specs.Letters.{member, distinct}
+use Rattle.text.specs.Tokens.{lex}
 use Rattle.text.specs.Tree.{Located, Tree, components, networkOf}
 use Rattle.text.specs.Tree.Located.{at}
 use Rattle.text.specs.Grammar.{Rest, text}
@@ -159,12 +160,8 @@ fits t =
     && leb (scopeSize t) 8
 
 -- ── 5: each identifier defined once, with different parameters? ──
-unfoldable pub differ : List Name → Bool
-differ [] = true
-differ (w ∷ ws) = not (member w ws) && differ ws
-
-unfoldable pub distinct : List Def → Bool
-distinct ds = differ (map identifier ds) && every (λ d. differ (params d)) ds
+unfoldable pub definedOnce : List Def → Bool
+definedOnce ds = distinct (map identifier ds) && every (λ d. distinct (params d)) ds
 
 -- ── 6: each called identifier defined, with that many arguments? ──
 abbrev pub isFor : Name → List Value → Def → Bool
@@ -194,7 +191,7 @@ read s = do
   t ← form s
   ask 3 (shallow t)
   ask 4 (fits t)
-  ask 5 (distinct (t .defs))
+  ask 5 (definedOnce (t .defs))
   ask 6 (callsMet t)
   ask 7 (bound t)
   accepted (networkOf t)
@@ -207,11 +204,11 @@ unfoldable pub networkPlaces : Network → List Place
 networkPlaces n = flatMap defPlaces (n .defs) ++ flatMap componentPlaces (n .comps)
 
 pub record Sound (n : Network) : Type 0 where
-  pub once : distinct (n .defs) ≡ true
+  pub once : definedOnce (n .defs) ≡ true
   pub defined : every (callMet (n .defs)) (networkPlaces n) ≡ true
   pub closed : every boundAt (networkPlaces n) ≡ true
 
 -- all of the above, for `unfolding questions`
 unfoldable pub questions : Unit {0}
-unfolding short form firsts partPlaces processPlaces defPlaces locatedPlaces places channelsAt locOf locationsAt locatedNames channels locations split components networkOf most nesting definitionCount parameterCount partCount componentCount scopeSize shallow fits differ distinct some callMet callsMet boundAt bound read flatMap every
+unfolding short form firsts partPlaces processPlaces defPlaces locatedPlaces places channelsAt locOf locationsAt locatedNames channels locations split components networkOf most nesting definitionCount parameterCount partCount componentCount scopeSize shallow fits distinct definedOnce some callMet callsMet boundAt bound read flatMap every
 questions = tt

@@ -1,13 +1,14 @@
--- Tokens, names and numbers: document 01, *Reading*, and the timers of *The term and the network*.
+-- Tokens and numbers: document 01, *Reading*, and the timers of *The term and the network*.
 use Prim.Native.Nat.{ℕ, zero, suc, _+_, _-_, _*_, _/_, _%_}
 use mathlib.Core.List.{List, [], _∷_, _++_}
-use mathlib.Core.Bool.{Bool, true, false, _&&_, _||_, not}
+use mathlib.Core.Bool.{Bool, true, false, _&&_, not}
 use lib.Dec.{eqb, leb, ltb}
-use lib.ListN.{length}
-use Rattle.terms.specs.Names.{Name, bytes, sameName}
+use Rattle.terms.specs.Names.{Name, sameName}
 use Rattle.terms.specs.Same.{every}
-use Rattle.text.specs.Characters.{Class, classOf, isCapital, isLower, isLetter, isDigit, isAlnum}
-use Rattle.text.specs.Characters.Class.{capital, small, digit, bracket, blank, other}
+use Rattle.terms.specs.Rules.{some}
+use Rattle.terms.specs.Characters.Class.{capital, small, digit, bracket, blank, other}
+use Rattle.terms.specs.Characters.{Class, classOf, isDigit}
+use Rattle.terms.specs.Letters.{member, isName, isLocation, isSmall, isIdentifier}
 
 -- ── tokens: a longest run of letters and digits, or any other byte that is no blank ──
 -- Splitting into tokens never fails. A byte that no form has is a sign that no rule of the grammar accepts.
@@ -62,35 +63,6 @@ dot = 46
 abbrev pub equals : ℕ
 equals = 61
 
--- ── names ──
-unfoldable pub member : Name → List Name → Bool
-member w [] = false
-member w (v ∷ vs) = sameName w v || member w vs
-
-abbrev pub firstIs : (Class → Bool) → Name → Bool
-firstIs p [] = false
-firstIs p (b ∷ w) = p (classOf b)
-
--- the words that are no one's name, by exact spelling
-abbrev pub reserved : List Name
-reserved = bytes "stop" ∷ bytes "go" ∷ bytes "in" ∷ bytes "out" ∷ bytes "inf" ∷ bytes "S" ∷ []
-
--- 1 to 16 letters and digits, the first as p wants it, and not reserved
-abbrev pub isName : (Class → Bool) → Name → Bool
-isName p w = firstIs p w && every isAlnum w && leb (length w) 16 && not (member w reserved)
-
--- locations begin with a capital
-unfoldable pub isLocation : Name → Bool
-isLocation w = isName isCapital w
-
--- variables and channels begin with a small letter
-unfoldable pub isSmall : Name → Bool
-isSmall w = isName isLower w
-
--- identifiers begin with either
-unfoldable pub isIdentifier : Name → Bool
-isIdentifier w = isName isLetter w
-
 -- ── numbers ──
 -- the number that the digits w stand for, after the number n
 unfoldable pub numberFrom : ℕ → Name → ℕ
@@ -125,5 +97,5 @@ digits n = digitsOf n n
 
 -- all of the above, for `unfolding tokenwise`
 unfoldable pub tokenwise : Unit {0}
-unfolding sameName every classOf lexFrom member isLocation isSmall isIdentifier numberFrom isTicks digitsOf
+unfolding sameName every some classOf lexFrom member isName isLocation isSmall isIdentifier numberFrom isTicks digitsOf
 tokenwise = tt

@@ -12,7 +12,7 @@ use Rattle.terms.specs.Terms.Process.{one, _∥_}
 use Rattle.terms.specs.Terms.Mark.{none, by}
 use Rattle.terms.specs.Terms.Component.{comp}
 use Rattle.terms.specs.Terms.Def.{define}
-use Rattle.text.specs.Tokens.{isLocation, isSmall, isIdentifier}
+use Rattle.terms.specs.Letters.{isLocation, isSmall, isIdentifier}
 use Rattle.text.specs.Tree.{Located, Tree}
 use Rattle.text.specs.Tree.Located.{at}
 

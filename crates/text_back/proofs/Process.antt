@@ -9,7 +9,6 @@ use lib.Dec.{leb, ltb}
 use lib.ListN.{length, getD, take, replicate, length-map, length-take}
 use borrow.Author.Tests.{ltb-true, leb-true, eq-eqb}
 use Rattle.terms.specs.Names.{Name}
-use Rattle.terms.specs.Letters as L
 use Rattle.terms.specs.Same.{every}
 use Rattle.terms.specs.Rules.{some}
 use Rattle.terms.specs.Terms.{Timer, Value, Part, Process, Def}
@@ -19,7 +18,7 @@ use Rattle.terms.specs.Terms.Process.{one, _∥_}
 use Rattle.terms.specs.Clock.{ticksOf}
 use Rattle.terms.specs.Substitution.{Env, hide, sub, subP, subVs}
 use Rattle.terms.proofs.Names.{name-refl}
-use Rattle.text.specs.Tokens.{isSmall, isIdentifier}
+use Rattle.terms.specs.Letters.{isSmall, isIdentifier}
 use Rattle.text.specs.WellFormed.{Is, WellTimer, WellPart, WellProcess}
 use Rattle.text.specs.Questions.{into, partPlaces, processPlaces, isFor, callMet, boundAt as boundAtPlace}
 use Rattle.table.specs.declared.Head.{Head}
@@ -29,7 +28,6 @@ use Rattle.table.specs.Meaning.{valuesOf, partOf, joined, processAt, partAt, li
 use Rattle.table.specs.Valid.{headOk, nextOk, scriptOk}
 use Rattle.table.proofs.Tests.{Inner, inner, part-fine, script-fine, every-name, every-append, getD-listFrom, length-listFrom}
 use Rattle.table.proofs.Places.{go-fine, out-fine, in-fine, process-is}
-use Rattle.text_build.proofs.Forms.{small-same, identifier-same}
 use Rattle.text_write.proofs.Heads.{call-fine}
 use Rattle.text_back.proofs.Scope.{Covers, covers-entered, value-fit, values-fit}
 
@@ -133,10 +131,10 @@ module _ (w : List ℕ) where
 
   module _ (good : scriptOk w ≡ true) where
     chan-form : (c : ℕ) → ltb c (chansIn w) ≡ true → Is isSmall (chanName w c)
-    chan-form c h = small-same (chanName w c) ∙ every-name L.isSmall (chanName w) (chansIn w) (script-fine w good .chan-names) c (ltb-true _ _ h)
+    chan-form c h = every-name isSmall (chanName w) (chansIn w) (script-fine w good .chan-names) c (ltb-true _ _ h)
 
     pub def-form : (k : ℕ) → k < defsIn w → Is isIdentifier (defName w k)
-    def-form k h = identifier-same (defName w k) ∙ every-name L.isIdentifier (defName w) (defsIn w) (script-fine w good .def-names) k h
+    def-form k h = every-name isIdentifier (defName w) (defsIn w) (script-fine w good .def-names) k h
 
     module _ (i : ℕ) (b : i < partsIn w) (sc : List Name) (e : Env) (c : Covers sc e (namesAt w i)) (k : Before i) (d : ℕ) where
       -- an inner process with the same names in scope
@@ -164,7 +162,7 @@ module _ (w : List ℕ) where
           }
       part-fits (In a t j p q) o =
           let r = in-fine w i a t j p q o in
-          let s : Is isSmall (boundAt w i) = small-same (boundAt w i) ∙ r .form in
+          let s : Is isSmall (boundAt w i) = r .form in
           let m = same-names p _ (into sc (boundAt w i)) (hide (boundAt w i) e) (r .first .scope) (covers-entered w i j sc e s c) in
           let f = k p (r .first .lesser) (into sc (boundAt w i)) (hide (boundAt w i) e) m (suc d) in
           let g = inside q (r .second) (suc d) in

@@ -9,7 +9,6 @@ use lib.Dec.{ltb}
 use lib.ListN.{length, getD}
 use borrow.Author.Tests.{ltb-true, lt-ltb}
 use Rattle.terms.specs.Names.{Name, sameName}
-use Rattle.terms.specs.Letters as L
 use Rattle.terms.specs.Same.{every}
 use Rattle.terms.specs.Terms.{Value}
 use Rattle.terms.specs.Terms.Value.{loc, var}
@@ -17,7 +16,7 @@ use Rattle.terms.specs.Substitution.{Held, Env, env, hide, held, subV, subVs}
 use Rattle.terms.specs.Substitution.Held.{unset, is}
 use Rattle.terms.proofs.Names.{and-inv, and-in, name-eq, name-refl}
 use Rattle.terms.proofs.Substitution.{empty}
-use Rattle.text.specs.Tokens.{isLocation, isSmall, member}
+use Rattle.terms.specs.Letters.{isLocation, isSmall, member}
 use Rattle.text.specs.WellFormed.{Is, Each, WellValue}
 use Rattle.text.specs.Questions.{into, firsts, boundIn}
 use Rattle.text.proofs.Gives.{each-append}
@@ -26,7 +25,6 @@ use Rattle.table.specs.Meaning.{valueOf, valuesOf}
 use Rattle.table.specs.Valid.{index, slotOk, refOk, entered, scriptOk}
 use Rattle.table.proofs.Tests.{script-fine, every-name}
 use Rattle.table.proofs.Fires.{map-append}
-use Rattle.text_build.proofs.Forms.{location-same, small-same}
 use Rattle.text_build.proofs.Numbers.{member-index}
 use Rattle.text_build.proofs.Enlist.{index-into, came-within}
 use Rattle.text_build.proofs.Grows.{into-longer}
@@ -122,9 +120,9 @@ covers-entered w i k sc e s c = go (ltb k (length (scopeAt w i)))
 
 -- ── no values, and a location for each name ──
 -- a definition's parameters
-pub covers-none : (us : List Name) → every L.isSmall us ≡ true → Covers (firsts [] us) empty us
+pub covers-none : (us : List Name) → every isSmall us ≡ true → Covers (firsts [] us) empty us
 unfolding empty
-covers-none us e = each-both (Is isSmall) (λ x. member x (firsts [] us) ≡ true) us (each-with (λ x q. small-same x ∙ q) us (each-every L.isSmall us e)) (all-firsts us [])
+covers-none us e = each-both (Is isSmall) (λ x. member x (firsts [] us) ≡ true) us (each-every isSmall us e) (all-firsts us [])
 
 abbrev Located : Held → Type 0
 Located unset = ⊥
@@ -153,7 +151,7 @@ covers-all ys ls p h = each-with (λ x. located-filled x (env ys ls x)) ys (env-
 -- ── values ──
 module _ (w : List ℕ) (good : scriptOk w ≡ true) where
   pub loc-form : (l : ℕ) → l < locsIn w → Is isLocation (locName w l)
-  loc-form l h = location-same (locName w l) ∙ every-name L.isLocation (locName w) (locsIn w) (script-fine w good .loc-names) l h
+  loc-form l h = every-name isLocation (locName w) (locsIn w) (script-fine w good .loc-names) l h
 
   pub loc-forms : (vs : List ℕ) → every (λ v. ltb v (locsIn w)) vs ≡ true → Each (Is isLocation) (map (locName w) vs)
   unfolding every

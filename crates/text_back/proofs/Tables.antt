@@ -8,7 +8,6 @@ use mathlib.Core.Path.{_≡_, refl, ap, sym, _∙_}
 use lib.Dec.{ltb}
 use lib.ListN.{length, length-map}
 use borrow.Author.Tests.{not-true}
-use Rattle.terms.specs.Letters as L
 use Rattle.terms.specs.Same.{every}
 use Rattle.terms.specs.Rules.{unmarked}
 use Rattle.terms.specs.Terms.Process.{one}
@@ -16,9 +15,9 @@ use Rattle.terms.specs.Clock.{ticksOf}
 use Rattle.terms.specs.Substitution.{sub, subP}
 use Rattle.terms.proofs.Names.{and-inv, and-in}
 use Rattle.terms.proofs.Substitution.{empty, none-inP}
-use Rattle.text.specs.Tokens.{isSmall}
+use Rattle.terms.specs.Letters.{isSmall, isIdentifier, distinct}
 use Rattle.text.specs.WellFormed.{Each, NonEmpty, WellDef, WellComponent, Writable}
-use Rattle.text.specs.Questions.{Place, firsts, defPlaces, componentPlaces, networkPlaces, identifier, params, differ, distinct, callMet, boundAt, Sound}
+use Rattle.text.specs.Questions.{Place, firsts, defPlaces, componentPlaces, networkPlaces, identifier, params, definedOnce, callMet, boundAt, Sound}
 use Rattle.table.specs.declared.Comp.{Comp}
 use Rattle.table.specs.declared.State.{State}
 use Rattle.table.specs.Words.{defsIn, nameAt, locName, bodyOf, defName, paramsOf, namesAt}
@@ -27,8 +26,6 @@ use Rattle.table.specs.Valid.{sortOk, scriptOk, compOk, valid}
 use Rattle.table.proofs.Tests.{script-fine, def-fine, comp-fine, every-append}
 use Rattle.table.proofs.Splits.{unmarked-is}
 use Rattle.table.proofs.Fires.{scope-length, names-length}
-use Rattle.text_build.proofs.Forms.{small-same}
-use Rattle.text_tree.proofs.Once.{differ-same}
 use Rattle.text_write.specs.Answer.{noMark}
 use Rattle.table.proofs.InUse.{valid-script, valid-state, comps-length}
 use Rattle.text_write.proofs.Networks.{unmarked-table}
@@ -81,7 +78,7 @@ module _ (w : List ℕ) (good : scriptOk w ≡ true) where
   unfolding defOf
   def-well d h =
       let r = def-fine w good d h in
-      (def-form w good d h, each-with (λ x q. small-same x ∙ q) (paramsOf w d) (each-every L.isSmall (paramsOf w d) (r .forms)), body-fits d h .well)
+      (def-form w good d h, each-every isSmall (paramsOf w d) (r .forms), body-fits d h .well)
 
   defs-well : Each WellDef (defsOf w)
   unfolding defsOf
@@ -95,22 +92,22 @@ module _ (w : List ℕ) (good : scriptOk w ≡ true) where
   defs-places = unfold defsOf in each-from (λ x. Fine w (defPlaces x)) (defOf w) 0 (defsIn w) (λ d h. def-places d (omega arith))
 
   -- 5: the names of definitions are held once, and so are the parameters of each
-  names-differ : differ (map identifier (defsOf w)) ≡ true
+  names-differ : distinct (map identifier (defsOf w)) ≡ true
   unfolding defsOf sortOk
   names-differ =
-      let s = and-inv (every L.isIdentifier (listFrom 0 (defsIn w) (defName w))) _ (script-fine w good .def-names) in
+      let s = and-inv (every isIdentifier (listFrom 0 (defsIn w) (defName w))) _ (script-fine w good .def-names) in
       let e : map identifier (listFrom 0 (defsIn w) (defOf w)) ≡ listFrom 0 (defsIn w) (defName w) = unfold defOf in map-from identifier (defOf w) 0 (defsIn w) in
-      rw e (sym (differ-same (listFrom 0 (defsIn w) (defName w))) ∙ s .1)
+      rw e (s .1)
 
-  params-differ : (d : ℕ) → d < defsIn w → differ (params (defOf w d)) ≡ true
+  params-differ : (d : ℕ) → d < defsIn w → distinct (params (defOf w d)) ≡ true
   unfolding defOf
-  params-differ d h = sym (differ-same (paramsOf w d)) ∙ def-fine w good d h .differ
+  params-differ d h = def-fine w good d h .differ
 
-  defs-distinct : distinct (defsOf w) ≡ true
-  unfolding distinct
+  defs-distinct : definedOnce (defsOf w) ≡ true
+  unfolding definedOnce
   defs-distinct =
       and-in _ _ names-differ
-      (every-each (λ x. differ (params x)) (defsOf w) (unfold defsOf in each-from (λ x. differ (params x) ≡ true) (defOf w) 0 (defsIn w) (λ d h. params-differ d (omega arith))))
+      (every-each (λ x. distinct (params x)) (defsOf w) (unfold defsOf in each-from (λ x. distinct (params x) ≡ true) (defOf w) 0 (defsIn w) (λ d h. params-differ d (omega arith))))
 
   -- ── components ──
   module _ (c : Comp) (fine : compOk w c ≡ true) where

@@ -11,7 +11,7 @@ use lib.ListN.{length, set, length-append}
 use lib.Seq.{sets, length-sets, getD-set-same}
 use Rattle.terms.specs.Names.{Name, sameName}
 use Rattle.terms.proofs.Names.{name-refl}
-use Rattle.text.specs.Tokens.{member}
+use Rattle.terms.specs.Letters.{member}
 use Rattle.text.specs.Questions.{into}
 use Rattle.table.specs.declared.Key.{Key}
 use Rattle.table.specs.Words.{word, nameAt}

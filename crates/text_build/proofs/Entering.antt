@@ -3,18 +3,18 @@
 use Prim.Native.Nat.{ℕ, suc, _+_, _-_, _*_, _≤_}
 use native.Mathlib.Omega.{arith}
 use mathlib.Core.List.{List, [], _∷_, _++_, map, flatMap}
-use mathlib.Core.Bool.{Bool, true, _&&_}
+use mathlib.Core.Bool.{Bool, true}
 use mathlib.Core.Path.{_≡_, refl, ap, sym, _∙_}
 use borrow.Author.Tests.{leb-true, lt-ltb}
-use lib.Dec.{leb}
 use lib.ListN.{length}
 use Rattle.terms.specs.Names.{Name}
 use Rattle.terms.specs.Terms.{Value}
 use Rattle.terms.specs.Terms.Value.{loc, var}
 use Rattle.terms.specs.Same.{every}
-use Rattle.terms.proofs.Names.{and-inv, and-in}
-use Rattle.text.specs.Characters.{Class, isAlnum}
-use Rattle.text.specs.Tokens.{isName, isLocation, isSmall, isIdentifier, firstIs}
+use Rattle.terms.proofs.Names.{and-in}
+use Rattle.terms.specs.Characters.{Class}
+use Rattle.terms.specs.Letters.{isName, isLocation, isSmall, isIdentifier}
+use Rattle.terms.proofs.Letters.{name-form}
 use Rattle.text.specs.WellFormed.{WellValue, Each}
 use Rattle.text.specs.Questions.{into, firsts, locOf}
 use Rattle.table.specs.Words.{word, nameAt}
@@ -32,11 +32,7 @@ use Rattle.text_build.proofs.Kept.{value-same}
 
 -- ── a name's four words are its letters ──
 pub spelt : (p : Class → Bool) (x : Name) → isName p x ≡ true → keyName (keyOf x) ≡ x
-spelt p x e =
-    let a = and-inv (firstIs p x && every isAlnum x && leb (length x) 16) _ e in
-    let b = and-inv (firstIs p x && every isAlnum x) _ (a .0) in
-    let c = and-inv (firstIs p x) _ (b .0) in
-    key-letters x (c .1) (leb-true (length x) 16 (b .1))
+spelt p x e = let a = name-form p x e in key-letters x (a .solid) (leb-true (length x) 16 (a .short))
 
 pub loc-spelt : (x : Name) → isLocation x ≡ true → keyName (keyOf x) ≡ x
 unfolding isLocation

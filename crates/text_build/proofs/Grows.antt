@@ -10,7 +10,7 @@ use lib.Dec.{ltb}
 use lib.ListN.{length, set, length-append}
 use lib.Seq.{sets}
 use Rattle.terms.specs.Names.{Name}
-use Rattle.text.specs.Tokens.{member}
+use Rattle.terms.specs.Letters.{member}
 use Rattle.text.specs.Questions.{into}
 use Rattle.table.specs.declared.Key.{Key}
 use Rattle.table.specs.Words.{word, nameAt, locName, chanName, defName}

@@ -10,8 +10,8 @@ use lib.Dec.{eqb, leb}
 use lib.ListN.{length, getD, drop}
 use Rattle.terms.specs.Same.{every}
 use Rattle.terms.proofs.Names.{and-inv}
-use Rattle.text.specs.Characters.{classOf, isAlnum, within, alnum}
-use Rattle.text.specs.Characters.Class.{capital, small, digit, bracket, blank, other}
+use Rattle.terms.specs.Characters.Class.{capital, small, digit, bracket, blank, other}
+use Rattle.terms.specs.Characters.{classOf, isAlnum, within, alnum}
 use Rattle.table.specs.Words.{fourBytes, isZero, strip, letters}
 use Rattle.table.specs.Tests.{keyName}
 use Rattle.text_build.specs.Keys.{quadOf, keyOf}

@@ -1,4 +1,3 @@
-pub mod Forms
 pub mod Letters
 pub mod Numbers
 pub mod Places

@@ -15,7 +15,8 @@ use Rattle.terms.specs.Terms.Value.{loc, var}
 use Rattle.terms.specs.Same.{every}
 use Rattle.terms.specs.Clock.{ticksOf}
 use Rattle.terms.proofs.Names.{and-inv, and-in, name-eq}
-use Rattle.text.specs.Tokens.{member}
+use Rattle.terms.specs.Letters.{member}
+use Rattle.terms.specs.Rules.{some}
 use Rattle.text.specs.Questions.{into}
 use Rattle.table.specs.Words.{locsIn, chansIn, defsIn, nameAt, locName, chanName, defName, ownAt, boundAt}
 use Rattle.table.specs.Meaning.{listFrom, valueOf, valuesOf}
@@ -37,7 +38,7 @@ index-at (y ∷ ys) x h = go (sameName y x) refl h (λ k. index-at ys x k)
 
 -- a name is among others exactly if its index is below their number
 pub member-index : (ys : List Name) (x : Name) → member x ys ≡ ltb (index ys x) (length ys)
-unfolding member index
+unfolding member some index
 member-index [] x = refl
 member-index (y ∷ ys) x = rw (name-sym x y, member-index ys x) (go (sameName y x))
   where

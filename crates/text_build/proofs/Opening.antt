@@ -12,7 +12,7 @@ use Rattle.terms.specs.Names.{Name}
 use Rattle.terms.specs.Terms.{Timer, Part, Process}
 use Rattle.terms.specs.Terms.Part.{stop, go, out, inp, call}
 use Rattle.terms.proofs.Names.{and-in}
-use Rattle.text.specs.Tokens.{isSmall}
+use Rattle.terms.specs.Letters.{isSmall}
 use Rattle.text.specs.WellFormed.{WellPart}
 use Rattle.table.specs.Words.{word, nameAt, defName, ownAt, boundAt}
 use Rattle.table.specs.Meaning.{listFrom}

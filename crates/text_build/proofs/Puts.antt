@@ -16,7 +16,7 @@ use Rattle.terms.specs.Terms.Part.{stop, go, out, inp, call}
 use Rattle.terms.specs.Terms.Process.{one, _∥_}
 use Rattle.terms.specs.Same.{every}
 use Rattle.terms.proofs.Names.{and-inv, and-in}
-use Rattle.text.specs.Tokens.{isSmall}
+use Rattle.terms.specs.Letters.{isSmall}
 use Rattle.text.specs.WellFormed.{Each, WellPart, WellProcess}
 use Rattle.text.specs.Questions.{Place, into, partPlaces, processPlaces}
 use Rattle.table.specs.Words.{word, field, nameAt, ownAt}

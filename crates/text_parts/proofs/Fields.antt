@@ -9,7 +9,8 @@ use lib.ListN.{length, drop}
 use Rattle.terms.specs.Names.{Name, bytes, sameName}
 use Rattle.terms.specs.Terms.Timer.{ticks, inf}
 use Rattle.terms.specs.Terms.Value.{loc, var}
-use Rattle.text.specs.Tokens.{Token, lex, number, isSmall, isLocation, isIdentifier, isTicks, opens, closes, comma}
+use Rattle.terms.specs.Letters.{isSmall, isLocation, isIdentifier}
+use Rattle.text.specs.Tokens.{Token, lex, number, isTicks, opens, closes, comma}
 use Rattle.text.specs.Grammar.{Rest, Reader, bind, when, the, aWord, named, next, more, joined, sepBy, bracketed, listOf, aTimer, aValue, Head, headOf, _>>_}
 use Rattle.text.specs.Grammar.Rest.{ok, bad}
 use Rattle.text.specs.Grammar.Head.{stops, goes, sends, receives, calls, nothing}

@@ -7,7 +7,8 @@ use mathlib.Core.Path.{_≡_, refl, ap, _∙_}
 use lib.ListN.{length}
 use Rattle.terms.specs.Names.{Name}
 use Rattle.terms.specs.Terms.{Part, Process}
-use Rattle.text.specs.Tokens.{Token, isSmall, opens, closes, comma, bar}
+use Rattle.terms.specs.Letters.{isSmall}
+use Rattle.text.specs.Tokens.{Token, opens, closes, comma, bar}
 use Rattle.text.specs.Grammar.{Rest, Reader, bind, named, the, aWord, next, listOf, aTimer, aValue, Head, headOf, partForm, moreParts, part, process}
 use Rattle.text.specs.Grammar.Rest.{ok, bad}
 use Rattle.text.specs.Grammar.Head.{stops, goes, sends, receives, calls, nothing}

@@ -1,7 +1,8 @@
 -- A part up to its first process, with the tree forgotten: what the code reads before the two readers call each other.
 use mathlib.Core.Bool.{Bool}
 use Rattle.terms.specs.Names.{Name}
-use Rattle.text.specs.Tokens.{isSmall, isIdentifier, opens, comma}
+use Rattle.terms.specs.Letters.{isSmall, isIdentifier}
+use Rattle.text.specs.Tokens.{opens, comma}
 use Rattle.text.specs.Grammar.{Reader, bind, give, fail, the, aWord, named, listOf, aTimer, aValue, Head, headOf, _>>=_, _>>_}
 use Rattle.text.specs.Grammar.Head.{stops, goes, sends, receives, calls, nothing}
 use Rattle.text_words.specs.Bytes.{skim}

@@ -9,9 +9,10 @@ use lib.Seq.{length-take-le, getD-take}
 use Rattle.terms.specs.Names.{Name, sameName}
 use Rattle.terms.specs.Terms.{Value}
 use Rattle.terms.specs.Terms.Value.{loc, var}
-use Rattle.text.specs.Characters.{isCapital}
-use Rattle.text.specs.Characters.Class.{capital}
-use Rattle.text.specs.Tokens.{Token, lex, firstIs, opens, closes, comma}
+use Rattle.terms.specs.Characters.Class.{capital}
+use Rattle.terms.specs.Characters.{isCapital}
+use Rattle.terms.specs.Letters.{firstIs}
+use Rattle.text.specs.Tokens.{Token, lex, opens, closes, comma}
 use Rattle.text.specs.Tokens.Token.{word, sign}
 use Rattle.text.specs.Grammar.{the, next}
 use Rattle.text.specs.Write.{valueT, joinedT, listT}

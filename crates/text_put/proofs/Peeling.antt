@@ -13,9 +13,8 @@ use Rattle.terms.specs.declared.Made.the-variants.{Valid, TooLarge}
 use Rattle.terms.specs.Clock.{madeOf}
 use Rattle.terms.specs.Terms.{Timer}
 use Rattle.terms.specs.Terms.Timer.{ticks, inf}
-use Rattle.text.specs.Characters.{Class, within, classOf, isCapital}
-use Rattle.text.specs.Characters.Class.{small, digit, bracket, blank, other}
-use Rattle.text.specs.Tokens.{Token, lex, firstIs, digits, number}
+use Rattle.terms.specs.Characters.Class.{small, digit, bracket, blank, other}
+use Rattle.text.specs.Tokens.{Token, lex, digits, number}
 use Rattle.text.specs.Tokens.Token.{word, sign}
 use Rattle.text.specs.Grammar.{the, aWord, next}
 use Rattle.text.specs.Grammar.Rest.{ok, bad}
@@ -28,6 +27,8 @@ use Rattle.text_build.specs.Rows.{timerWord}
 use Rattle.text.proofs.Exact.{clash}
 use Rattle.text_parts.proofs.Rests.{next-yes, next-no, ended-is, ended-zero}
 use Rattle.terms.specs.declared.Timer.{Timer as CodeTimer}
+use Rattle.terms.specs.Characters.{Class, within, classOf, isCapital}
+use Rattle.terms.specs.Letters.{firstIs}
 
 -- ── signs ──
 pub the-sign : (c : ℕ) (us : List Token) → the c (sign c ∷ us) ≡ ok tt us

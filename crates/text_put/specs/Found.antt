@@ -8,8 +8,9 @@ use lib.ListN.{length, drop, set}
 use Rattle.terms.specs.Names.{Name}
 use Rattle.terms.specs.Terms.{Timer, Value}
 use Rattle.terms.specs.Terms.Value.{loc, var}
-use Rattle.text.specs.Characters.{isCapital}
-use Rattle.text.specs.Tokens.{Token, lex, firstIs, opens, closes, comma}
+use Rattle.terms.specs.Characters.{isCapital}
+use Rattle.terms.specs.Letters.{firstIs}
+use Rattle.text.specs.Tokens.{Token, lex, opens, closes, comma}
 use Rattle.text.specs.Tokens.Token.{sign}
 use Rattle.text.specs.Grammar.{next}
 use Rattle.text.specs.Write.{valueT, joinedT, listT}

@@ -4,8 +4,9 @@ ghost use mathlib.Core.Path.{_≡_};
 ghost use lib.ListN.{drop};
 ghost use Rattle.terms.specs.Names.{Name};
 ghost use Rattle.terms.specs.Terms.{Timer};
-ghost use Rattle.text.specs.Characters.{classOf, isCapital};
-ghost use Rattle.text.specs.Tokens.{Token, lex, firstIs, comma};
+ghost use Rattle.terms.specs.Characters.{isCapital};
+ghost use Rattle.terms.specs.Letters.{firstIs};
+ghost use Rattle.text.specs.Tokens.{Token, lex, comma};
 ghost use Rattle.text.specs.Tokens.Token.{word, sign};
 ghost use Rattle.text.specs.Write.{timerT};
 ghost use Rattle.text.specs.WellFormed.{WellTimer};
@@ -15,15 +16,7 @@ use super::Named;
 use super::Pair;
 use super::Timed;
 use table::Key;
-
-fn is_capital(b: u8) -> bool
-    ensures { λ r. ⌜ r ≡ isCapital (classOf b) ⌝ }
-{
-    match b {
-        b'A'..=b'Z' => true,
-        _ => false,
-    }
-}
+use terms::characters::is_capital;
 
 // Does the word begin with a capital?
 fn begins_capital(w: &[u8]) -> bool

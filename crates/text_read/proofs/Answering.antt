@@ -20,7 +20,7 @@ use Rattle.text.specs.Grammar.{Rest, text}
 use Rattle.text.specs.Grammar.Rest.{ok, bad}
 use Rattle.text.specs.Write.{networkT}
 use Rattle.text.specs.WellFormed.{Each, NonEmpty, WellLocated}
-use Rattle.text.specs.Questions.{ask, _>>_, places, short, whole, form, shallow, fits, distinct, callsMet, bound, read, nesting, definitionCount, parameterCount, partCount, componentCount, channels, locations, scopeSize}
+use Rattle.text.specs.Questions.{ask, _>>_, places, short, whole, form, shallow, fits, definedOnce, callsMet, bound, read, nesting, definitionCount, parameterCount, partCount, componentCount, channels, locations, scopeSize}
 use Rattle.text.proofs.Exact.{form-tokens}
 use Rattle.text_scan.specs.declared.Scanned.{Scanned}
 use Rattle.text_scan.specs.Answers.{unreadScan, scanned, scanOf}
@@ -94,13 +94,13 @@ module _ (s : List ℕ) where
   limited n = go₁ (short s) (text (lex s)) n
     where
       tree : (t : Tree) → (limits (scanned (accepted t)) ≡ 0 → ⊥) → (a b : Bool) → shallow t ≡ a → counts t ≡ b
-          → (ask 3 (shallow t) >> (ask 4 (fits t) >> (ask 5 (distinct (t .defs)) >> (ask 6 (callsMet t) >> (ask 7 (bound t) >> accepted (networkOf t)))))) ≡ refused (limits (scanned (accepted t)))
+          → (ask 3 (shallow t) >> (ask 4 (fits t) >> (ask 5 (definedOnce (t .defs)) >> (ask 6 (callsMet t) >> (ask 7 (bound t) >> accepted (networkOf t)))))) ≡ refused (limits (scanned (accepted t)))
       tree t n false b e f = rw (limits-of t, e)
       tree t n true false e f = rw (limits-of t, e, f, counts-not t f)
       tree t n true true e f = absurd (n (rw (limits-of t, e, f)))
 
       go₁ : (y : Bool) (x : Rest Tree) → (limits (cond y (scanned (whole x)) (unreadScan false)) ≡ 0 → ⊥)
-          → (ask 1 y >> (whole x >>= λ t. ask 3 (shallow t) >> (ask 4 (fits t) >> (ask 5 (distinct (t .defs)) >> (ask 6 (callsMet t) >> (ask 7 (bound t) >> accepted (networkOf t))))))) ≡ refused (limits (cond y (scanned (whole x)) (unreadScan false)))
+          → (ask 1 y >> (whole x >>= λ t. ask 3 (shallow t) >> (ask 4 (fits t) >> (ask 5 (definedOnce (t .defs)) >> (ask 6 (callsMet t) >> (ask 7 (bound t) >> accepted (networkOf t))))))) ≡ refused (limits (cond y (scanned (whole x)) (unreadScan false)))
       go₁ false x n = refl
       go₁ true bad n = refl
       go₁ true (ok t us) n = tree t n (shallow t) (counts t) refl refl
@@ -223,7 +223,7 @@ module _ {s : List ℕ} (x : Passing s) where
   abbrev S : List ℕ
   S = scriptOf T
 
-  read-is : read s ≡ (ask 4 (fits T) >> (ask 5 (distinct (T .defs)) >> (ask 6 (callsMet T) >> (ask 7 (bound T) >> accepted (networkOf T)))))
+  read-is : read s ≡ (ask 4 (fits T) >> (ask 5 (definedOnce (T .defs)) >> (ask 6 (callsMet T) >> (ask 7 (bound T) >> accepted (networkOf T)))))
   unfolding read
   read-is = rw (x .short-is, x .form-is, x .shallow-is)
 
@@ -242,7 +242,7 @@ module _ {s : List ℕ} (x : Passing s) where
     read-4 = read-is ∙ rw (fits-yes, apart-is T S W)
 
     module _ (f : apart S ≡ true) where
-      distinct-yes : distinct (T .defs) ≡ true
+      distinct-yes : definedOnce (T .defs) ≡ true
       distinct-yes = apart-is T S W ∙ f
 
       read-5 : read s ≡ (ask 6 (callsHeld S) >> (ask 7 (bound T) >> accepted (networkOf T)))

@@ -14,7 +14,8 @@ use Rattle.terms.specs.Terms.{Part, Process, Def}
 use Rattle.terms.specs.Terms.Part.{stop, go, out, inp, call}
 use Rattle.terms.specs.Terms.Process.{one, _∥_}
 use Rattle.terms.specs.Terms.Def.{define}
-use Rattle.text.specs.Tokens.{Token, lex, isSmall, opens, closes, left, comma, bar, dot, equals}
+use Rattle.terms.specs.Letters.{isSmall}
+use Rattle.text.specs.Tokens.{Token, lex, opens, closes, left, comma, bar, dot, equals}
 use Rattle.text.specs.Tokens.Token.{word, sign}
 use Rattle.text.specs.Tree.{Located}
 use Rattle.text.specs.Grammar.{Rest, the, next, named, listOf, process, netNext}

@@ -9,7 +9,8 @@ use lib.ListN.{length, drop}
 use Rattle.terms.specs.Names.{Name}
 use Rattle.terms.specs.Terms.{Process, Def}
 use Rattle.terms.specs.Terms.Def.{define}
-use Rattle.text.specs.Tokens.{Token, lex, isSmall, isLocation, isIdentifier, left, right, dot, bar, equals}
+use Rattle.terms.specs.Letters.{isSmall, isLocation, isIdentifier}
+use Rattle.text.specs.Tokens.{Token, lex, left, right, dot, bar, equals}
 use Rattle.text.specs.Tokens.Token.{word, sign}
 use Rattle.text.specs.Tree.{Located, Tree}
 use Rattle.text.specs.Grammar.{Rest, bind, the, end, aWord, named, next, more, sepBy, listOf, process, aDef, aLocated, aNetwork, netNext, addDef, textForm, text, _>>_}

@@ -1,5 +1,5 @@
 -- Question 6 over the script: a call's row names a held definition with as many parameters exactly if the text defines its identifier so.
--- Where identifiers differ, the first definition of a name is the only one; a row's number of arguments stops at 5, and no definition has over 4 parameters.
+-- Where identifiers distinct, the first definition of a name is the only one; a row's number of arguments stops at 5, and no definition has over 4 parameters.
 use Prim.Native.Nat.{ℕ, suc, _+_, _-_, _≤_, min}
 use native.Mathlib.Omega.{arith}
 use mathlib.Core.List.{List, [], _∷_, map}
@@ -14,9 +14,9 @@ use Rattle.terms.specs.Terms.Part.{stop, go, out, inp, call}
 use Rattle.terms.specs.Terms.Def.{define}
 use Rattle.terms.specs.Rules.{some}
 use Rattle.terms.proofs.Names.{and-inv, name-eq}
-use Rattle.text.specs.Tokens.{member}
+use Rattle.terms.specs.Letters.{member, distinct}
 use Rattle.text.specs.Tree.{Tree}
-use Rattle.text.specs.Questions.{params, identifier, most, parameterCount, definitionCount, differ, distinct, isFor, callMet, callsMet}
+use Rattle.text.specs.Questions.{params, identifier, most, parameterCount, definitionCount, definedOnce, isFor, callMet, callsMet}
 use Rattle.table.specs.Words.{defsIn, arityOf, headAt}
 use Rattle.table.specs.Valid.{index}
 use Rattle.table.specs.Size.{sizeP}
@@ -64,9 +64,9 @@ module _ (x : Name) (vs : List Value) where
     abbrev heldAs : ℕ → ℕ → ℕ → Bool
     heldAs n j d = ltb j n && eqb (min (length vs) 5) (arityOf w d)
 
-    for-is : (ds : List Def) (k i : ℕ) → DefsStand w ds k i → most (λ d. length (params d)) ds ≤ 4 → differ (map identifier ds) ≡ true
+    for-is : (ds : List Def) (k i : ℕ) → DefsStand w ds k i → most (λ d. length (params d)) ds ≤ 4 → distinct (map identifier ds) ≡ true
         → some (isFor x vs) ds ≡ heldAs (length ds) (index (map identifier ds) x) (k + index (map identifier ds) x)
-    unfolding some most differ index
+    unfolding some most distinct index
     for-is [] k i s m e = refl
     for-is (define y us p ∷ ds) k i s m e =
         let r = and-inv (not (member y (map identifier ds))) _ e in
@@ -90,11 +90,11 @@ module _ (x : Name) (vs : List Value) where
             h ∙ rw (shifted 1 j (length ds), z, a, b)
 
 -- ── all calls ──
-module _ (t : Tree) (w : List ℕ) (s : Whole t w) (m : parameterCount t ≤ 4) (e : distinct (t .defs) ≡ true) where
+module _ (t : Tree) (w : List ℕ) (s : Whole t w) (m : parameterCount t ≤ 4) (e : definedOnce (t .defs) ≡ true) where
   pub call-is : (x : Name) (vs : List Value) → some (isFor x vs) (t .defs) ≡ (ltb (index (idsOf w) x) (defsIn w) && eqb (min (length vs) 5) (arityOf w (index (idsOf w) x)))
-  unfolding parameterCount definitionCount distinct
+  unfolding parameterCount definitionCount definedOnce
   call-is x vs =
-      for-is x vs w (t .defs) 0 (top t) (s .bodies) m (and-inv (differ (map identifier (t .defs))) _ e .0)
+      for-is x vs w (t .defs) 0 (top t) (s .bodies) m (and-inv (distinct (map identifier (t .defs))) _ e .0)
       ∙ rw (← ids-are t w s, ← s .defs)
       (ap (λ d. heldAs x vs w (defsIn w) (index (idsOf w) x) d) (omega arith))
 

@@ -15,20 +15,19 @@ use Rattle.terms.specs.Terms.Value.{loc, var}
 use Rattle.terms.specs.Terms.Part.{stop, go, out, inp, call}
 use Rattle.terms.specs.Terms.Process.{one, _∥_}
 use Rattle.terms.specs.Terms.Def.{define}
-use Rattle.terms.specs.Letters.{isSmall}
 use Rattle.terms.specs.Same.{every}
 use Rattle.terms.proofs.Names.{and-inv, and-in}
+use Rattle.terms.specs.Letters.{isSmall}
 use Rattle.text.specs.Tree.{Located, Tree}
 use Rattle.text.specs.Tree.Located.{at}
 use Rattle.text.specs.WellFormed.{Each, WellTimer, WellPart, WellProcess, WellDef, WellLocated, WellTree}
-use Rattle.text.specs.Questions.{Place, into, firsts, partPlaces, processPlaces, defPlaces, locatedPlaces, places, parameterCount, distinct, callMet, callsMet, boundIn, boundAt, bound}
+use Rattle.text.specs.Questions.{Place, into, firsts, partPlaces, processPlaces, defPlaces, locatedPlaces, places, parameterCount, definedOnce, callMet, callsMet, boundIn, boundAt, bound}
 use Rattle.text.proofs.Digits.{every-map}
 use Rattle.table.specs.Words.{defsIn, arityOf}
 use Rattle.table.specs.Valid.{index}
 use Rattle.table.proofs.Tests.{every-append}
 use Rattle.text_build.specs.Rows.{idsOf, timed, valueKnown, chanKnown, callKnown, partKnown, placeKnown}
 use Rattle.text_build.specs.Growth.{locListed, valueListed, partListed, placeListed}
-use Rattle.text_build.proofs.Forms.{small-same}
 use Rattle.text_build.proofs.Places.{PartFit, Fit}
 use Rattle.text_build.proofs.Numbers.{member-index}
 use Rattle.text_tree.proofs.Whole.{Whole}
@@ -62,7 +61,7 @@ mutual
   part-formed (out c t v p q) d ys f =
       and-in _ _ (timer-formed t (f .1)) (every-append formedAt (processPlaces p (suc d) ys) _ (process-formed p (suc d) ys (f .3)) (process-formed q (suc d) ys (f .4)))
   part-formed (inp c t y p q) d ys f =
-      and-in _ _ (and-in _ _ (timer-formed t (f .1)) (sym (small-same y) ∙ f .2))
+      and-in _ _ (and-in _ _ (timer-formed t (f .1)) (f .2))
       (every-append formedAt (processPlaces p (suc d) (into ys y)) _ (process-formed p (suc d) (into ys y) (f .3)) (process-formed q (suc d) ys (f .4)))
   part-formed (call x vs) d ys f = refl
 
@@ -100,7 +99,7 @@ module _ (w : List ℕ) (ys : List Name) where
       and-in _ _ (value-known v (r .0) (k .0)) (values-known vs (r .1) (k .1))
 
 -- ── places ──
-module _ (t : Tree) (w : List ℕ) (s : Whole t w) (m : parameterCount t ≤ 4) (e : distinct (t .defs) ≡ true) where
+module _ (t : Tree) (w : List ℕ) (s : Whole t w) (m : parameterCount t ≤ 4) (e : definedOnce (t .defs) ≡ true) where
   -- what the tables, reading and questions 6 and 7 say of a place
   abbrev asked : Place → Bool
   asked x = (placeListed w x && formedAt x) && (callMet (t .defs) x && boundAt x)

@@ -9,7 +9,7 @@ use lib.Seq.{sets, length-sets}
 use Rattle.terms.specs.Names.{Name}
 use Rattle.terms.specs.Terms.{Def}
 use Rattle.terms.specs.Terms.Def.{define}
-use Rattle.text.specs.Tokens.{isSmall, isIdentifier}
+use Rattle.terms.specs.Letters.{isSmall, isIdentifier}
 use Rattle.text.specs.WellFormed.{Is, Each, WellDef}
 use Rattle.text.specs.Questions.{params}
 use Rattle.table.specs.Words.{word, nameAt, arityOf, bodyOf, defName, paramsOf}

@@ -8,7 +8,7 @@ use mathlib.Core.Path.{_≡_, refl, sym, _∙_}
 use Rattle.terms.specs.Names.{Name}
 use Rattle.terms.specs.Terms.{Process}
 use Rattle.terms.specs.Terms.Value.{loc}
-use Rattle.text.specs.Tokens.{isLocation}
+use Rattle.terms.specs.Letters.{isLocation}
 use Rattle.text.specs.Tree.{Located}
 use Rattle.text.specs.Tree.Located.{at}
 use Rattle.text.specs.WellFormed.{Is, Each, WellLocated}

@@ -176,7 +176,7 @@ unfolding spotsOf componentCount T.networkOf
 count-is t = spots-count (t .located) (behind t) _
 
 -- ── the network ──
-module _ (t : Tree) (l : Within t) (f : WellTree t) (z : word (scriptOf t) 4 ≡ 0) (e : Q.distinct (t .defs) ≡ true) (k : every (placeKnown (scriptOf t)) (places t) ≡ true)
+module _ (t : Tree) (l : Within t) (f : WellTree t) (z : word (scriptOf t) 4 ≡ 0) (e : Q.definedOnce (t .defs) ≡ true) (k : every (placeKnown (scriptOf t)) (places t) ≡ true)
     (st : State) (n : st .n ≡ length (spotsOf t)) (c : take (st .n) (st .c) ≡ map (compOf (scriptOf t)) (spotsOf t)) where
   good : scriptOk (scriptOf t) ≡ true
   good = script-ok t (scriptOf t) (whole t l f z) f l e k

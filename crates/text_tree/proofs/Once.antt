@@ -14,25 +14,19 @@ use Rattle.terms.specs.Terms.Process.{one, _∥_}
 use Rattle.terms.specs.Terms.Def.{define}
 use Rattle.terms.specs.Same.{every}
 use Rattle.terms.proofs.Names.{and-inv, and-in}
-use Rattle.text.specs.Tokens.{member, isLocation, isSmall}
+use Rattle.terms.specs.Letters.{member, isLocation, isSmall, distinct}
+use Rattle.terms.specs.Rules.{some}
 use Rattle.text.specs.Tree.{Located, Tree}
 use Rattle.text.specs.Tree.Located.{at}
 use Rattle.text.specs.WellFormed.{Each, WellValue, WellPart, WellProcess, WellDef, WellLocated, WellTree}
-use Rattle.text.specs.Questions.{Place, into, firsts, partPlaces, processPlaces, defPlaces, locatedPlaces, places, channelsAt, locOf, locationsAt, locatedNames, channels, locations, differ}
+use Rattle.text.specs.Questions.{Place, into, firsts, partPlaces, processPlaces, defPlaces, locatedPlaces, places, channelsAt, locOf, locationsAt, locatedNames, channels, locations}
 use Rattle.text.proofs.Gives.{each-append}
-use Rattle.table.specs.Valid.{distinct}
 use Rattle.table.proofs.Names.{name-sym}
 use Rattle.table.proofs.Tests.{every-append}
-use Rattle.text_build.proofs.Forms.{member-same}
 
 -- ── held once ──
-pub differ-same : (xs : List Name) → distinct xs ≡ differ xs
-unfolding distinct differ
-differ-same [] = refl
-differ-same (x ∷ xs) = rw (member-same x xs, differ-same xs)
-
 member-append : (x : Name) (xs ys : List Name) → member x (xs ++ ys) ≡ (member x xs || member x ys)
-unfolding member
+unfolding member some
 member-append x [] ys = refl
 member-append x (z ∷ xs) ys = rw (member-append x xs ys) (go (sameName x z))
   where
@@ -48,8 +42,8 @@ not-in : (b : Bool) → b ≡ false → not b ≡ true
 not-in b e = rw e
 
 -- a name behind those before it
-differ-snoc : (xs : List Name) (x : Name) → member x xs ≡ false → differ xs ≡ true → differ (xs ++ (x ∷ [])) ≡ true
-unfolding differ member
+differ-snoc : (xs : List Name) (x : Name) → member x xs ≡ false → distinct xs ≡ true → distinct (xs ++ (x ∷ [])) ≡ true
+unfolding distinct member some
 differ-snoc [] x m e = refl
 differ-snoc (y ∷ xs) x m e =
     let r = or-none (sameName x y) (member x xs) m in
@@ -59,21 +53,21 @@ differ-snoc (y ∷ xs) x m e =
     let o : member y (xs ++ (x ∷ [])) ≡ false = member-append y xs (x ∷ []) ∙ rw (n, s) in
     and-in _ _ (not-in (member y (xs ++ (x ∷ []))) o) (differ-snoc xs x (r .1) (d .1))
 
-into-differ : (xs : List Name) (x : Name) → differ xs ≡ true → differ (into xs x) ≡ true
+into-differ : (xs : List Name) (x : Name) → distinct xs ≡ true → distinct (into xs x) ≡ true
 into-differ xs x e = go (member x xs) refl
   where
-    go : (b : Bool) → member x xs ≡ b → differ (cond b xs (xs ++ (x ∷ []))) ≡ true
+    go : (b : Bool) → member x xs ≡ b → distinct (cond b xs (xs ++ (x ∷ []))) ≡ true
     go true m = e
     go false m = differ-snoc xs x m e
 
-pub firsts-differ : (xs ys : List Name) → differ ys ≡ true → differ (firsts ys xs) ≡ true
+pub firsts-differ : (xs ys : List Name) → distinct ys ≡ true → distinct (firsts ys xs) ≡ true
 unfolding firsts
 firsts-differ [] ys e = e
 firsts-differ (x ∷ xs) ys e = firsts-differ xs (into ys x) (into-differ ys x e)
 
 -- of different names, one that follows others is none of them
-pub differ-none : (xs : List Name) (x : Name) (ys : List Name) → differ (xs ++ (x ∷ ys)) ≡ true → member x xs ≡ false
-unfolding differ member
+pub differ-none : (xs : List Name) (x : Name) (ys : List Name) → distinct (xs ++ (x ∷ ys)) ≡ true → member x xs ≡ false
+unfolding distinct member some
 differ-none [] x ys e = refl
 differ-none (z ∷ xs) x ys e =
     let d = and-inv (not (member z (xs ++ (x ∷ ys)))) _ e in
@@ -181,10 +175,10 @@ module _ (t : Tree) (f : WellTree t) where
   unfolding channels places every
   channels-well = firsts-every isSmall _ [] refl (channels-form _ (well-append (flatMap defPlaces (t .defs)) _ (defs-well (t .defs) (f .defs-well)) (located-well (t .located) (f .located-well))))
 
-  pub locations-differ : differ (locations t) ≡ true
-  unfolding locations differ
+  pub locations-differ : distinct (locations t) ≡ true
+  unfolding locations distinct
   locations-differ = firsts-differ _ [] refl
 
-  pub channels-differ : differ (channels t) ≡ true
-  unfolding channels differ
+  pub channels-differ : distinct (channels t) ≡ true
+  unfolding channels distinct
   channels-differ = firsts-differ _ [] refl

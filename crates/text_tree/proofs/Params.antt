@@ -12,9 +12,9 @@ use lib.Seq.{length-take-le, take-suc-set}
 use Rattle.terms.specs.Names.{Name}
 use Rattle.terms.specs.Same.{every}
 use Rattle.terms.proofs.Names.{and-in}
-use Rattle.text.specs.Tokens.{member}
+use Rattle.terms.specs.Letters.{member, distinct}
 use Rattle.text.specs.WellFormed.{Each}
-use Rattle.text.specs.Questions.{into, firsts, differ}
+use Rattle.text.specs.Questions.{into, firsts}
 use Rattle.table.specs.Words.{word, nameAt, arityOf, paramsAt}
 use Rattle.table.specs.Meaning.{listFrom}
 use Rattle.table.specs.Tests.{rowName}
@@ -142,7 +142,7 @@ module _ (w : List ℕ) (k : ℕ) (c : k < 32) where
   abbrev spread : ℕ → ℕ → List ℕ
   spread j m = listFrom j m (λ q. 14 + k * 24 + q * 4)
 
-  params-apart : (m j : ℕ) (sc : Scope) (ys : List Name) → Scoped w sc j ys → j + m ≤ 4 → differ (ys ++ listFrom j m (rowName w (14 + k * 24) 4)) ≡ true
+  params-apart : (m j : ℕ) (sc : Scope) (ys : List Name) → Scoped w sc j ys → j + m ≤ 4 → distinct (ys ++ listFrom j m (rowName w (14 + k * 24) 4)) ≡ true
       → offsets (paramsFrom w k j m sc) ≡ offsets sc ++ spread j m
   unfolding paramsFrom listFrom rowName
   params-apart zero j sc ys s h e = sym (append-nil (offsets sc))
@@ -190,7 +190,7 @@ module _ (w : List ℕ) (x : Name) (us : List Name) (k i : ℕ) (c : k < 32) (fe
       rw (a, b) (params-same w k c v e (length us) 0 noScope [] (none-scoped w) (omega arith))
 
   -- different parameters: the scope is where they stand
-  pub param-offsets : differ us ≡ true → offsets (paramScope w k) ≡ paramsAt w k
+  pub param-offsets : distinct us ≡ true → offsets (paramScope w k) ≡ paramsAt w k
   unfolding paramScope paramsAt
   param-offsets d =
       let e : listFrom 0 (length us) (rowName w (14 + k * 24) 4) ≡ us = sym (params-names w k (length us) (sym (h .arity)) few) ∙ h .params in

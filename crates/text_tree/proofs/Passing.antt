@@ -11,39 +11,36 @@ use Rattle.terms.specs.Names.{Name}
 use Rattle.terms.specs.Terms.{Process, Def}
 use Rattle.terms.specs.Terms.Def.{define}
 use Rattle.terms.specs.Same.{every}
-use Rattle.terms.specs.Letters as L
 use Rattle.terms.proofs.Names.{and-inv, and-in}
-use Rattle.text.specs.Tokens.{isLocation, isSmall, isIdentifier}
+use Rattle.terms.specs.Letters.{isLocation, isSmall, isIdentifier, distinct}
 use Rattle.text.specs.Tree.{Located, Tree}
 use Rattle.text.specs.Tree.Located.{at}
 use Rattle.text.specs.WellFormed.{Is, Each, WellDef, WellTree}
 use Rattle.text.specs.Questions as Q
-use Rattle.text.specs.Questions.{params, identifier, differ, defPlaces, locatedPlaces, places, partCount, definitionCount}
+use Rattle.text.specs.Questions.{params, identifier, defPlaces, locatedPlaces, places, partCount, definitionCount}
 use Rattle.table.specs.Words.{word, partsIn, locsIn, chansIn, defsIn, locName, chanName, defName, bodyOf}
 use Rattle.table.specs.Meaning.{listFrom, processAt, defOf, defsOf}
-use Rattle.table.specs.Valid.{below, distinct, sortOk, defOk, partOk, scriptOk}
+use Rattle.table.specs.Valid.{below, sortOk, defOk, partOk, scriptOk}
 use Rattle.table.specs.Size.{sizeP}
 use Rattle.table.proofs.ValidLists.{below-all, alike-all}
 use Rattle.text_build.specs.Rows.{locsOf, chansOf, scopeNames, placeKnown}
 use Rattle.text_build.specs.Put.{offsets}
-use Rattle.text_build.proofs.Forms.{location-same, small-same, identifier-same}
 use Rattle.text_build.proofs.Places.{Fit, every-split, sizeP-some}
 use Rattle.text_build.proofs.RowWords.{side}
 use Rattle.text_build.proofs.Stands.{process-means}
 use Rattle.text_build.proofs.Passes.{stands-scope, pass}
-use Rattle.text_build.proofs.Puts.{every-also}
 use Rattle.text_tree.specs.Pass.{Within, paramScope, top, behind}
 use Rattle.text_tree.proofs.Whole.{Whole, DefStands, DefsStand, AllStand}
 use Rattle.text_tree.proofs.Sizes.{sizeDefs, sizeLocated, parts-are, behind-is}
-use Rattle.text_tree.proofs.Once.{differ-same, locations-well, channels-well, locations-differ, channels-differ}
+use Rattle.text_tree.proofs.Once.{locations-well, channels-well, locations-differ, channels-differ}
 use Rattle.text_tree.proofs.Heads.{HeadStands, FewParams}
 use Rattle.text_tree.proofs.Params.{param-offsets}
 use Rattle.text_tree.proofs.Reading.{few-params}
 
 -- ── names ──
-sort-ok : (f g : Name → Bool) → ((x : Name) → f x ≡ g x) → (xs : List Name) → every f xs ≡ true → differ xs ≡ true → sortOk g xs ≡ true
+sort-ok : (f : Name → Bool) (xs : List Name) → every f xs ≡ true → distinct xs ≡ true → sortOk f xs ≡ true
 unfolding sortOk
-sort-ok f g e xs a b = and-in _ _ (every-also f g (λ x h. sym (e x) ∙ h) xs a) (differ-same xs ∙ b)
+sort-ok f xs a b = and-in _ _ a b
 
 ids-are : (w : List ℕ) (ds : List Def) (k i : ℕ) → DefsStand w ds k i → listFrom k (length ds) (defName w) ≡ map identifier ds
 unfolding listFrom
@@ -57,10 +54,10 @@ unfolding every
 ids-form [] f = refl
 ids-form (define x us p ∷ ds) f = and-in _ _ (f .0 .0) (ids-form ds (f .1))
 
-small-form : (us : List Name) → Each (Is isSmall) us → every L.isSmall us ≡ true
+small-form : (us : List Name) → Each (Is isSmall) us → every isSmall us ≡ true
 unfolding every
 small-form [] f = refl
-small-form (u ∷ us) f = and-in _ _ (sym (small-same u) ∙ f .0) (small-form us (f .1))
+small-form (u ∷ us) f = and-in _ _ (f .0) (small-form us (f .1))
 
 module _ (w : List ℕ) (few : locsIn w ≤ 64) where
   -- ── definitions ──
@@ -103,30 +100,30 @@ module _ (w : List ℕ) (few : locsIn w ≤ 64) where
       (λ h. pass w few p i 1 [] (d .0 .stands) (d .0 .room) (omega arith) (s .0) refl j (omega arith) (omega arith))
 
   -- one definition: different parameters, at most 4, which are what is in scope in its body
-  def-ok : (x : Name) (us : List Name) (p : Process) (k i : ℕ) → k < 32 → length us ≤ 4 → i < partsIn w → WellDef (define x us p) → differ us ≡ true → DefStands w x us p k i → defOk w k ≡ true
+  def-ok : (x : Name) (us : List Name) (p : Process) (k i : ℕ) → k < 32 → length us ≤ 4 → i < partsIn w → WellDef (define x us p) → distinct us ≡ true → DefStands w x us p k i → defOk w k ≡ true
   unfolding defOk
   def-ok x us p k i c n b f e d =
       let h : HeadStands w x us k i = record { name = d .name; arity = d .arity; body = d .body; params = d .params } in
       rw (stands-scope w p (bodyOf w k) (offsets (paramScope w k)) (rw (d .body) (d .stands)), param-offsets w x us k i c n h e, d .arity, d .body, d .params)
-      (and-in _ _ (le-leb (length us) 4 n) (and-in _ _ (lt-ltb i (partsIn w) b) (and-in _ _ (alike-all _ _ refl (λ m q. refl)) (and-in _ _ (small-form us (f .1)) (differ-same us ∙ e)))))
+      (and-in _ _ (le-leb (length us) 4 n) (and-in _ _ (lt-ltb i (partsIn w) b) (and-in _ _ (alike-all _ _ refl (λ m q. refl)) (and-in _ _ (small-form us (f .1)) e))))
 
-  defs-ok : (ds : List Def) (k i n : ℕ) → i ≡ n - 1 → sizeDefs ds ≤ n → n ≤ partsIn w → k + length ds ≤ 32 → FewParams ds → Each WellDef ds → every (λ d. differ (params d)) ds ≡ true
+  defs-ok : (ds : List Def) (k i n : ℕ) → i ≡ n - 1 → sizeDefs ds ≤ n → n ≤ partsIn w → k + length ds ≤ 32 → FewParams ds → Each WellDef ds → every (λ d. distinct (params d)) ds ≡ true
       → DefsStand w ds k i
       → (j : ℕ) → j < length ds → defOk w (k + j) ≡ true
   unfolding sizeDefs every
   defs-ok [] k i n q z t c m f e d j h = absurd (omega arith)
   defs-ok (define x us p ∷ ds) k i n q z t c m f e d zero h =
       let r = sizeP-some p in
-      let s = and-inv (differ us) _ e in
+      let s = and-inv (distinct us) _ e in
       let y : k + 0 ≡ k = omega arith in
       rw y (def-ok x us p k i (omega arith) (m .0) (omega arith) (f .0) (s .0) (d .0))
   defs-ok (define x us p ∷ ds) k i n q z t c m f e d (suc j) h =
-      let s = and-inv (differ us) _ e in
+      let s = and-inv (distinct us) _ e in
       let y : k + suc j ≡ k + 1 + j = omega arith in
       rw y (defs-ok ds (k + 1) (i - sizeP p) (n - sizeP p) (omega arith) (omega arith) (omega arith) (omega arith) (m .1) (f .1) (s .1) (d .1) j (omega arith))
 
 -- ── the whole script ──
-module _ (t : Tree) (w : List ℕ) (h : Whole t w) (f : WellTree t) (l : Within t) (e : Q.distinct (t .defs) ≡ true) (k : every (placeKnown w) (places t) ≡ true) where
+module _ (t : Tree) (w : List ℕ) (h : Whole t w) (f : WellTree t) (l : Within t) (e : Q.definedOnce (t .defs) ≡ true) (k : every (placeKnown w) (places t) ≡ true) where
   pub known-defs : every (placeKnown w) (flatMap defPlaces (t .defs)) ≡ true
   unfolding places
   known-defs = every-split (placeKnown w) (flatMap defPlaces (t .defs)) _ k .0
@@ -143,25 +140,25 @@ module _ (t : Tree) (w : List ℕ) (h : Whole t w) (f : WellTree t) (l : Within 
   unfolding Q.parameterCount
   params-few = few-params (t .defs) (l .parameters)
 
-  locs-ok : sortOk L.isLocation (listFrom 0 (locsIn w) (locName w)) ≡ true
+  locs-ok : sortOk isLocation (listFrom 0 (locsIn w) (locName w)) ≡ true
   unfolding locsOf
-  locs-ok = let q : listFrom 0 (locsIn w) (locName w) ≡ Q.locations t = h .locs in rw q (sort-ok isLocation L.isLocation location-same (Q.locations t) (locations-well t f) (locations-differ t f))
+  locs-ok = let q : listFrom 0 (locsIn w) (locName w) ≡ Q.locations t = h .locs in rw q (sort-ok isLocation (Q.locations t) (locations-well t f) (locations-differ t f))
 
-  chans-ok : sortOk L.isSmall (listFrom 0 (chansIn w) (chanName w)) ≡ true
+  chans-ok : sortOk isSmall (listFrom 0 (chansIn w) (chanName w)) ≡ true
   unfolding chansOf
-  chans-ok = let q : listFrom 0 (chansIn w) (chanName w) ≡ Q.channels t = h .chans in rw q (sort-ok isSmall L.isSmall small-same (Q.channels t) (channels-well t f) (channels-differ t f))
+  chans-ok = let q : listFrom 0 (chansIn w) (chanName w) ≡ Q.channels t = h .chans in rw q (sort-ok isSmall (Q.channels t) (channels-well t f) (channels-differ t f))
 
-  ids-ok : sortOk L.isIdentifier (listFrom 0 (defsIn w) (defName w)) ≡ true
-  unfolding Q.distinct
+  ids-ok : sortOk isIdentifier (listFrom 0 (defsIn w) (defName w)) ≡ true
+  unfolding Q.definedOnce
   ids-ok =
-      let s = and-inv (differ (map identifier (t .defs))) _ e in
+      let s = and-inv (distinct (map identifier (t .defs))) _ e in
       let q : listFrom 0 (defsIn w) (defName w) ≡ map identifier (t .defs) = ap (λ n. listFrom 0 n (defName w)) defs-count ∙ ids-are w (t .defs) 0 (top t) (h .bodies) in
-      rw q (sort-ok isIdentifier L.isIdentifier identifier-same (map identifier (t .defs)) (ids-form (t .defs) (f .defs-well)) (s .0))
+      rw q (sort-ok isIdentifier (map identifier (t .defs)) (ids-form (t .defs) (f .defs-well)) (s .0))
 
   each-def : below (defsIn w) (defOk w) ≡ true
-  unfolding Q.distinct
+  unfolding Q.definedOnce
   each-def =
-      let s = and-inv (differ (map identifier (t .defs))) _ e in
+      let s = and-inv (distinct (map identifier (t .defs))) _ e in
       let z = parts-are t in
       let p = h .parts in
       let m = h .making .defs in

@@ -14,7 +14,7 @@ use Rattle.terms.specs.Terms.{Timer, Value, Part, Process}
 use Rattle.terms.specs.Terms.Value.{loc, var}
 use Rattle.terms.specs.Terms.Part.{stop, go, out, inp, call}
 use Rattle.terms.specs.Terms.Process.{one, _∥_}
-use Rattle.text.specs.Tokens.{member, isLocation, isSmall}
+use Rattle.terms.specs.Letters.{member, isLocation, isSmall}
 use Rattle.text.specs.WellFormed.{Is, Each, WellValue, WellPart}
 use Rattle.text.specs.Questions.{Place, into, firsts, locOf, processPlaces, locationsAt, channelsAt}
 use Rattle.table.specs.declared.Key.{Key}

@@ -5,11 +5,12 @@ use mathlib.Core.Bool.{Bool, true, _&&_}
 use lib.Dec.{eqb, ltb}
 use lib.ListN.{getD, take}
 use Rattle.terms.specs.Same.{every}
+use Rattle.terms.specs.Letters.{distinct}
 use Rattle.table.specs.declared.Head.{Head}
 use Rattle.table.specs.declared.Head.the-variants.{Stop, Go, Out, In, Call}
 use Rattle.table.specs.declared.Comp.{Comp}
 use Rattle.table.specs.Words.{word, partsIn, defsIn, arityOf, paramsOf, field, headAt}
-use Rattle.table.specs.Valid.{below, distinct}
+use Rattle.table.specs.Valid.{below}
 use Rattle.text_build.specs.Rows.{idsOf}
 
 -- ── 4: no table of names and no scope was too small ──

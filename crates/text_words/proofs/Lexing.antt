@@ -9,8 +9,8 @@ use borrow.Author.Tests.{ne-eqb}
 use lib.ListN.{length}
 use Rattle.terms.specs.Names.{Name}
 use Rattle.terms.specs.Same.{every}
-use Rattle.text.specs.Characters.{Class, classOf, isBlank, alnum, isAlnum}
-use Rattle.text.specs.Characters.Class.{capital, small, digit, bracket, blank, other}
+use Rattle.terms.specs.Characters.Class.{capital, small, digit, bracket, blank, other}
+use Rattle.terms.specs.Characters.{Class, classOf, isBlank, alnum, isAlnum}
 use Rattle.text.specs.Tokens.{Token, flush, step, lexFrom, lex}
 use Rattle.text.specs.Tokens.Token.{word, sign}
 use Rattle.text.specs.Grammar.{the, aWord, end}

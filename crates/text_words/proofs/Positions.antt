@@ -12,7 +12,7 @@ use lib.ListN.{length, take, drop, getD, drop-of-length-le, length-drop, length-
 use lib.Seq.{drop-cons, take-suc, getD-drop}
 use Rattle.terms.specs.Names.{Name, sameName}
 use Rattle.terms.specs.Same.{every}
-use Rattle.text.specs.Characters.{classOf, isBlank, isAlnum}
+use Rattle.terms.specs.Characters.{classOf, isBlank, isAlnum}
 use Rattle.text.specs.Tokens.{Token, lex, lexFrom, flush, numberFrom, plain}
 use Rattle.text.specs.Grammar.{Rest, the, aWord, named, end}
 use Rattle.text.specs.Grammar.Rest.{ok, bad}

@@ -5,17 +5,20 @@ use native.Mathlib.Omega.{arith}
 use mathlib.Core.Bool.{Bool, true, false, cond, _&&_, _||_, not, false≢true}
 use mathlib.Core.List.{[], _∷_}
 use mathlib.Core.Path.{_≡_, refl, sym, ap, _∙_}
-use borrow.Author.Tests.{le-leb, lt-leb}
+use borrow.Author.Tests.{le-leb}
 use lib.Dec.{leb}
 use lib.ListN.{length, getD}
 use Rattle.terms.specs.Names.{Name, bytes, sameName}
 use Rattle.terms.specs.Same.{every}
-use Rattle.text.specs.Characters.{Class, classOf, isCapital, isLower, isLetter, isDigit, isAlnum}
-use Rattle.text.specs.Characters.Class.{capital, small, digit, bracket, blank, other}
-use Rattle.text.specs.Tokens.{tokenwise, member, reserved, firstIs, isName, isSmall, isLocation, isIdentifier, isTicks, plain, number}
+use Rattle.terms.specs.Characters.Class.{capital, small, digit, bracket, blank, other}
+use Rattle.text.specs.Tokens.{tokenwise, isTicks, plain, number}
 use Rattle.text.specs.Grammar.{headOf, grammar}
 use Rattle.text.specs.Grammar.Head.{calls, nothing}
 use Rattle.terms.proofs.Names.{and-inv}
+use Rattle.terms.specs.Characters.{Class, classOf, isCapital, isLower, isLetter, isDigit, isAlnum}
+use Rattle.terms.specs.Rules.{some}
+use Rattle.terms.specs.Letters.{member, reserved, firstIs, isName, isSmall, isLocation, isIdentifier}
+use Rattle.terms.proofs.Letters.{name-form, no-name, no-long}
 use Rattle.text.proofs.Exact.{same-eq}
 use Rattle.text.proofs.ReadBack.{identifier-calls}
 use Rattle.text_words.specs.declared.Sort.{Sort}
@@ -82,12 +85,6 @@ first-apart : {p q : Class → Bool} → Apart p q → (w : Name) → firstIs p 
 first-apart a [] e = refl
 first-apart a (b ∷ w) e = a (classOf b) e
 
-name-first : (p : Class → Bool) (w : Name) → isName p w ≡ true → firstIs p w ≡ true
-name-first p w e = and-inv (firstIs p w) _ (and-inv (firstIs p w && every isAlnum w) _ (and-inv (firstIs p w && every isAlnum w && leb (length w) 16) _ e .0) .0) .0
-
-no-name : (p : Class → Bool) (w : Name) → firstIs p w ≡ false → isName p w ≡ false
-no-name p w e = rw e
-
 no-small : (w : Name) → firstIs isLower w ≡ false → isSmall w ≡ false
 unfolding isSmall
 no-small w e = no-name isLower w e
@@ -121,7 +118,7 @@ differs p w k e g = go (sameName w k) refl
 
 -- ── identifiers are the names that begin small and the locations ──
 pub identifier-is : (w : Name) → isIdentifier w ≡ (isSmall w || isLocation w)
-unfolding isIdentifier isSmall isLocation
+unfolding isName isIdentifier isSmall isLocation
 identifier-is [] = refl
 identifier-is (b ∷ w) = go (classOf b) (every isAlnum (b ∷ w)) (leb (length (b ∷ w)) 16) (not (member (b ∷ w) reserved))
   where
@@ -129,9 +126,9 @@ identifier-is (b ∷ w) = go (classOf b) (every isAlnum (b ∷ w)) (leb (length 
     or-false true = refl
     or-false false = refl
 
-    go : (k : Class) (x y z : Bool) → (isLetter k && x && y && z) ≡ ((isLower k && x && y && z) || (isCapital k && x && y && z))
+    go : (k : Class) (x y z : Bool) → (isLetter k && (x && (y && z))) ≡ ((isLower k && (x && (y && z))) || (isCapital k && (x && (y && z))))
     go capital x y z = refl
-    go small x y z = or-false (x && y && z)
+    go small x y z = or-false (x && (y && z))
     go digit x y z = refl
     go bracket x y z = refl
     go blank x y z = refl
@@ -172,11 +169,11 @@ view w = go (sameName w (bytes "stop")) (sameName w (bytes "go")) (sameName w (b
 -- ── agreement with the grammar's tests ──
 small-first : (w : Name) → isSmall w ≡ true → firstIs isLower w ≡ true
 unfolding isSmall
-small-first w e = name-first isLower w e
+small-first w e = name-form isLower w e .first
 
 pub location-first : (w : Name) → isLocation w ≡ true → firstIs isCapital w ≡ true
 unfolding isLocation
-location-first w e = name-first isCapital w e
+location-first w e = name-form isCapital w e .first
 
 pub small-not-capital : (w : Name) → isSmall w ≡ true → firstIs isCapital w ≡ false
 small-not-capital w e = first-apart lower-capital w (small-first w e)
@@ -314,7 +311,7 @@ module _ (w : Name) (f : firstIs isLower w ≡ true)
     (q1 : sameName w (bytes "stop") ≡ false) (q2 : sameName w (bytes "go") ≡ false) (q3 : sameName w (bytes "out") ≡ false)
     (q4 : sameName w (bytes "in") ≡ false) (q5 : sameName w (bytes "inf") ≡ false) where
   pub small-name : every isAlnum w ≡ true → length w ≤ 16 → Small ≡ sortOf w
-  unfolding sortOf isSmall member classOf
+  unfolding sortOf isSmall isName member some classOf
   small-name a h = rw (q1, q2, q3, q4, q5, f, a, le-leb (length w) 16 h, differs isLower w (bytes "S") f refl)
 
   pub small-long : 16 < length w → Other ≡ sortOf w
@@ -322,19 +319,14 @@ module _ (w : Name) (f : firstIs isLower w ≡ true)
   small-long h = rw (q1, q2, q3, q4, q5, long, no-location w (first-apart lower-capital w f), no-ticks w (first-apart lower-digit w f))
     where
       long : isSmall w ≡ false
-      long = unfold isSmall in rw (lt-leb (length w) 16 h) (go (firstIs isLower w) (every isAlnum w) (not (member w reserved)))
-        where
-          go : (a b c : Bool) → (a && b && false && c) ≡ false
-          go true true c = refl
-          go true false c = refl
-          go false b c = refl
+      long = unfold isSmall in no-long isLower w h
 
 module _ (w : Name) (f : firstIs isCapital w ≡ true) where
   pub capital-reserved : sameName w (bytes "S") ≡ true → Other ≡ sortOf w
   capital-reserved e = unfold tokenwise sortOf in sym (ap sortOf (same-eq w _ e))
 
   pub capital-name : every isAlnum w ≡ true → sameName w (bytes "S") ≡ false → length w ≤ 16 → Location ≡ sortOf w
-  unfolding sortOf isLocation member
+  unfolding sortOf isLocation isName member some
   capital-name a e h =
       let q = no-keyword w isCapital f refl in
       rw (q .0, q .1, q .2, q .3, q .4, no-small w (first-apart capital-lower w f), f, a, le-leb (length w) 16 h, e)
@@ -346,12 +338,7 @@ module _ (w : Name) (f : firstIs isCapital w ≡ true) where
       rw (q .0, q .1, q .2, q .3, q .4, no-small w (first-apart capital-lower w f), long, no-ticks w (first-apart capital-digit w f))
     where
       long : isLocation w ≡ false
-      long = unfold isLocation in rw (lt-leb (length w) 16 h) (go (firstIs isCapital w) (every isAlnum w) (not (member w reserved)))
-        where
-          go : (a b c : Bool) → (a && b && false && c) ≡ false
-          go true true c = refl
-          go true false c = refl
-          go false b c = refl
+      long = unfold isLocation in no-long isCapital w h
 
 module _ (w : Name) (f : firstIs isDigit w ≡ true) where
   digit-sorts : sortOf w ≡ cond (isTicks w) Ticks Other

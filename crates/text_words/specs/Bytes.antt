@@ -6,7 +6,7 @@ use mathlib.Core.Path.{_≡_}
 use lib.Dec.{eqb, leb}
 use lib.ListN.{length, take, drop}
 use Rattle.terms.specs.Names.{Name}
-use Rattle.text.specs.Characters.{classOf, isBlank, isAlnum, isDigit}
+use Rattle.terms.specs.Characters.{classOf, isBlank, isAlnum, isDigit}
 use Rattle.text.specs.Tokens.{lex, number}
 use Rattle.text.specs.Grammar.{Rest, Reader, the}
 use Rattle.text.specs.Grammar.Rest.{ok, bad}

@@ -1,9 +1,10 @@
 -- What the code's classes, sorts and fields stand for, in the definitions of `text`.
 use mathlib.Core.Bool.{Bool, true, false, cond, _||_}
 use Rattle.terms.specs.Names.{Name, bytes, sameName}
-use Rattle.text.specs.Characters.{Class}
-use Rattle.text.specs.Characters.Class.{capital, small, digit, bracket, blank, other}
-use Rattle.text.specs.Tokens.{isSmall, isLocation, isIdentifier, isTicks}
+use Rattle.terms.specs.Characters.Class.{capital, small, digit, bracket, blank, other}
+use Rattle.terms.specs.Characters.{Class}
+use Rattle.terms.specs.Letters.{isSmall, isLocation, isIdentifier}
+use Rattle.text.specs.Tokens.{isTicks}
 use Rattle.text.specs.Grammar.{Head}
 use Rattle.text.specs.Grammar.Head.{stops, goes, sends, receives, calls, nothing}
 use Rattle.text_words.specs.declared.Class.the-variants as class

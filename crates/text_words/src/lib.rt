@@ -15,11 +15,15 @@ ghost use Prim.Native.Nat.{_<_, _-_};
 ghost use lib.ListN.{drop};
 ghost use Rattle.terms.specs.Names.{sameName};
 ghost use Rattle.terms.specs.Same.{every};
-ghost use Rattle.text.specs.Characters.{classOf, isBlank, isAlnum, isDigit, isLower, isCapital};
-ghost use Rattle.text.specs.Tokens.{lex, plain, firstIs};
+ghost use Rattle.terms.specs.Characters.{classOf, isAlnum, isDigit, isLower, isCapital};
+ghost use Rattle.terms.specs.Letters.{firstIs};
+ghost use Rattle.text.specs.Tokens.{lex, plain};
 ghost use Rattle.text.specs.Grammar.{the, named};
 ghost use Rattle.text_words.specs.Bytes.{afterBlanks, Run, Counted, IsSign, ended, skim, digitAt};
 ghost use Rattle.text_words.specs.Sorts.{classIs, sortOf, suitsOf, fits};
+use terms::characters::is_alnum;
+use terms::characters::is_blank;
+use terms::characters::is_digit;
 
 // ---- bytes ----
 // A byte's class, by ranges.
@@ -42,36 +46,6 @@ pub fn class_of(b: u8) -> Class
         b'(' | b')' | b'[' | b']' => Class::Bracket,
         b' ' | b'\n' => Class::Blank,
         _ => Class::Other,
-    }
-}
-
-pub fn is_blank(b: u8) -> bool
-    ensures { λ r. ⌜ r ≡ isBlank (classOf b) ⌝ }
-{
-    match b {
-        b' ' | b'\n' => true,
-        _ => false,
-    }
-}
-
-// By the three ranges alone: this runs for each byte of a word.
-pub fn is_alnum(b: u8) -> bool
-    ensures { λ r. ⌜ r ≡ isAlnum b ⌝ }
-{
-    match b {
-        b'A'..=b'Z' => true,
-        b'a'..=b'z' => true,
-        b'0'..=b'9' => true,
-        _ => false,
-    }
-}
-
-pub fn is_digit(b: u8) -> bool
-    ensures { λ r. ⌜ r ≡ digitAt b ⌝ }
-{
-    match b {
-        b'0'..=b'9' => true,
-        _ => false,
     }
 }
 

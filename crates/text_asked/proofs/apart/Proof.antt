@@ -5,9 +5,9 @@ use mathlib.Core.List.{List}
 use mathlib.Core.Path.{_≡_, ap, _∙_}
 use mathlib.Core.Bool.{true, false}
 use borrow.Author.Needs.{needs}
+use Rattle.terms.specs.Letters.{distinct}
 use Rattle.table.specs.Words.{defsIn, defName}
 use Rattle.table.specs.Meaning.{listFrom}
-use Rattle.table.specs.Valid.{distinct}
 use Rattle.table.specs.Tests.{rowName}
 use Rattle.table.proofs.ValidBool.{failed, passed}
 use Rattle.text_build.specs.Rows.{idsOf}

@@ -6,8 +6,8 @@ use mathlib.Core.Path.{_≡_, sym, _∙_}
 use mathlib.Core.Bool.{true}
 use borrow.Author.Needs.{needs}
 use borrow.Author.Count.{below-none, below-more}
+use Rattle.terms.specs.Letters.{distinct}
 use Rattle.table.specs.Words.{defsIn, paramsOf}
-use Rattle.table.specs.Valid.{distinct}
 use Rattle.table.proofs.ValidLists.{below-all, below-miss}
 use Rattle.table.proofs.ValidBool.{failed, passed}
 use Rattle.text_asked.proofs.each_apart.Statement.{statement}

@@ -3,8 +3,8 @@
 use native.Mathlib.Omega.{arith}
 use mathlib.Core.Path.{_≡_, ap, sym, _∙_}
 use borrow.Author.Needs.{needs}
+use Rattle.terms.specs.Letters.{distinct}
 use Rattle.table.specs.Words.{arityOf}
-use Rattle.table.specs.Valid.{distinct}
 use Rattle.table.proofs.ValidDefs.{params-names}
 use Rattle.text_asked.proofs.Rows.{params-four}
 use Rattle.text_asked.proofs.params_apart.Statement.{statement}

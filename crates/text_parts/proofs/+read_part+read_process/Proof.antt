@@ -5,7 +5,6 @@ use borrow.Author.Needs.{needs}
 use mathlib.Core.Path.{refl, sym, ap, subst, _∙_}
 use Prim.Native.Nat.{_+_, _*_, _-_, _≤_}
 use lib.ListN.{length}
-use Rattle.text.specs.Characters.{classOf}
 use Rattle.text.specs.Tokens.{lexFrom, bar}
 use Rattle.text.specs.Grammar.{the}
 use Rattle.text_parts.specs.Openings.{single, double}
@@ -14,6 +13,7 @@ use Rattle.text_parts.proofs.Cycle.{opening-falls, part-wrong, part-lea
 use Prim.Native.Nat.{ℕ, _<_}
 use borrow.Fn.Kinds.{In}
 use borrow.Fn.PlainCycle.{Measures, is, falls, and}
+use Rattle.terms.specs.Characters.{classOf}
 use Rattle.text_parts.proofs.read_part.Reads as read-part
 use Rattle.text_parts.proofs.read_part.Kinds as read-part-kinds
 use Rattle.text_parts.proofs.+read_part+read_process.Lts-read_part as read-part-lts

@@ -2,9 +2,9 @@
 -- By what the callees ensure, field by field.
 use mathlib.Core.Path.{refl}
 use Rattle.text.specs.Tokens.{lexFrom}
-use Rattle.text.specs.Characters.{classOf}
 use Rattle.text_parts.proofs.Cycle.{closed-is}
 use borrow.Author.Needs.{needs}
+use Rattle.terms.specs.Characters.{classOf}
 use Rattle.text_parts.proofs.closed.Statement.{statement}
 use Rattle.text_parts.proofs.closed.Tie as tie
 

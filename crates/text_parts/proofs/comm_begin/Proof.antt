@@ -3,14 +3,15 @@
 use mathlib.Core.Path.{refl}
 use lib.ListN.{drop}
 use Rattle.text.specs.Tokens.{lex, lexFrom}
-use Rattle.text.specs.Characters.{classOf}
-use Rattle.text.specs.Tokens.{opens, isSmall}
+use Rattle.text.specs.Tokens.{opens}
 use Rattle.text.specs.Grammar.{the, give}
 use Rattle.text_words.proofs.Positions.{done, failed}
 use Rattle.text_parts.proofs.Fields.{row-1, row-2, row-3, row-end}
 use Rattle.text_words.specs.Sorts.{fits}
 use Rattle.text_parts.specs.Openings.{double, fieldForm, pairForm}
 use borrow.Author.Needs.{needs}
+use Rattle.terms.specs.Characters.{classOf}
+use Rattle.terms.specs.Letters.{isSmall}
 use Rattle.text_parts.proofs.comm_begin.Statement.{statement}
 use Rattle.text_parts.proofs.comm_begin.Tie as tie
 

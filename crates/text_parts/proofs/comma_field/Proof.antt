@@ -2,11 +2,11 @@
 -- One reader after the other.
 use mathlib.Core.Path.{refl, ap, _∙_}
 use Rattle.text.specs.Tokens.{lexFrom}
-use Rattle.text.specs.Characters.{classOf}
 use Rattle.text.specs.Tokens.{comma}
 use Rattle.text.specs.Grammar.{bind, the}
 use Rattle.text_words.proofs.Positions.{done, failed, ended-bad}
 use borrow.Author.Needs.{needs}
+use Rattle.terms.specs.Characters.{classOf}
 use Rattle.text_parts.proofs.comma_field.Statement.{statement}
 use Rattle.text_parts.proofs.comma_field.Tie as tie
 

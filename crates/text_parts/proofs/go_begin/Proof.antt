@@ -3,14 +3,15 @@
 use mathlib.Core.Path.{refl}
 use lib.ListN.{drop}
 use Rattle.text.specs.Tokens.{lex, lexFrom}
-use Rattle.text.specs.Characters.{classOf}
-use Rattle.text.specs.Tokens.{opens, isIdentifier}
+use Rattle.text.specs.Tokens.{opens}
 use Rattle.text.specs.Grammar.{the, give}
 use Rattle.text_words.proofs.Positions.{done, failed}
 use Rattle.text_parts.proofs.Fields.{row-1, row-2, row-3, row-end}
 use Rattle.text_words.specs.Sorts.{isTimer}
 use Rattle.text_parts.specs.Openings.{single, fieldForm}
 use borrow.Author.Needs.{needs}
+use Rattle.terms.specs.Characters.{classOf}
+use Rattle.terms.specs.Letters.{isIdentifier}
 use Rattle.text_parts.proofs.go_begin.Statement.{statement}
 use Rattle.text_parts.proofs.go_begin.Tie as tie
 

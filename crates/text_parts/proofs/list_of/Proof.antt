@@ -3,12 +3,12 @@
 use mathlib.Core.Path.{refl, ap, _∙_}
 use lib.ListN.{drop}
 use Rattle.text.specs.Tokens.{lex, lexFrom}
-use Rattle.text.specs.Characters.{classOf}
 use Rattle.text_words.specs.Bytes.{mapped}
 use Rattle.text_words.specs.Sorts.{fits}
 use Rattle.text_words.proofs.Positions.{done, failed, ended-at}
 use Rattle.text_parts.proofs.Fields.{list-none, list-open}
 use borrow.Author.Needs.{needs}
+use Rattle.terms.specs.Characters.{classOf}
 use Rattle.text_parts.proofs.list_of.Statement.{statement}
 use Rattle.text_parts.proofs.list_of.Tie as tie
 

@@ -4,8 +4,8 @@ use Prim.Native.Nat.{_-_}
 use mathlib.Core.Path.{_≡_, refl, ap, _∙_}
 use borrow.Author.Needs.{needs}
 use lib.ListN.{length, drop}
+use Rattle.terms.specs.Characters.{classOf}
 use Rattle.text.specs.Tokens.{lex, lexFrom}
-use Rattle.text.specs.Characters.{classOf}
 use Rattle.text_words.specs.Bytes.{mapped}
 use Rattle.text_words.specs.Sorts.{fits}
 use Rattle.text_parts.specs.Counting.{namesForm, namesCount}

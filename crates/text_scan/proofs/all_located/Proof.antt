@@ -4,8 +4,8 @@ use Prim.Native.Nat.{_-_}
 use mathlib.Core.Path.{refl, sym, ap, subst, _∙_}
 use borrow.Author.Needs.{needs}
 use lib.ListN.{length}
+use Rattle.terms.specs.Characters.{classOf}
 use Rattle.text.specs.Tokens.{lexFrom, bar}
-use Rattle.text.specs.Characters.{classOf}
 use Rattle.text.specs.Grammar.{the}
 use Rattle.text_parts.specs.Answers.{after}
 use Rattle.text_scan.specs.Answers.{totalsOf, totaled}

@@ -3,11 +3,11 @@
 use mathlib.Core.Path.{refl, ap, _∙_}
 use lib.ListN.{drop}
 use Rattle.text.specs.Tokens.{lex, lexFrom}
-use Rattle.text.specs.Characters.{classOf}
 use Rattle.text_scan.specs.Totals.{ofBody}
 use Rattle.text_words.proofs.Positions.{done, failed}
 use Rattle.text_scan.proofs.Texts.{totaled-bad, totaled-body, listed-bad, listed-ok, def-1, def-2, def-3, def-4}
 use borrow.Author.Needs.{needs}
+use Rattle.terms.specs.Characters.{classOf}
 use Rattle.text_scan.proofs.def_at.Statement.{statement}
 use Rattle.text_scan.proofs.def_at.Tie as tie
 

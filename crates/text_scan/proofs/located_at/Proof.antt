@@ -3,11 +3,11 @@
 use mathlib.Core.Path.{refl, ap, _∙_}
 use lib.ListN.{drop}
 use Rattle.text.specs.Tokens.{lex, lexFrom}
-use Rattle.text.specs.Characters.{classOf}
 use Rattle.text_scan.specs.Totals.{ofBracket}
 use Rattle.text_words.proofs.Positions.{done, failed}
 use Rattle.text_scan.proofs.Texts.{totaled-bad, totaled-body, located-1, located-2, located-3}
 use borrow.Author.Needs.{needs}
+use Rattle.terms.specs.Characters.{classOf}
 use Rattle.text_scan.proofs.located_at.Statement.{statement}
 use Rattle.text_scan.proofs.located_at.Tie as tie
 

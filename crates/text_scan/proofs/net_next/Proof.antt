@@ -3,10 +3,10 @@
 use mathlib.Core.Path.{refl}
 use lib.ListN.{drop}
 use Rattle.text.specs.Tokens.{lex, lexFrom}
-use Rattle.text.specs.Characters.{classOf}
 use Rattle.text_words.proofs.Positions.{done, failed, word-is, word-none}
 use Rattle.text_scan.proofs.Texts.{net-yes, net-no, net-none}
 use borrow.Author.Needs.{needs}
+use Rattle.terms.specs.Characters.{classOf}
 use Rattle.text_scan.proofs.net_next.Statement.{statement}
 use Rattle.text_scan.proofs.net_next.Tie as tie
 

@@ -2,9 +2,9 @@
 -- Past the dot only blanks may stand.
 use mathlib.Core.Path.{refl, ap, _∙_}
 use Rattle.text.specs.Tokens.{lexFrom}
-use Rattle.text.specs.Characters.{classOf}
 use Rattle.text_scan.proofs.Texts.{totaled-bad, network-no-dot, network-more, network-end}
 use borrow.Author.Needs.{needs}
+use Rattle.terms.specs.Characters.{classOf}
 use Rattle.text_scan.proofs.network_at.Statement.{statement}
 use Rattle.text_scan.proofs.network_at.Tie as tie
 

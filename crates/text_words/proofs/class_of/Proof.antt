@@ -3,8 +3,8 @@
 use mathlib.Core.Logic.{⊎-elim, inl, inr}
 use mathlib.Core.Path.{sym, ap}
 use native.Mathlib.Omega.{arith}
-use Rattle.text.specs.Characters.{classOf}
-use Rattle.text.proofs.Classes.{capital-class, small-class, digit-class, paren-class, other-class, below, above}
+use Rattle.terms.specs.Characters.{classOf}
+use Rattle.terms.proofs.Classes.{capital-class, small-class, digit-class, paren-class, other-class, below, above}
 use Rattle.text_words.proofs.class_of.Statement.{statement}
 use Rattle.text_words.proofs.class_of.Tie as tie
 

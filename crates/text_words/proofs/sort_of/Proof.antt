@@ -2,10 +2,10 @@
 -- By the class of its first byte, which is a letter or a digit.
 use mathlib.Core.Path.{sym, ap, _∙_}
 use mathlib.Core.Bool.{false≢true}
-use Rattle.text.specs.Characters.{isLower, isCapital, isDigit, alnum}
 use Rattle.text_words.specs.Sorts.{classIs}
 use Rattle.text_words.proofs.WordSorts.{sort-empty, first-is, first-alnum}
 use borrow.Author.Needs.{needs}
+use Rattle.terms.specs.Characters.{isLower, isCapital, isDigit, alnum}
 use Rattle.text_words.proofs.sort_of.Statement.{statement}
 use Rattle.text_words.proofs.sort_of.Tie as tie
 

@@ -13,8 +13,8 @@ is-capital-requires c κs = search needs
 enum-told-2 : tie.Need-enum-told-2
 enum-told-2 c = search needs
 
-is-little-requires : tie.Need-is-little-requires
-is-little-requires c κs = search needs
+is-lower-requires : tie.Need-is-lower-requires
+is-lower-requires c κs = search needs
 
 enum-told-3 : tie.Need-enum-told-3
 enum-told-3 c = search needs
@@ -26,7 +26,7 @@ returns : tie.Need-returns
 returns c = rw (c .before .enum-told .given .1) (c .is-capital .ensures)
 
 returns-2 : tie.Need-returns-2
-returns-2 c = rw (c .before .enum-told2 .given .1) (c .is-little .ensures)
+returns-2 c = rw (c .before .enum-told2 .given .1) (c .is-lower .ensures)
 
 returns-3 : tie.Need-returns-3
 returns-3 c = rw (c .before .enum-told3 .given .1) (c .is-letter .ensures)
@@ -38,7 +38,7 @@ first-ok-spec =
     enum-told
     is-capital-requires
     enum-told-2
-    is-little-requires
+    is-lower-requires
     enum-told-3
     is-letter-requires
     returns

@@ -4,7 +4,7 @@ use Prim.Native.Nat.{_%_}
 use mathlib.Core.Path.{_≡_, sym, ap, _∙_}
 use mathlib.Core.Bool.{not}
 use borrow.Author.Needs.{needs}
-use Rattle.terms.specs.Letters.{classOf}
+use Rattle.terms.specs.Characters.{classOf}
 use Rattle.table.specs.Tests.{firstOf}
 use Rattle.table.proofs.NamesForm.{name-is}
 use Rattle.table.proofs.ValidBool.{failed, passed, and-false}

@@ -5,7 +5,7 @@ use native.Mathlib.Omega.{arith}
 use mathlib.Core.Path.{_≡_, refl, sym, ap, _∙_}
 use mathlib.Core.Bool.{true, false}
 use borrow.Author.Needs.{needs}
-use Rattle.terms.specs.Letters.{isSolid}
+use Rattle.terms.specs.Characters.{isAlnum}
 use Rattle.table.proofs.NamesForm.{solid, solid-turn, solid-zero}
 use Rattle.table.proofs.ValidBool.{failed, passed}
 use Rattle.table.proofs.forms.solid_word.Statement.{statement}
@@ -29,13 +29,13 @@ loop-holds c = (omega arith, refl)
 low-byte-requires : tie.Need-low-byte-requires Inv-loop μ-loop
 low-byte-requires c κs = search needs
 
-is-solid-requires : tie.Need-is-solid-requires Inv-loop μ-loop
-is-solid-requires c κs = search needs
+is-alnum-requires : tie.Need-is-alnum-requires Inv-loop μ-loop
+is-alnum-requires c κs = search needs
 
 returns : tie.Need-returns Inv-loop μ-loop
 returns c =
     let l = c .before .before .before .before .loop in
-    let n : isSolid (l .y % 256) ≡ false = failed (c .if1 .taken) (c .before .is-solid .ensures ∙ ap isSolid (c .before .before .low-byte .ensures)) in
+    let n : isAlnum (l .y % 256) ≡ false = failed (c .if1 .taken) (c .before .is-alnum .ensures ∙ ap isAlnum (c .before .before .low-byte .ensures)) in
     sym (l .inv .1 ∙ solid-turn (l .y) (l .inv .0) (c .before .before .before .loop-test .taken) ∙ rw n)
 
 loop-less : tie.Need-loop-less Inv-loop μ-loop
@@ -44,7 +44,7 @@ loop-less c = let n = c .before .before .before .loop-test .taken in smaller (c 
 loop-again : tie.Need-loop-again Inv-loop μ-loop
 loop-again c =
     let l = c .before .before .before .before .loop in
-    let n : isSolid (l .y % 256) ≡ true = passed (c .if1 .left) (c .before .is-solid .ensures ∙ ap isSolid (c .before .before .low-byte .ensures)) in
+    let n : isAlnum (l .y % 256) ≡ true = passed (c .if1 .left) (c .before .is-alnum .ensures ∙ ap isAlnum (c .before .before .low-byte .ensures)) in
     (omega arith, l .inv .1 ∙ solid-turn (l .y) (l .inv .0) (c .before .before .before .loop-test .taken) ∙ rw n)
 
 returns-2 : tie.Need-returns-2 Inv-loop μ-loop
@@ -58,7 +58,7 @@ solid-word-spec =
     μ-loop
     loop-holds
     low-byte-requires
-    is-solid-requires
+    is-alnum-requires
     returns
     loop-less
     loop-again

@@ -6,10 +6,10 @@ use mathlib.Core.Bool.{true, false, _&&_}
 use lib.Dec.{leb, ltb}
 use borrow.Author.Tests.{le-leb, lt-leb, lt-ltb, le-ltb}
 use borrow.Author.Needs.{needs}
-use Rattle.terms.specs.Letters.{isName, isSmall}
 use Rattle.terms.specs.Same.{every}
+use Rattle.terms.specs.Letters.{isName, isSmall, distinct}
 use Rattle.table.specs.Words.{partsIn, arityOf, bodyOf, paramsAt, scopeAt}
-use Rattle.table.specs.Valid.{alike, distinct, defOk}
+use Rattle.table.specs.Valid.{alike, defOk}
 use Rattle.table.specs.Tests.{firstOf}
 use Rattle.table.specs.declared.Sort.the-variants.{Small}
 use Rattle.table.proofs.ValidDefs.{params-names}

@@ -1,7 +1,7 @@
 -- A bracket, a word, a comma, then a timer and a name.
 use mathlib.Core.Path.{refl}
 use borrow.Author.Needs.{needs}
-use Rattle.text.specs.Characters.{classOf}
+use Rattle.terms.specs.Characters.{classOf}
 use Rattle.text.specs.Tokens.{lexFrom, opens, comma}
 use Rattle.text_put.proofs.Peeling.{peel-sign}
 use Rattle.text_put.proofs.heads.front_at.Statement.{statement}

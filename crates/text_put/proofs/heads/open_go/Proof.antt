@@ -2,7 +2,7 @@
 use mathlib.Core.List.{_∷_}
 use mathlib.Core.Path.{refl, ap, _∙_}
 use borrow.Author.Needs.{needs}
-use Rattle.text.specs.Characters.{classOf}
+use Rattle.terms.specs.Characters.{classOf}
 use Rattle.text.specs.Tokens.{lexFrom, opens, comma}
 use Rattle.text.specs.Tokens.Token.{sign}
 use Rattle.text.specs.Write.{timerT}

@@ -4,12 +4,12 @@ use borrow.Author.Needs.{needs}
 use mathlib.Core.Path.{refl}
 use Prim.Native.Nat.{_+_, _*_, _-_}
 use lib.ListN.{length}
-use Rattle.text.specs.Characters.{classOf}
 use Rattle.text.specs.Tokens.{lexFrom}
 use Rattle.text_put.proofs.Putting.{inner-small, part-leaf, first-at, first-falls, part-one, second-at, second-falls, part-two, part-at, low-few, process-last, process-next, next-falls, process-more, first-low, next-low}
 use Prim.Native.Nat.{ℕ, _<_}
 use borrow.Fn.Kinds.{In}
 use borrow.Fn.PlainCycle.{Measures, is, falls, and}
+use Rattle.terms.specs.Characters.{classOf}
 use Rattle.text_put.proofs.parts.put_part.Reads as put-part
 use Rattle.text_put.proofs.parts.put_part.Kinds as put-part-kinds
 use Rattle.text_put.proofs.parts.+put_part+put_process.Lts-put_part as put-part-lts

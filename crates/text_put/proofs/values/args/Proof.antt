@@ -1,6 +1,6 @@
 -- By the bracket.
 use mathlib.Core.Path.{refl}
-use Rattle.text.specs.Characters.{classOf}
+use Rattle.terms.specs.Characters.{classOf}
 use Rattle.text.specs.Tokens.{lexFrom}
 use Rattle.text_put.proofs.Arguments.{list-empty, list-some, list-is}
 use Rattle.text_put.proofs.values.args.Statement.{statement}

@@ -3,7 +3,7 @@ use Prim.Native.Nat.{_-_}
 use mathlib.Core.Path.{refl}
 use lib.ListN.{length}
 use borrow.Author.Needs.{needs}
-use Rattle.text.specs.Characters.{classOf}
+use Rattle.terms.specs.Characters.{classOf}
 use Rattle.text.specs.Tokens.{lexFrom}
 use Rattle.text_put.specs.Found.{ValuesAt, valuesOf}
 use Rattle.text_put.proofs.Arguments.{Going, going-first, going-word, going-end, going-on, going-falls}

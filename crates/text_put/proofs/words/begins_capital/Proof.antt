@@ -1,7 +1,7 @@
 -- By the first byte, if there is one.
-use Rattle.text.specs.Characters.{isCapital}
 use Rattle.text_put.proofs.Peeling.{first-none, first-of}
 use borrow.Author.Needs.{needs}
+use Rattle.terms.specs.Characters.{isCapital}
 use Rattle.text_put.proofs.words.begins_capital.Statement.{statement}
 use Rattle.text_put.proofs.words.begins_capital.Tie as tie
 

@@ -2,11 +2,11 @@
 use Prim.Native.Nat.{_-_}
 use native.Mathlib.Omega.{arith}
 use mathlib.Core.Path.{ap, _∙_}
-use Rattle.text.specs.Characters.{isCapital}
-use Rattle.text.specs.Tokens.{firstIs}
 use Rattle.text_build.specs.Keys.{keyOf}
 use Rattle.text_put.proofs.Peeling.{peel-name, peel-word, peel-none}
 use borrow.Author.Needs.{needs}
+use Rattle.terms.specs.Characters.{isCapital}
+use Rattle.terms.specs.Letters.{firstIs}
 use Rattle.text_put.proofs.words.name_at.Statement.{statement}
 use Rattle.text_put.proofs.words.name_at.Tie as tie
 

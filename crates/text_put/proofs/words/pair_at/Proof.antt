@@ -1,9 +1,9 @@
 -- A timer, a comma, a word, a comma, one after the other.
 use mathlib.Core.Path.{refl}
-use Rattle.text.specs.Characters.{classOf}
 use Rattle.text.specs.Tokens.{lexFrom, comma}
 use Rattle.text_put.proofs.Peeling.{peel-sign}
 use borrow.Author.Needs.{needs}
+use Rattle.terms.specs.Characters.{classOf}
 use Rattle.text_put.proofs.words.pair_at.Statement.{statement}
 use Rattle.text_put.proofs.words.pair_at.Tie as tie
 

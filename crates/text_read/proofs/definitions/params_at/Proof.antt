@@ -1,6 +1,6 @@
 -- By the bracket.
 use mathlib.Core.Path.{refl}
-use Rattle.text.specs.Characters.{classOf}
+use Rattle.terms.specs.Characters.{classOf}
 use Rattle.text.specs.Tokens.{lexFrom}
 use Rattle.text_read.proofs.Defs.{params-none, params-some, params-are}
 use Rattle.text_read.proofs.definitions.params_at.Statement.{statement}

@@ -4,7 +4,7 @@ use native.Mathlib.Omega.{arith}
 use mathlib.Core.Path.{refl}
 use lib.ListN.{length}
 use borrow.Author.Needs.{needs}
-use Rattle.text.specs.Characters.{classOf}
+use Rattle.terms.specs.Characters.{classOf}
 use Rattle.text.specs.Tokens.{lexFrom}
 use Rattle.text_read.specs.Ready.{NamesAt}
 use Rattle.text_read.proofs.Defs.{Going, params-first, going-word, going-few, going-end, going-on, going-falls}

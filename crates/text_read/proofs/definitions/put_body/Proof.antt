@@ -2,7 +2,7 @@
 use native.Mathlib.Omega.{arith}
 use mathlib.Core.Path.{refl}
 use borrow.Author.Needs.{needs}
-use Rattle.text.specs.Characters.{classOf}
+use Rattle.terms.specs.Characters.{classOf}
 use Rattle.text.specs.Tokens.{lexFrom}
 use Rattle.text_read.proofs.Defs.{def-word, name-later, param-count, params-few, body-at, body-put}
 use Rattle.text_read.proofs.definitions.put_body.Statement.{statement}

@@ -1,7 +1,7 @@
 -- The name, the number of parameters, the parameters; the body is skipped.
 use mathlib.Core.Path.{refl}
 use borrow.Author.Needs.{needs}
-use Rattle.text.specs.Characters.{classOf}
+use Rattle.terms.specs.Characters.{classOf}
 use Rattle.text.specs.Tokens.{lexFrom}
 use Rattle.text_read.proofs.Defs.{def-word, name-later, params-at, head-put}
 use Rattle.text_read.proofs.definitions.put_head.Statement.{statement}

@@ -4,7 +4,6 @@ use borrow.Author.Needs.{needs}
 use mathlib.Core.Path.{refl}
 use Prim.Native.Nat.{_+_, _-_}
 use lib.ListN.{length}
-use Rattle.text.specs.Characters.{classOf}
 use Rattle.text.specs.Tokens.{lexFrom}
 use Rattle.text_put.proofs.Putting.{part-at, low-few, process-next, next-falls, next-low}
 use Rattle.text_read.proofs.Spreading.{spread-within}
@@ -12,6 +11,7 @@ use Rattle.text_read.proofs.Bracketed.{outer-last, outer-more}
 use Prim.Native.Nat.{ℕ, _<_}
 use borrow.Fn.Kinds.{In}
 use borrow.Fn.PlainCycle.{Measures, is, falls, and}
+use Rattle.terms.specs.Characters.{classOf}
 use Rattle.text_read.proofs.network.put_outer.Reads as put-outer
 use Rattle.text_read.proofs.network.put_outer.Kinds as put-outer-kinds
 use Rattle.text_read.proofs.network.+put_outer.Lts-put_outer as put-outer-lts

@@ -4,7 +4,7 @@ use native.Mathlib.Omega.{arith}
 use mathlib.Core.Path.{_≡_, refl, _∙_}
 use lib.ListN.{length}
 use borrow.Author.Needs.{needs}
-use Rattle.text.specs.Characters.{classOf}
+use Rattle.terms.specs.Characters.{classOf}
 use Rattle.text.specs.Tokens.{lexFrom}
 use Rattle.text_read.specs.Located.{NetworkAt}
 use Rattle.text_read.proofs.Bracketed.{Going, network-first, going-at, place-small, going-end, going-on, going-falls}
