@@ -2,6 +2,7 @@
 //
 //   specs/Words     the words of a script
 //   specs/Meaning   the network that a script and a state stand for
+//   specs/Size      how many rows a process takes
 //   specs/Valid     question 17
 //   specs/Tests     what the contracts of internal functions cite
 //   specs/Split     what a tick makes of a component
