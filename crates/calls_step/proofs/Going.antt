@@ -27,14 +27,13 @@ use Rattle.table.proofs.Tests.{comp-fine}
 use Rattle.table.proofs.Fires.{every-at, map-append}
 use Rattle.table.proofs.Kept.{okA, goodActed, act-kept}
 use Rattle.calls_act.proofs.Positions.{at-take, take-put, length-comps}
-use Rattle.calls_step.specs.declared.Rec.{Rec}
 use Rattle.calls_step.specs.declared.Visit.{Visit}
 use Rattle.calls_step.specs.Sweep.{tookAt, takenAt, visitAt, followedAt, choiceAt, sweepAt, hearers, Chain, Queued, recOf}
 use Rattle.calls_step.specs.Visit.{sendsAt, kindAt, sentOn, kindBy, Performed, otherOf, poppedOf, recBy}
 use Rattle.calls_step.proofs.Queues.{seek-first, sends-fits}
 use Rattle.calls_step.proofs.Sweeping.{recsOf, Turned, turned-none, turned-some}
 
-pub record Going (w : List ℕ) (l : ℕ) (st now : State) (heads nexts : List ℕ) (acts : List Rec) (count p : ℕ) : Type 0 where
+pub record Going (w : List ℕ) (l : ℕ) (st now : State) (heads nexts : List ℕ) (acts : List (List ℕ)) (count p : ℕ) : Type 0 where
   pub few-p : p ≤ st .n
   pub few-count : count ≤ p
   pub size : length (now .c) ≡ 256
@@ -78,7 +77,7 @@ some-one : (k : ℕ) → (k ≡ 0 → ⊥) → someOf k ≡ 1
 some-one zero n = absurd (n refl)
 some-one (suc k) n = refl
 
-take-rec : (acts : List Rec) (count k p q : ℕ) → count < length acts → take (count + someOf k) (set acts count (recBy k p q)) ≡ take count acts ++ recsOf k p q
+take-rec : (acts : List (List ℕ)) (count k p q : ℕ) → count < length acts → take (count + someOf k) (set acts count (recBy k p q)) ≡ take count acts ++ recsOf k p q
 take-rec acts count zero p q h = let z : count + 0 ≡ count = omega arith in ap (λ n. take n (set acts count (recBy 0 p q))) z ∙ take-set-le count acts count (recBy 0 p q) (omega arith) ∙ sym (append-nil (take count acts))
 take-rec acts count (suc k) p q h = ap (λ n. take n (set acts count (recBy (suc k) p q))) (add-one count) ∙ take-suc-set acts count (recBy (suc k) p q) h
 
@@ -116,7 +115,7 @@ idle-link w l c x = go (readyAt l c)
     go true e n = head-idle x (c .timer) (headAt w (c .place)) e n
     go false e n = n refl
 
-module _ (w : List ℕ) (good : scriptOk w ≡ true) (l : ℕ) (st now : State) (heads nexts : List ℕ) (acts : List Rec) (count p : ℕ) (few : st .n ≤ 256) (i : Going w l st now heads nexts acts count p) (h : p < st .n) where
+module _ (w : List ℕ) (good : scriptOk w ≡ true) (l : ℕ) (st now : State) (heads nexts : List ℕ) (acts : List (List ℕ)) (count p : ℕ) (few : st .n ≤ 256) (i : Going w l st now heads nexts acts count p) (h : p < st .n) where
   abbrev cs : List Comp
   cs = compsOf now
 
@@ -297,12 +296,12 @@ module _ (w : List ℕ) (good : scriptOk w ≡ true) (l : ℕ) (st now : State) 
           comps = subst (λ cs. sweepAt w l (p + 1) (st .n - (p + 1)) (compsOf (record { c = cs; n = now .n })) .comps ≡ sweepAt w l 0 (st .n) (compsOf st) .comps) z (g .comps);
         }
 
-pub going-begin : (w : List ℕ) (l : ℕ) (st : State) (heads nexts : List ℕ) (acts : List Rec) → length (st .c) ≡ 256 → length acts ≡ 256 → every (compOk w) (compsOf st) ≡ true → Queued w l 0 (compsOf st) heads nexts → Going w l st st heads nexts acts 0 0
+pub going-begin : (w : List ℕ) (l : ℕ) (st : State) (heads nexts : List ℕ) (acts : List (List ℕ)) → length (st .c) ≡ 256 → length acts ≡ 256 → every (compOk w) (compsOf st) ≡ true → Queued w l 0 (compsOf st) heads nexts → Going w l st st heads nexts acts 0 0
 going-begin w l st heads nexts acts e r f q =
     let z : st .n - 0 ≡ st .n = omega arith in
     record { few-p = omega arith; few-count = omega arith; size = e; same = refl; room = r; fine = f; queue = q; actions = ap (λ n. map recOf (sweepAt w l 0 n (compsOf st) .actions)) z; comps = ap (λ n. sweepAt w l 0 n (compsOf st) .comps) z }
 
-pub going-end : (w : List ℕ) (l : ℕ) (st now : State) (heads nexts : List ℕ) (acts : List Rec) (count p : ℕ) → Going w l st now heads nexts acts count p → st .n ≤ p → st .n ≤ 256
+pub going-end : (w : List ℕ) (l : ℕ) (st now : State) (heads nexts : List ℕ) (acts : List (List ℕ)) (count p : ℕ) → Going w l st now heads nexts acts count p → st .n ≤ p → st .n ≤ 256
     → (take count acts ≡ map recOf (sweepAt w l 0 (st .n) (compsOf st) .actions)) × (count ≡ length (sweepAt w l 0 (st .n) (compsOf st) .actions)) × (compsOf now ≡ sweepAt w l 0 (st .n) (compsOf st) .comps)
 unfolding sweepAt
 going-end w l st now heads nexts acts count p i h few = (records, number, sym done ∙ i .comps)

@@ -21,19 +21,17 @@ use Rattle.table.specs.Meaning.{defsOf, means, compsOf, netOf}
 use Rattle.table.specs.Valid.{scriptOk, stateOk, valid}
 use Rattle.table.specs.Fire.{passedAll}
 use Rattle.table.proofs.Ticks.{passed-all}
-use Rattle.table.proofs.Fires.{map-append}
 use Rattle.calls_act.specs.Acted.{asked}
 use Rattle.calls_act.proofs.Positions.{valid-parts, length-comps}
 use Rattle.calls_tick.specs.Ticked.{room}
 use Rattle.calls_tick.proofs.Ticking.{tick-took}
-use Rattle.calls_step.specs.declared.Rec.{Rec}
 use Rattle.calls_step.specs.declared.Swept.{Swept}
 use Rattle.calls_step.specs.Sweep.{SweptAt, sweepAt, recOf}
 use Rattle.calls_step.specs.Visit.{SweepsAs}
-use Rattle.calls_step.specs.Stepped.{stepOf, stepRule, wordsOf, Took}
+use Rattle.calls_step.specs.Stepped.{stepOf, stepRule, Took}
 use Rattle.calls_step.proofs.Sweeps.{Like, fires-like}
 
-module _ (w : List ℕ) (st : State) (l : ℕ) (v : valid w st ≡ true) (len : length (st .c) ≡ 256) (r : Swept) (s : SweepsAs w l st r) where
+module _ (w : List ℕ) (st : State) (l : ℕ) (v : valid w st ≡ true) (len : length (st .c) ≡ 256) (acts : List (List ℕ)) (r : Swept) (s : SweepsAs w l st acts r) where
   good : scriptOk w ≡ true
   good = valid-parts w st v .0
 
@@ -71,11 +69,11 @@ module _ (w : List ℕ) (st : State) (l : ℕ) (v : valid w st ≡ true) (len : 
     step-done size h n = ruled size ∙ rw (le-leb (r .count) size h, length-map (passedAll w l (compsOf (r .state))) (means w), le-leb (length (passedAll w l (compsOf (r .state)))) 256 (omega arith))
 
     pub step-took : (next : State) (before after : List (List ℕ)) → length (r .state .c) ≡ 256 → compsOf next ≡ passedAll w l (compsOf (r .state)) → next .n ≡ length (passedAll w l (compsOf (r .state))) → length (passedAll w l (compsOf (r .state))) < 257
-        → after ≡ map wordsOf (take (r .count) (r .acts)) ++ drop (r .count) before
+        → after ≡ take (r .count) acts ++ drop (r .count) before
         → Took w (stepOf (swept .actions) (map (means w) (passedAll w l (compsOf (r .state))))) (record { code = 0; count = r .count; state = next }) before after
     step-took next before after z e n b a =
         let t = tick-took w (r .state) next l swept-good z e n b in
-        record { code = refl; count = s .number; comps = t .comps; good = t .good; records = a ∙ ap (λ xs. map wordsOf xs ++ drop (r .count) before) (s .records) ∙ ap (λ k. map wordsOf (map recOf (swept .actions)) ++ drop k before) (s .number) }
+        record { code = refl; count = s .number; comps = t .comps; good = t .good; records = a ∙ ap (λ xs. xs ++ drop (r .count) before) (s .records) ∙ ap (λ k. map recOf (swept .actions) ++ drop k before) (s .number) }
 
 -- question 8
 pub step-out : (w : List ℕ) (st : State) (l size : ℕ) → locsIn w ≤ l → stepRule w st l size ≡ refused 8
@@ -83,12 +81,12 @@ unfolding stepRule
 step-out w st l size h = rw (le-ltb l (locsIn w) h)
 
 -- ── writing the records ──
-pub put-more : (acts : List Rec) (before now : List (List ℕ)) (j : ℕ) (d : Rec) → j < length acts → j < length before → length now ≡ length before → now ≡ map wordsOf (take j acts) ++ drop j before
-    → set now j (wordsOf (getD acts j d)) ≡ map wordsOf (take (j + 1) acts) ++ drop (j + 1) before
-put-more acts before now j d h b n e =
-    ap (λ z. set z j (wordsOf (getD acts j d))) (e ∙ ap (λ z. map wordsOf (take j acts) ++ z) (drop-cons before j [] b))
-    ∙ set-at (map wordsOf (take j acts)) (getD before j []) (drop (suc j) before) (wordsOf (getD acts j d)) j (length-map (take j acts) wordsOf ∙ length-take j acts ∙ small)
-    ∙ sym (ap (λ z. map wordsOf (take z acts) ++ drop z before) (add-one j) ∙ ap (λ z. map wordsOf z ++ drop (suc j) before) (take-suc acts j d h) ∙ ap (λ z. z ++ drop (suc j) before) (map-append wordsOf (take j acts) (getD acts j d ∷ [])) ∙ append-assoc (map wordsOf (take j acts)) (wordsOf (getD acts j d) ∷ []) (drop (suc j) before))
+pub put-more : (acts before now : List (List ℕ)) (j : ℕ) → j < length acts → j < length before → length now ≡ length before → now ≡ take j acts ++ drop j before
+    → set now j (getD acts j []) ≡ take (j + 1) acts ++ drop (j + 1) before
+put-more acts before now j h b n e =
+    ap (λ z. set z j (getD acts j [])) (e ∙ ap (λ z. take j acts ++ z) (drop-cons before j [] b))
+    ∙ set-at (take j acts) (getD before j []) (drop (suc j) before) (getD acts j []) j (length-take j acts ∙ small)
+    ∙ sym (ap (λ z. take z acts ++ drop z before) (add-one j) ∙ ap (λ z. z ++ drop (suc j) before) (take-suc acts j [] h) ∙ append-assoc (take j acts) (getD acts j [] ∷ []) (drop (suc j) before))
   where
     small : min j (length acts) ≡ j
     small = omega arith

@@ -26,7 +26,6 @@ use Rattle.calls_tick.proofs.Hearing.{ear-fits, inEar}
 use Rattle.calls_act.specs.declared.Fired.{Fired}
 use Rattle.calls_act.specs.declared.Met.{Met}
 use Rattle.calls_act.specs.Fired.{tagOf, oneOf, twoOf}
-use Rattle.calls_step.specs.declared.Rec.{Rec}
 use Rattle.calls_step.specs.declared.Visit.{Visit}
 use Rattle.calls_step.specs.Sweep.{chosenBy, choiceAt, visitAt, hearers, recOf}
 use Rattle.calls_step.specs.Visit.{sentOn, sendsAt, kindBy, kindAt, Performed, recBy}
@@ -98,7 +97,7 @@ ready-free l c e = go (ltb (c .mark) 64) refl e
     go false q e = (q, eqb-true (c .loc) l e)
 
 -- ── what one position gives: its record, the components, and who still hears ──
-abbrev pub recsOf : ℕ → ℕ → ℕ → List Rec
+abbrev pub recsOf : ℕ → ℕ → ℕ → List (List ℕ)
 recsOf zero p q = []
 recsOf (suc k) p q = recBy (suc k) p q ∷ []
 

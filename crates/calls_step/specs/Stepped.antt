@@ -1,6 +1,6 @@
 -- What the answer of a step stands for: document 01, *The other calls* and *Questions, asked downward*.
 use Prim.Native.Nat.{ℕ}
-use mathlib.Core.List.{List, [], _∷_, _++_, map}
+use mathlib.Core.List.{List, _++_, map}
 use mathlib.Core.Path.{_≡_}
 use mathlib.Core.Bool.{true}
 use lib.Dec.{leb, ltb}
@@ -15,7 +15,6 @@ use Rattle.table.specs.Meaning.{defsOf, netOf}
 use Rattle.table.specs.Valid.{valid}
 use Rattle.calls_act.specs.Acted.{asked}
 use Rattle.calls_tick.specs.Ticked.{room}
-use Rattle.calls_step.specs.declared.Rec.{Rec}
 use Rattle.calls_step.specs.declared.Stepped.{Stepped}
 use Rattle.calls_step.specs.Sweep.{recOf}
 
@@ -38,10 +37,6 @@ stepRule w st l size =
 unfoldable pub stepAnswer : List ℕ → State → ℕ → ℕ → Answer Step
 stepAnswer w st l size = asked 17 (valid w st) (stepRule w st l size)
 
--- a record as its three words
-abbrev pub wordsOf : Rec → List ℕ
-wordsOf r = r .kind ∷ r .p ∷ r .q ∷ []
-
 abbrev pub refusal : ℕ → State → Stepped
 refusal n st = record { code = n; count = 0; state = st }
 
@@ -51,7 +46,7 @@ pub record Took (w : List ℕ) (s : Step) (r : Stepped) (before after : List (Li
   pub count : r .count ≡ length (s .actions)
   pub comps : netOf w (r .state) ≡ s .comps
   pub good : valid w (r .state) ≡ true
-  pub records : after ≡ map wordsOf (map recOf (s .actions)) ++ drop (length (s .actions)) before
+  pub records : after ≡ map recOf (s .actions) ++ drop (length (s .actions)) before
 
 -- the code's answer r, and the lent records before and after, stand for the answer of the rules
 abbrev pub stepsAs : List ℕ → State → Answer Step → Stepped → List (List ℕ) → List (List ℕ) → Type 0

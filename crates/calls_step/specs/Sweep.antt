@@ -15,7 +15,6 @@ use Rattle.table.specs.declared.Head.{Head}
 use Rattle.table.specs.declared.Head.the-variants.{Stop, Go, Out, In, Call}
 use Rattle.table.specs.Words.{headAt}
 use Rattle.table.specs.Fire.{ActedAt, actOn, readyAt, hears}
-use Rattle.calls_step.specs.declared.Rec.{Rec}
 
 -- ── which action fires at a component that stands at p ──
 -- of a component ready at l with this timer and head
@@ -77,7 +76,7 @@ pub record Queued (w : List ℕ) (l k : ℕ) (cs : List Comp) (heads nexts : Lis
 
 -- ── records ──
 -- a record has the kind and the positions; q is 0 for kinds 1 and 2
-abbrev pub recOf : Action → Rec
-recOf (single calls p) = record { kind = 1; p = p; q = 0 }
-recOf (single moves p) = record { kind = 2; p = p; q = 0 }
-recOf (pair p q) = record { kind = 3; p = p; q = q }
+abbrev pub recOf : Action → List ℕ
+recOf (single calls p) = 1 ∷ p ∷ 0 ∷ []
+recOf (single moves p) = 2 ∷ p ∷ 0 ∷ []
+recOf (pair p q) = 3 ∷ p ∷ q ∷ []

@@ -1,6 +1,6 @@
 -- One position of a step's sweep, in numbers: what the contracts of `sweep` cite.
 use Prim.Native.Nat.{ℕ, zero, suc, _≤_}
-use mathlib.Core.List.{List, map}
+use mathlib.Core.List.{List, [], _∷_, map}
 use mathlib.Core.Bool.{cond}
 use mathlib.Core.Path.{_≡_}
 use lib.Dec.{eqb, ltb}
@@ -16,7 +16,6 @@ use Rattle.table.specs.Fire.{aloneAt, togetherAt, readyAt}
 use Rattle.calls_act.specs.declared.Fired.{Fired}
 use Rattle.calls_act.specs.declared.Met.{Met}
 use Rattle.calls_act.specs.Fired.{oneOf, twoOf}
-use Rattle.calls_step.specs.declared.Rec.{Rec}
 use Rattle.calls_step.specs.declared.Visit.{Visit}
 use Rattle.calls_step.specs.declared.Swept.{Swept}
 use Rattle.calls_step.specs.Sweep.{sweepAt, recOf}
@@ -66,12 +65,13 @@ poppedOf zero nx = 0
 poppedOf (suc q) nx = nx
 
 -- the record of an action of kind k
-abbrev pub recBy : ℕ → ℕ → ℕ → Rec
-recBy k p q = record { kind = k; p = p; q = cond (eqb k 3) q 0 }
+abbrev pub recBy : ℕ → ℕ → ℕ → List ℕ
+recBy k p q = k ∷ p ∷ cond (eqb k 3) q 0 ∷ []
 
 -- the sweep over all positions: its records, how many, and the components it leaves
-pub record SweepsAs (w : List ℕ) (l : ℕ) (st : State) (r : Swept) : Type 0 where
-  pub records : take (r .count) (r .acts) ≡ map recOf (sweepAt w l 0 (st .n) (compsOf st) .actions)
+pub record SweepsAs (w : List ℕ) (l : ℕ) (st : State) (acts : List (List ℕ)) (r : Swept) : Type 0 where
+  pub room : length acts ≡ 256
+  pub records : take (r .count) acts ≡ map recOf (sweepAt w l 0 (st .n) (compsOf st) .actions)
   pub number : r .count ≡ length (sweepAt w l 0 (st .n) (compsOf st) .actions)
   pub few : r .count ≤ st .n
   pub comps : compsOf (r .state) ≡ sweepAt w l 0 (st .n) (compsOf st) .comps

@@ -11,14 +11,6 @@ mod sweep;
 use table::Comp;
 use table::State;
 
-// An action record: kind and positions; q is 0 for kinds 1 and 2.
-#[repr(C)]
-pub struct Rec {
-    pub kind: u32,
-    pub p: u32,
-    pub q: u32,
-}
-
 // For each channel the link to the lowest position that hears it, and from each position the link to the next. A link is 0, or a position and one.
 pub struct Queue {
     pub heads: [u32; 65],
@@ -31,11 +23,10 @@ pub struct Visit {
     pub y: Comp,
 }
 
-// The actions of a step, how many, and the state that they leave.
+// The state that the actions of a step leave, and how many they are.
 pub struct Swept {
     pub state: State,
     pub count: usize,
-    pub acts: [Rec; 256],
 }
 
 // The answer of a step: code 0 with the number of actions and the next state, or the number of the question answered by no with the state as it was.

@@ -1,12 +1,11 @@
 // The step at a location of a table that passes question 17: questions 8, 15 and 13. Nothing is written before the last of them is answered.
 ghost use mathlib.Core.Path.{_≡_};
 ghost use mathlib.Core.Bool.{true};
-ghost use mathlib.Core.List.{map, _++_};
+ghost use mathlib.Core.List.{_++_};
 ghost use Prim.Native.Nat.{_≤_};
 ghost use lib.ListN.{length, take, drop};
 ghost use Rattle.table.specs.Valid.{valid};
-ghost use Rattle.calls_step.specs.Stepped.{stepRule, stepsAs, refusal, wordsOf};
-use super::Rec;
+ghost use Rattle.calls_step.specs.Stepped.{stepRule, stepsAs, refusal};
 use super::Stepped;
 use super::sweep;
 use calls_tick::pass;
@@ -24,14 +23,14 @@ pub fn refuse(code: u32, st: State) -> Stepped
 }
 
 // The first records of acts, in front of what is there.
-fn put_records(acts: [Rec; 256], count: usize, records: &mut [[u32; 3]])
-    requires { ⌜ (count ≤ 256) × (count ≤ length (now records)) ⌝ }
-    ensures { λ _. ⌜ now (records .exit) ≡ map wordsOf (take count acts) ++ drop count (now (records .entry)) ⌝ }
+fn put_records(acts: &[[u32; 3]; 256], count: usize, records: &mut [[u32; 3]])
+    requires { ⌜ (length (now acts) ≡ 256) × (count ≤ 256) × (count ≤ length (now records)) ⌝ }
+    ensures { λ _. ⌜ now (records .exit) ≡ take count (now (acts .entry)) ++ drop count (now (records .entry)) ⌝ }
 {
     let mut j: usize = 0;
     while j < count {
         let a = acts[j];
-        records[j] = [a.kind, a.p, a.q];
+        records[j] = a;
         j += 1;
     }
 }
@@ -43,7 +42,8 @@ pub fn step_valid(w: &[u32; 99592], st: State, l: u32, records: &mut [[u32; 3]])
     if words::word(w, 1) <= l {
         return refuse(8, st);
     }
-    let s = sweep::sweep(w, st, l);
+    let mut acts = [[0; 3]; 256];
+    let s = sweep::sweep(w, st, l, &mut acts);
     let count = s.count;
     if records.len() < count {
         return refuse(15, st);
@@ -53,8 +53,7 @@ pub fn step_valid(w: &[u32; 99592], st: State, l: u32, records: &mut [[u32; 3]])
     if p.full {
         return refuse(13, st);
     }
-    let acts = s.acts;
-    put_records(acts, count, records);
+    put_records(&acts, count, records);
     let next = p.state;
     Stepped {
         code: 0,

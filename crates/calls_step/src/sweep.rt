@@ -2,10 +2,10 @@
 ghost use mathlib.Core.Path.{_≡_};
 ghost use mathlib.Core.Bool.{true};
 ghost use Prim.Native.Nat.{_<_};
+ghost use lib.ListN.{length};
 ghost use Rattle.table.specs.Valid.{scriptOk, compOk, valid};
 ghost use Rattle.calls_step.specs.Visit.{sentOn, sendsAt, link, kindBy, kindAt, Performed, otherOf, poppedOf, recBy, SweepsAs};
 use super::Queue;
-use super::Rec;
 use super::Swept;
 use super::Visit;
 use calls_act::fire;
@@ -122,28 +122,21 @@ fn popped_of(x: u32, nx: u32) -> u32
     nx
 }
 
-fn rec_by(k: u32, p: usize, q: usize) -> Rec
+fn rec_by(k: u32, p: usize, q: usize) -> [u32; 3]
     requires { ⌜ (p < 256) × (q < 256) ⌝ }
     ensures { λ r. ⌜ r ≡ recBy k p q ⌝ }
 {
     if k == 3 {
-        return Rec {
-            kind: k,
-            p: p as u32,
-            q: q as u32,
-        };
+        return [k, p as u32, q as u32];
     }
-    Rec {
-        kind: k,
-        p: p as u32,
-        q: 0,
-    }
+    [k, p as u32, 0]
 }
 
-// The chains are made and the positions gone through in one function, since a state that goes into a function is copied.
-pub(crate) fn sweep(w: &[u32; 99592], st: State, l: u32) -> Swept
-    requires { ⌜ valid (now w) st ≡ true ⌝ }
-    ensures { λ r. ⌜ SweepsAs (now (w .entry)) l st r ⌝ }
+// The chains are made and the positions gone through in one function, since a state that goes into a function is copied. The records of the actions are
+// the first of acts.
+pub(crate) fn sweep(w: &[u32; 99592], st: State, l: u32, acts: &mut [[u32; 3]; 256]) -> Swept
+    requires { ⌜ (valid (now w) st ≡ true) × (length (now acts) ≡ 256) ⌝ }
+    ensures { λ r. ⌜ SweepsAs (now (w .entry)) l st (now (acts .exit)) r ⌝ }
 {
     let n = st.n;
     let mut state = st;
@@ -161,11 +154,6 @@ pub(crate) fn sweep(w: &[u32; 99592], st: State, l: u32) -> Swept
         queue.heads[h] = link_to(h, i);
         j = i;
     }
-    let mut acts = [Rec {
-        kind: 0,
-        p: 0,
-        q: 0,
-    }; 256];
     let mut count: usize = 0;
     let mut p: usize = 0;
     while p < n {
@@ -184,7 +172,8 @@ pub(crate) fn sweep(w: &[u32; 99592], st: State, l: u32) -> Swept
         let b = v.y;
         state.c[p] = a;
         state.c[q] = b;
-        acts[count] = rec_by(k, p, q);
+        let r = rec_by(k, p, q);
+        acts[count] = r;
         count += 1;
         let nx = queue.nexts[q];
         queue.heads[s] = popped_of(x, nx);
@@ -193,6 +182,5 @@ pub(crate) fn sweep(w: &[u32; 99592], st: State, l: u32) -> Swept
     Swept {
         state: state,
         count: count,
-        acts: acts,
     }
 }

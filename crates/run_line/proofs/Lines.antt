@@ -31,7 +31,7 @@ use Rattle.calls_act.specs.Acted.{asked, actionOf, actionRule, actsAs}
 use Rattle.calls_tick.specs.Ticked.{room}
 use Rattle.calls_step.specs.Sweep.{recOf}
 use Rattle.calls_step.specs.declared.Stepped.{Stepped}
-use Rattle.calls_step.specs.Stepped.{stepOf, stepRule, stepAnswer, wordsOf, Took, stepsAs}
+use Rattle.calls_step.specs.Stepped.{stepOf, stepRule, stepAnswer, Took, stepsAs}
 use Rattle.run_line.specs.Line.{labelText, spaced, stepLabels}
 use Rattle.run_line.specs.Records.{labelBy, answerBy, labelIn, mayFire, Holds}
 use Rattle.run_line.proofs.Labels.{Before, step-before}
@@ -90,18 +90,18 @@ module _ (w : List ℕ) (st : State) (records : List (List ℕ)) (n : ℕ) where
 
 -- ── the records of a step ──
 -- the rules answer a record as they answer its action
-answered : (w : List ℕ) (st : State) (a : Action) → answerBy w st (wordsOf (recOf a)) ≡ act (defsOf w) a (netOf w st)
+answered : (w : List ℕ) (st : State) (a : Action) → answerBy w st (recOf a) ≡ act (defsOf w) a (netOf w st)
 unfolding actionRule actionOf
 answered w st (single calls p) = refl
 answered w st (single moves p) = refl
 answered w st (pair p q) = refl
 
-labels-of : (w : List ℕ) (st : State) (xs : List Action) → flatMap (labelIn w st) (map wordsOf (map recOf xs)) ≡ flatMap (λ a. labelBy (act (defsOf w) a (netOf w st))) xs
+labels-of : (w : List ℕ) (st : State) (xs : List Action) → flatMap (labelIn w st) (map recOf xs) ≡ flatMap (λ a. labelBy (act (defsOf w) a (netOf w st))) xs
 unfolding flatMap
 labels-of w st [] = refl
 labels-of w st (a ∷ xs) = rw (answered w st a, labels-of w st xs)
 
-fires-of : (w : List ℕ) (st : State) (xs : List Action) → every (mayFire w st) (map wordsOf (map recOf xs)) ≡ every (λ a. ok (act (defsOf w) a (netOf w st))) xs
+fires-of : (w : List ℕ) (st : State) (xs : List Action) → every (mayFire w st) (map recOf xs) ≡ every (λ a. ok (act (defsOf w) a (netOf w st))) xs
 unfolding every
 fires-of w st [] = refl
 fires-of w st (a ∷ xs) = rw (answered w st a, fires-of w st xs)
@@ -124,11 +124,11 @@ module _ (w : List ℕ) (st : State) (l size : ℕ) (r : Stepped) (before after 
 
   took-holds : (cs : List Component) → valid w st ≡ true → Took w (stepOf (fires (defsOf w) (locName w l) (netOf w st) .actions) cs) r before after → Holds w st l after (r .count)
   took-holds cs v t =
-      let n : length (map wordsOf (map recOf xs)) ≡ r .count = length-map (map recOf xs) wordsOf ∙ length-map xs recOf ∙ sym (t .count) in
+      let n : length (map recOf xs) ≡ r .count = length-map xs recOf ∙ sym (t .count) in
       record {
         good = v;
-        within = omega (arith, n, ap length (t .records), length-append (map wordsOf (map recOf xs)) (drop (length xs) before));
-        actions = ap (take (r .count)) (t .records) ∙ take-at (map wordsOf (map recOf xs)) _ (r .count) n;
+        within = omega (arith, n, ap length (t .records), length-append (map recOf xs) (drop (length xs) before));
+        actions = ap (take (r .count)) (t .records) ∙ take-at (map recOf xs) _ (r .count) n;
       }
 
   -- a refusal has its number, which is not 0

@@ -15,7 +15,6 @@ use Rattle.table.specs.Meaning.{defsOf, netOf}
 use Rattle.table.specs.Valid.{valid}
 use Rattle.calls_act.specs.Acted.{actionRule}
 use Rattle.calls_step.specs.Sweep.{recOf}
-use Rattle.calls_step.specs.Stepped.{wordsOf}
 
 -- the label of an action, if it is accepted
 abbrev pub labelBy : Answer Acted → List Label
@@ -37,4 +36,4 @@ mayFire w st e = ok (answerBy w st e)
 pub record Holds (w : List ℕ) (st : State) (l : ℕ) (records : List (List ℕ)) (n : ℕ) : Type 0 where
   pub good : valid w st ≡ true
   pub within : n ≤ length records
-  pub actions : take n records ≡ map wordsOf (map recOf (fires (defsOf w) (locName w l) (netOf w st) .actions))
+  pub actions : take n records ≡ map recOf (fires (defsOf w) (locName w l) (netOf w st) .actions)

@@ -1,39 +1,36 @@
 -- `put_records` meets its contract. The loop's invariant: the records written stand in front of what was there.
 use native.Mathlib.Omega.{arith}
 use mathlib.Core.Path.{_≡_, refl, ap, _∙_}
-use borrow.Author.Needs.{needs}
+use mathlib.Core.List.{_++_}
 use Prim.Native.Nat.{_≤_, _-_}
-use mathlib.Core.List.{map, _++_}
 use lib.ListN.{length, take, drop, length-set}
-use Rattle.calls_step.specs.Stepped.{wordsOf}
-use Rattle.table.proofs.ValidWhole.{mapped}
 use Rattle.calls_step.proofs.Stepping.{put-more}
 use Rattle.calls_step.proofs.step.put_records.Statement.{statement}
 use Rattle.calls_step.proofs.step.put_records.Tie as tie
 
 abbrev Inv-loop : tie.InvT-loop
-Inv-loop count records₀ acts j₀ records j = (j ≤ count) × (length records ≡ length records₀) × (records ≡ map wordsOf (take j acts) ++ drop j records₀)
+Inv-loop acts count records₀ j₀ records j = (j ≤ count) × (length records ≡ length records₀) × (records ≡ take j acts ++ drop j records₀)
 
 abbrev μ-loop : tie.MeasureT-loop
-μ-loop count records₀ acts j₀ records j = count - j
+μ-loop acts count records₀ j₀ records j = count - j
 
 loop-holds : tie.Need-loop-holds Inv-loop μ-loop
 loop-holds c = (omega arith, refl, refl)
 
 mul-a : tie.Need-mul-a Inv-loop μ-loop
-mul-a c = omega (arith, c .before .before .pre .0)
+mul-a c = omega (arith, c .before .before .pre .1)
 
-array-copy-out-a : tie.Need-array-copy-out-a Inv-loop μ-loop
-array-copy-out-a c = omega (arith, c .before .before .pre .0)
+element-copy-out-a : tie.Need-element-copy-out-a Inv-loop μ-loop
+element-copy-out-a c = omega (arith, c .before .before .pre .1)
 
-mul-t8 : tie.Need-mul-t8 Inv-loop μ-loop
-mul-t8 c = omega (arith, c .before .before .before .pre .0)
+mul-a-2 : tie.Need-mul-a-2 Inv-loop μ-loop
+mul-a-2 c = omega (arith, c .before .before .before .pre .1)
 
-slice-set-from-records : tie.Need-slice-set-from-records Inv-loop μ-loop
-slice-set-from-records c = omega (arith, c .before .before .before .pre .1, c .before .before .loop .inv .1)
+slice-set-from-a : tie.Need-slice-set-from-a Inv-loop μ-loop
+slice-set-from-a c = omega (arith, c .before .before .before .pre .2, c .before .before .loop .inv .1)
 
 add-j : tie.Need-add-j Inv-loop μ-loop
-add-j c = omega (arith, c .before .before .before .pre .0)
+add-j c = omega (arith, c .before .before .before .pre .1)
 
 loop-less : tie.Need-loop-less Inv-loop μ-loop
 loop-less c = omega arith
@@ -42,8 +39,8 @@ loop-again : tie.Need-loop-again Inv-loop μ-loop
 loop-again c =
     let a = c .before .before .before .args in
     let i = c .before .before .loop .inv in
-    let l : length (a .t1) ≡ 256 = search (needs, mapped) in
-    (omega arith, simp length-set (i .1), put-more (a .t1) (a .records .now) (c .before .before .loop .records) (c .before .before .loop .j) (record { kind = 0; p = 0; q = 0 }) (omega (arith, c .before .before .before .pre .0)) (omega (arith, c .before .before .before .pre .1)) (i .1) (i .2))
+    let h = c .before .before .before .pre in
+    (omega arith, simp length-set (i .1), put-more (a .acts .now) (a .records .now) (c .before .before .loop .records) (c .before .before .loop .j) (omega (arith, h .0, h .1)) (omega (arith, h .2)) (i .1) (i .2))
 
 same-length : tie.Need-same-length Inv-loop μ-loop
 same-length c = c .before .loop .inv .1
@@ -52,7 +49,7 @@ returns : tie.Need-returns Inv-loop μ-loop
 returns c =
     let i = c .before .loop .inv in
     let z : c .before .loop .j ≡ c .before .before .args .count = omega arith in
-    i .2 ∙ ap (λ n. map wordsOf (take n (c .before .before .args .t1)) ++ drop n (c .before .before .args .records .now)) z
+    i .2 ∙ ap (λ n. take n (c .before .before .args .acts .now) ++ drop n (c .before .before .args .records .now)) z
 
 pub put-records-spec : {M : Type 1} → statement M
 put-records-spec =
@@ -62,9 +59,9 @@ put-records-spec =
     μ-loop
     loop-holds
     mul-a
-    array-copy-out-a
-    mul-t8
-    slice-set-from-records
+    element-copy-out-a
+    mul-a-2
+    slice-set-from-a
     add-j
     loop-less
     loop-again

@@ -19,24 +19,24 @@ use Rattle.calls_step.proofs.sweep.sweep.Statement.{statement}
 use Rattle.calls_step.proofs.sweep.sweep.Tie as tie
 
 abbrev Inv-loop : tie.InvT-loop
-Inv-loop w l n state queue₀ j₀ queue j = (j ≤ state .n) × Queued w l j (drop j (compsOf state)) (queue .heads) (queue .nexts)
+Inv-loop w l acts n state queue₀ j₀ queue j = (j ≤ state .n) × Queued w l j (drop j (compsOf state)) (queue .heads) (queue .nexts)
 
 abbrev μ-loop : tie.MeasureT-loop
-μ-loop w l n state queue₀ j₀ queue j = j
+μ-loop w l acts n state queue₀ j₀ queue j = j
 
 abbrev Inv-loop2 : tie.InvT-loop2
-Inv-loop2 w l n state₀ queue₀ j acts₀ count₀ p₀ state queue acts count p = Going w l state₀ state (queue .heads) (queue .nexts) acts count p × (n ≡ state₀ .n)
+Inv-loop2 w l acts₀ n state₀ queue₀ j count₀ p₀ acts state queue count p = Going w l state₀ state (queue .heads) (queue .nexts) acts count p × (n ≡ state₀ .n)
 
 abbrev μ-loop2 : tie.MeasureT-loop2
-μ-loop2 w l n state₀ queue₀ j acts₀ count₀ p₀ state queue acts count p = n - p
+μ-loop2 w l acts₀ n state₀ queue₀ j count₀ p₀ acts state queue count p = n - p
 
 -- ── what is known at a position ──
 module _ (c : tie.In-loop2 Inv-loop μ-loop Inv-loop2 μ-loop2) where
   few : c .before .before .before .before .args .st .n ≤ 256
-  few = few-comps _ _ (c .before .before .before .before .pre)
+  few = few-comps _ _ (c .before .before .before .before .pre .0)
 
   script : scriptOk (c .before .before .before .before .args .w .now) ≡ true
-  script = valid-parts _ _ (c .before .before .before .before .pre) .0
+  script = valid-parts _ _ (c .before .before .before .before .pre .0) .0
 
   below : c .before .loop2 .p < c .before .before .before .before .args .st .n
   below = c .loop2-test .taken
@@ -56,7 +56,7 @@ loop-holds : tie.Need-loop-holds Inv-loop μ-loop Inv-loop2 μ-loop2
 loop-holds c =
     let a = c .args in
     let l : length (a .st .c) ≡ 256 = search (needs, mapped) in
-    let z : drop (a .st .n) (compsOf (a .st)) ≡ [] = dropped-all (a .st) l (few-comps (a .w .now) (a .st) (c .pre)) in
+    let z : drop (a .st .n) (compsOf (a .st)) ≡ [] = dropped-all (a .st) l (few-comps (a .w .now) (a .st) (c .pre .0)) in
     (omega arith, rw z (queue-none (a .w .now) (a .l) (a .st .n)))
 
 sub-i : tie.Need-sub-i Inv-loop μ-loop Inv-loop2 μ-loop2
@@ -64,18 +64,18 @@ sub-i c = omega arith
 
 mul-c : tie.Need-mul-c Inv-loop μ-loop Inv-loop2 μ-loop2
 mul-c c =
-    let h = few-comps (c .before .before .args .w .now) (c .before .before .args .st) (c .before .before .pre) in
+    let h = few-comps (c .before .before .args .w .now) (c .before .before .args .st) (c .before .before .pre .0) in
     omega (arith, h, c .before .loop .inv .0)
 
 element-copy-out-c : tie.Need-element-copy-out-c Inv-loop μ-loop Inv-loop2 μ-loop2
 element-copy-out-c c =
-    let h = few-comps (c .before .before .args .w .now) (c .before .before .args .st) (c .before .before .pre) in
+    let h = few-comps (c .before .before .args .w .now) (c .before .before .args .st) (c .before .before .pre .0) in
     omega (arith, h, c .before .loop .inv .0)
 
 hears-at-requires : tie.Need-hears-at-requires Inv-loop μ-loop Inv-loop2 μ-loop2
 hears-at-requires c κs =
     let a = c .before .before .before .args in
-    let v = c .before .before .before .pre in
+    let v = c .before .before .before .pre .0 in
     let l : length (a .st .c) ≡ 256 = search (needs, mapped) in
     (valid-parts (a .w .now) (a .st) v .0, comp-good (a .w .now) (a .st) v l (c .before .before .loop .j - 1) (omega (arith, c .before .before .loop .inv .0)))
 
@@ -85,7 +85,7 @@ wide-requires c κs = search needs
 mul-old : tie.Need-mul-old Inv-loop μ-loop Inv-loop2 μ-loop2
 mul-old c =
     let a = c .before .before .before .before .before .args in
-    let v = c .before .before .before .before .before .pre in
+    let v = c .before .before .before .before .before .pre .0 in
     let l : length (a .st .c) ≡ 256 = search (needs, mapped) in
     let h = hears-fits (a .w .now) (a .l) _ (valid-parts (a .w .now) (a .st) v .0) (comp-good (a .w .now) (a .st) v l (c .before .before .before .before .loop .j - 1) (omega (arith, c .before .before .before .before .loop .inv .0))) in
     omega (arith, c .wide .ensures, c .before .hears-at .ensures, h)
@@ -93,30 +93,30 @@ mul-old c =
 element-copy-out-old : tie.Need-element-copy-out-old Inv-loop μ-loop Inv-loop2 μ-loop2
 element-copy-out-old c =
     let a = c .before .before .before .before .before .args in
-    let v = c .before .before .before .before .before .pre in
+    let v = c .before .before .before .before .before .pre .0 in
     let l : length (a .st .c) ≡ 256 = search (needs, mapped) in
     let h = hears-fits (a .w .now) (a .l) _ (valid-parts (a .w .now) (a .st) v .0) (comp-good (a .w .now) (a .st) v l (c .before .before .before .before .loop .j - 1) (omega (arith, c .before .before .before .before .loop .inv .0))) in
     omega (arith, c .wide .ensures, c .before .hears-at .ensures, h)
 
 mul-queue : tie.Need-mul-queue Inv-loop μ-loop Inv-loop2 μ-loop2
 mul-queue c =
-    let h = few-comps (c .before .before .before .before .before .before .args .w .now) (c .before .before .before .before .before .before .args .st) (c .before .before .before .before .before .before .pre) in
+    let h = few-comps (c .before .before .before .before .before .before .args .w .now) (c .before .before .before .before .before .before .args .st) (c .before .before .before .before .before .before .pre .0) in
     omega (arith, h, c .before .before .before .before .before .loop .inv .0)
 
 element-write-queue : tie.Need-element-write-queue Inv-loop μ-loop Inv-loop2 μ-loop2
 element-write-queue c =
-    let h = few-comps (c .before .before .before .before .before .before .args .w .now) (c .before .before .before .before .before .before .args .st) (c .before .before .before .before .before .before .pre) in
+    let h = few-comps (c .before .before .before .before .before .before .args .w .now) (c .before .before .before .before .before .before .args .st) (c .before .before .before .before .before .before .pre .0) in
     omega (arith, h, c .before .before .before .before .before .loop .inv .0)
 
 link-to-requires : tie.Need-link-to-requires Inv-loop μ-loop Inv-loop2 μ-loop2
 link-to-requires c κs =
-    let h = few-comps (c .before .before .before .before .before .before .args .w .now) (c .before .before .before .before .before .before .args .st) (c .before .before .before .before .before .before .pre) in
+    let h = few-comps (c .before .before .before .before .before .before .args .w .now) (c .before .before .before .before .before .before .args .st) (c .before .before .before .before .before .before .pre .0) in
     omega (arith, h, c .before .before .before .before .before .loop .inv .0)
 
 mul-queue-2 : tie.Need-mul-queue-2 Inv-loop μ-loop Inv-loop2 μ-loop2
 mul-queue-2 c =
     let a = c .before .before .before .before .before .before .before .args in
-    let v = c .before .before .before .before .before .before .before .pre in
+    let v = c .before .before .before .before .before .before .before .pre .0 in
     let l : length (a .st .c) ≡ 256 = search (needs, mapped) in
     let h = hears-fits (a .w .now) (a .l) _ (valid-parts (a .w .now) (a .st) v .0) (comp-good (a .w .now) (a .st) v l (c .before .before .before .before .before .before .loop .j - 1) (omega (arith, c .before .before .before .before .before .before .loop .inv .0))) in
     omega (arith, c .before .before .wide .ensures, c .before .before .before .hears-at .ensures, h)
@@ -124,7 +124,7 @@ mul-queue-2 c =
 element-write-queue-2 : tie.Need-element-write-queue-2 Inv-loop μ-loop Inv-loop2 μ-loop2
 element-write-queue-2 c =
     let a = c .before .before .before .before .before .before .before .args in
-    let v = c .before .before .before .before .before .before .before .pre in
+    let v = c .before .before .before .before .before .before .before .pre .0 in
     let l : length (a .st .c) ≡ 256 = search (needs, mapped) in
     let h = hears-fits (a .w .now) (a .l) _ (valid-parts (a .w .now) (a .st) v .0) (comp-good (a .w .now) (a .st) v l (c .before .before .before .before .before .before .loop .j - 1) (omega (arith, c .before .before .before .before .before .before .loop .inv .0))) in
     omega (arith, c .before .before .wide .ensures, c .before .before .before .hears-at .ensures, h)
@@ -135,7 +135,7 @@ loop-less c = omega arith
 loop-again : tie.Need-loop-again Inv-loop μ-loop Inv-loop2 μ-loop2
 loop-again c =
     let a = c .before .before .before .before .before .before .before .args in
-    let v = c .before .before .before .before .before .before .before .pre in
+    let v = c .before .before .before .before .before .before .before .pre .0 in
     let l : length (a .st .c) ≡ 256 = search (needs, mapped) in
     let j = c .before .before .before .before .before .before .loop .j in
     let o = c .before .before .before .before .before .before .loop .queue in
@@ -148,11 +148,11 @@ loop-again c =
 loop2-holds : tie.Need-loop2-holds Inv-loop μ-loop Inv-loop2 μ-loop2
 loop2-holds c =
     let a = c .before .before .args in
-    let v = c .before .before .pre in
+    let v = c .before .before .pre .0 in
     let l : length (a .st .c) ≡ 256 = search (needs, mapped) in
     let z : c .before .loop .j ≡ 0 = omega arith in
     let q = subst (λ j. Queued (a .w .now) (a .l) j (drop j (compsOf (a .st))) (c .before .loop .queue .heads) (c .before .loop .queue .nexts)) z (c .before .loop .inv .1) in
-    (going-begin (a .w .now) (a .l) (a .st) _ _ _ l refl (valid-parts (a .w .now) (a .st) v .1 .each) q, refl)
+    (going-begin (a .w .now) (a .l) (a .st) _ _ _ l (c .before .before .pre .1) (valid-parts (a .w .now) (a .st) v .1 .each) q, refl)
 
 mul-c-2 : tie.Need-mul-c-2 Inv-loop μ-loop Inv-loop2 μ-loop2
 mul-c-2 c = omega (arith, few (c), c .before .loop2 .inv .0 .same)
@@ -217,11 +217,11 @@ element-set-from-b c = let z = rw (c .before .before .before .before .before .be
 rec-by-requires : tie.Need-rec-by-requires Inv-loop μ-loop Inv-loop2 μ-loop2
 rec-by-requires c κs = let z = rw (c .before .before .before .before .before .before .before .before .wide2 .ensures, c .before .before .before .before .before .before .before .before .before .sends-at .ensures) at (c .before .before .before .before .other-of .ensures) in (omega (arith, few (c .before .before .before .before .before .before .before .before .before .before .before)), omega (arith, z, other (c .before .before .before .before .before .before .before .before .before .before .before), few (c .before .before .before .before .before .before .before .before .before .before .before)))
 
-mul-acts : tie.Need-mul-acts Inv-loop μ-loop Inv-loop2 μ-loop2
-mul-acts c = omega (arith, few (c .before .before .before .before .before .before .before .before .before .before .before .before), c .before .before .before .before .before .before .before .before .before .before .before .before .before .loop2 .inv .0 .few-count, c .before .before .before .before .before .before .before .before .before .before .before .before .before .loop2 .inv .0 .room)
+mul-r : tie.Need-mul-r Inv-loop μ-loop Inv-loop2 μ-loop2
+mul-r c = omega (arith, few (c .before .before .before .before .before .before .before .before .before .before .before .before), c .before .before .before .before .before .before .before .before .before .before .before .before .before .loop2 .inv .0 .few-count, c .before .before .before .before .before .before .before .before .before .before .before .before .before .loop2 .inv .0 .room)
 
-array-set-from-acts : tie.Need-array-set-from-acts Inv-loop μ-loop Inv-loop2 μ-loop2
-array-set-from-acts c = omega (arith, few (c .before .before .before .before .before .before .before .before .before .before .before .before), c .before .before .before .before .before .before .before .before .before .before .before .before .before .loop2 .inv .0 .few-count, c .before .before .before .before .before .before .before .before .before .before .before .before .before .loop2 .inv .0 .room)
+element-set-from-r : tie.Need-element-set-from-r Inv-loop μ-loop Inv-loop2 μ-loop2
+element-set-from-r c = omega (arith, few (c .before .before .before .before .before .before .before .before .before .before .before .before), c .before .before .before .before .before .before .before .before .before .before .before .before .before .loop2 .inv .0 .few-count, c .before .before .before .before .before .before .before .before .before .before .before .before .before .loop2 .inv .0 .room)
 
 add-count : tie.Need-add-count Inv-loop μ-loop Inv-loop2 μ-loop2
 add-count c = omega (arith, few (c .before .before .before .before .before .before .before .before .before .before .before .before), c .before .before .before .before .before .before .before .before .before .before .before .before .before .loop2 .inv .0 .few-count, c .before .before .before .before .before .before .before .before .before .before .before .before .before .loop2 .inv .0 .room)
@@ -259,11 +259,11 @@ loop2-again-2 c =
 returns : tie.Need-returns Inv-loop μ-loop Inv-loop2 μ-loop2
 returns c =
     let a = c .before .before .before .before .args in
-    let v = c .before .before .before .before .pre in
+    let v = c .before .before .before .before .pre .0 in
     let i = c .before .loop2 .inv .0 in
     let e = going-end (a .w .now) (a .l) (a .st) _ _ _ _ _ _ i (omega arith) (few-comps (a .w .now) (a .st) v) in
     let l : length (a .st .c) ≡ 256 = search (needs, mapped) in
-    record { records = e .0; number = e .1; few = omega (arith, i .few-count, i .few-p); comps = e .2; size = i .same; slots = l; slotted = i .size }
+    record { room = i .room; records = e .0; number = e .1; few = omega (arith, i .few-count, i .few-p); comps = e .2; size = i .same; slots = l; slotted = i .size }
 
 pub sweep-spec : {M : Type 1} → statement M
 sweep-spec =
@@ -308,8 +308,8 @@ sweep-spec =
     mul-b
     element-set-from-b
     rec-by-requires
-    mul-acts
-    array-set-from-acts
+    mul-r
+    element-set-from-r
     add-count
     mul-nx
     element-copy-out-nx
