@@ -33,7 +33,7 @@ pub struct Ran {
 pub fn action(w: &[u32; 99592], st: State, kind: u32, p: usize, q: usize) -> Acted
     ensures { λ r. ⌜ actsAs (now (w .entry)) st (actionAnswer (now (w .entry)) st kind p q) r ⌝ }
 {
-    if valid::is_valid(w, st) {
+    if valid::is_valid(w, &st.c, st.n) {
         return act::act_valid(w, st, kind, p, q);
     }
     act::refuse(17, st)
@@ -43,7 +43,7 @@ pub fn action(w: &[u32; 99592], st: State, kind: u32, p: usize, q: usize) -> Act
 pub fn tick_at(w: &[u32; 99592], st: State, l: u32) -> Ticked
     ensures { λ r. ⌜ ticksAs (now (w .entry)) st (tickAnswer (now (w .entry)) st l) r ⌝ }
 {
-    if valid::is_valid(w, st) {
+    if valid::is_valid(w, &st.c, st.n) {
         return tick::tick_valid(w, st, l);
     }
     tick::refuse(17, st)
@@ -53,7 +53,7 @@ pub fn tick_at(w: &[u32; 99592], st: State, l: u32) -> Ticked
 pub fn step_at(w: &[u32; 99592], st: State, l: u32, records: &mut [[u32; 3]]) -> Stepped
     ensures { λ r. ⌜ stepsAs (now (w .entry)) st (stepAnswer (now (w .entry)) st l (length (now (records .entry)))) r (now (records .entry)) (now (records .exit)) ⌝ }
 {
-    if valid::is_valid(w, st) {
+    if valid::is_valid(w, &st.c, st.n) {
         return step::step_valid(w, st, l, records);
     }
     step::refuse(17, st)
@@ -63,7 +63,7 @@ pub fn step_at(w: &[u32; 99592], st: State, l: u32, records: &mut [[u32; 3]]) ->
 pub fn forced_report(w: &[u32; 99592], st: State) -> Report
     ensures { λ r. ⌜ r ≡ forcedReport (now (w .entry)) st ⌝ }
 {
-    if valid::is_valid(w, st) {
+    if valid::is_valid(w, &st.c, st.n) {
         return forced::forced_valid(w, st);
     }
     Report {

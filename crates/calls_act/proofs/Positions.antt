@@ -1,40 +1,42 @@
 -- An action at positions of a valid table: what the code leaves stands for what the rules leave.
 -- Idea: the components in use are the first n of the array, so reading and setting one of them is reading and setting in the list.
-use Prim.Native.Nat.{ℕ, zero, suc, _<_, _≤_}
+use Prim.Native.Nat.{ℕ, zero, suc, _*_, _<_, _≤_}
 use native.Mathlib.Omega.{arith}
 use mathlib.Core.List.{List, [], _∷_, map}
 use mathlib.Core.Bool.{Bool, true, false, cond}
-use mathlib.Core.Path.{_≡_, refl, ap, subst, _∙_}
+use mathlib.Core.Path.{_≡_, refl, sym, ap, subst, _∙_}
 use lib.Dec.{eqb}
-use lib.ListN.{length, getD, set, take}
+use lib.ListN.{length, getD}
+use lib.Seq.{length-sets}
 use borrow.Author.Tests.{lt-ltb, le-leb}
 use Rattle.terms.specs.Rules.{Answer, Kind, Action, _>>=_, at, setAll, positions, act}
 use Rattle.terms.specs.Rules as R
 use Rattle.terms.specs.Rules.Answer.{refused, accepted}
 use Rattle.terms.specs.Rules.Action.{single, pair}
-use Rattle.terms.proofs.Names.{and-in}
+use Rattle.terms.specs.Same.{every}
+use Rattle.terms.proofs.Names.{and-in, and-inv}
 use Rattle.table.specs.declared.Comp.{Comp}
 use Rattle.table.specs.declared.State.{State}
-use Rattle.table.specs.Meaning.{defsOf, means, compsOf, netOf, noComp}
+use Rattle.table.specs.Meaning.{compIn, defsOf, means, wordsIn, compsOf, netOf, noComp}
 use Rattle.table.specs.Valid.{scriptOk, compOk, stateOk, valid}
 use Rattle.table.specs.Fire.{Left, ActedAt, labelOf, aloneAt, togetherAt, leftBy, actOn}
-use Rattle.table.proofs.Tests.{StateFine}
+use Rattle.table.proofs.Tests.{StateFine, comp-fine}
 use Rattle.table.proofs.Fires.{mapA, actedOf, act-means}
-use Rattle.table.proofs.Kept.{okA, goodActed, act-kept}
+use Rattle.table.proofs.Kept.{okA, goodLeft, goodActed, alone-kept, together-kept, act-kept}
 use Rattle.calls_act.specs.declared.Fired.{Fired}
 use Rattle.calls_act.specs.declared.Met.{Met}
 use Rattle.calls_act.specs.declared.Acted.{Acted}
 use Rattle.calls_act.specs.Fired.{tagOf, oneOf, twoOf}
 use Rattle.calls_act.specs.Acted.{refusal, Took, actsAs, Leaves, leaves, putAt, settledOne, settledTwo}
-use Rattle.table.proofs.InUse.{comps-length, valid-script, valid-state, comp-held}
+use Rattle.table.proofs.InUse.{comps-length, in-use, valid-script, valid-state, comp-held}
+use Rattle.table.proofs.Stores.{comps-put}
 
 -- ── lists ──
-pub at-take : {A : Type 0} (xs : List A) (n p : ℕ) (d : A) → p < n → n ≤ length xs → at (take n xs) p ≡ accepted (getD xs p d)
+at-getD : {A : Type 0} (xs : List A) (p : ℕ) (d : A) → p < length xs → at xs p ≡ accepted (getD xs p d)
 unfolding at
-at-take xs zero p d h k = absurd (omega arith)
-at-take [] (suc n) p d h k = absurd (omega arith)
-at-take (x ∷ xs) (suc n) zero d h k = refl
-at-take (x ∷ xs) (suc n) (suc p) d h k = at-take xs n p d (omega arith) (omega arith)
+at-getD [] p d h = absurd (omega arith)
+at-getD (x ∷ xs) zero d h = refl
+at-getD (x ∷ xs) (suc p) d h = at-getD xs p d (omega arith)
 
 pub at-past : {A : Type 0} (xs : List A) (p : ℕ) → length xs ≤ p → at xs p ≡ refused 8
 unfolding at
@@ -42,15 +44,8 @@ at-past [] p h = refl
 at-past (x ∷ xs) zero h = absurd (omega arith)
 at-past (x ∷ xs) (suc p) h = at-past xs p (omega arith)
 
-pub take-put : {A : Type 0} (xs : List A) (n p : ℕ) (y : A) → p < n → take n (set xs p y) ≡ R.set (take n xs) p y
-unfolding R.set
-take-put xs zero p y h = absurd (omega arith)
-take-put [] (suc n) p y h = refl
-take-put (x ∷ xs) (suc n) zero y h = refl
-take-put (x ∷ xs) (suc n) (suc p) y h = rw (take-put xs n p y (omega arith))
-
-pub length-comps : (st : State) → length (st .c) ≡ 256 → st .n ≤ 256 → length (compsOf st) ≡ st .n
-length-comps st e h = comps-length st (omega arith)
+pub at-in-use : (st : State) (p : ℕ) → p < st .n → at (compsOf st) p ≡ accepted (compIn (st .c) p)
+at-in-use st p h = at-getD (compsOf st) p noComp (omega (arith, comps-length st)) ∙ ap accepted (in-use st noComp p h)
 
 -- ── what question 17 gives ──
 pub valid-parts : (w : List ℕ) (st : State) → valid w st ≡ true → (scriptOk w ≡ true) × (StateFine w st)
@@ -59,8 +54,8 @@ valid-parts w st e = (valid-script w st e, valid-state w st e)
 pub few-comps : (w : List ℕ) (st : State) → valid w st ≡ true → st .n ≤ 256
 few-comps w st e = valid-parts w st e .1 .few
 
-pub comp-good : (w : List ℕ) (st : State) → valid w st ≡ true → length (st .c) ≡ 256 → (p : ℕ) → p < st .n → compOk w (getD (st .c) p noComp) ≡ true
-comp-good w st e l = comp-held w st (omega (arith, few-comps w st e)) e
+pub comp-good : (w : List ℕ) (st : State) → valid w st ≡ true → (p : ℕ) → p < st .n → compOk w (compIn (st .c) p) ≡ true
+comp-good w st e = comp-held w st e
 
 -- ── from the table to the rules ──
 took : (w : List ℕ) (st : State) (a : ActedAt) (r : Acted) → valid w st ≡ true → goodActed w a ≡ true → Leaves st a r → Took w (actedOf w a) r
@@ -89,58 +84,63 @@ acts-as w st a r e l = subst (λ x. actsAs w st x r) (act-means w (v .0) (compsO
 abbrev placed : List ℕ → List Comp → Answer Left → Answer ActedAt
 placed ps cs x = x >>= λ f. accepted (record { tag = f .tag; comps = setAll ps (f .after) cs })
 
-put-left : (w : List ℕ) (st : State) (p : ℕ) (f : Fired) (x : Answer Left) → oneOf f ≡ x → p < st .n → (st .n ≤ 256) → length (st .c) ≡ 256
+put-left : (w : List ℕ) (st : State) (p : ℕ) (f : Fired) (x : Answer Left) → oneOf f ≡ x → p < st .n → (st .n ≤ 256) → length (st .c) ≡ 3_072 → okA (goodLeft w) (oneOf f) ≡ true
     → leaves st (placed (p ∷ []) (compsOf st) x) (settledOne st p f)
-unfolding oneOf setAll
-put-left w st p f x e h n l = subst (λ x. leaves st (placed (p ∷ []) (compsOf st) x) (settledOne st p f)) e (go (eqb (f .code) 0))
+unfolding oneOf setAll every
+put-left w st p f x e h n l v = subst (λ x. leaves st (placed (p ∷ []) (compsOf st) x) (settledOne st p f)) e (go (eqb (f .code) 0) v)
   where
-    go : (b : Bool) → leaves st (placed (p ∷ []) (compsOf st) (cond b (accepted (record { tag = tagOf (f .label); after = f .comp ∷ [] })) (refused (f .code))))
+    go : (b : Bool) → okA (goodLeft w) (cond b (accepted (record { tag = tagOf (f .label); after = f .comp ∷ [] })) (refused (f .code))) ≡ true
+        → leaves st (placed (p ∷ []) (compsOf st) (cond b (accepted (record { tag = tagOf (f .label); after = f .comp ∷ [] })) (refused (f .code))))
         (cond b (record { code = 0; label = f .label; state = putAt st p (f .comp) }) (refusal (f .code) st))
-    go true = record { code = refl; tag = refl; comps = unfold compsOf in take-put (st .c) (st .n) p (f .comp) h; size = refl }
-    go false = refl
+    go true g = record { code = refl; tag = refl; comps = comps-put st p (f .comp) h n l (comp-fine w (f .comp) (and-inv (compOk w (f .comp)) _ g .0) .slots); size = refl }
+    go false g = refl
 
-put-two : (w : List ℕ) (st : State) (p q : ℕ) (m : Met) (x : Answer Left) → twoOf m ≡ x → p < st .n → q < st .n
+put-two : (w : List ℕ) (st : State) (p q : ℕ) (m : Met) (x : Answer Left) → twoOf m ≡ x → p < st .n → q < st .n → st .n ≤ 256 → length (st .c) ≡ 3_072 → okA (goodLeft w) (twoOf m) ≡ true
     → leaves st (placed (p ∷ q ∷ []) (compsOf st) x) (settledTwo st p q m)
-unfolding twoOf setAll
-put-two w st p q m x e h k = subst (λ x. leaves st (placed (p ∷ q ∷ []) (compsOf st) x) (settledTwo st p q m)) e (go (eqb (m .code) 0))
+unfolding twoOf setAll every
+put-two w st p q m x e h k n l v = subst (λ x. leaves st (placed (p ∷ q ∷ []) (compsOf st) x) (settledTwo st p q m)) e (go (eqb (m .code) 0) v)
   where
-    both : compsOf (putAt (putAt st p (m .sender)) q (m .receiver)) ≡ R.set (R.set (compsOf st) p (m .sender)) q (m .receiver)
-    both = unfold compsOf in take-put (set (st .c) p (m .sender)) (st .n) q (m .receiver) k ∙ ap (λ z. R.set z q (m .receiver)) (take-put (st .c) (st .n) p (m .sender) h)
+    both : length (m .sender .vals) ≡ 8 → length (m .receiver .vals) ≡ 8 → compsOf (putAt (putAt st p (m .sender)) q (m .receiver)) ≡ R.set (R.set (compsOf st) p (m .sender)) q (m .receiver)
+    both u v = comps-put (putAt st p (m .sender)) q (m .receiver) k n (length-sets (st .c) (p * 12) (wordsIn (m .sender)) ∙ l) v ∙ ap (λ z. R.set z q (m .receiver)) (comps-put st p (m .sender) h n l u)
 
-    go : (b : Bool) → leaves st (placed (p ∷ q ∷ []) (compsOf st) (cond b (accepted (record { tag = tagOf (m .label); after = m .sender ∷ m .receiver ∷ [] })) (refused (m .code))))
+    go : (b : Bool) → okA (goodLeft w) (cond b (accepted (record { tag = tagOf (m .label); after = m .sender ∷ m .receiver ∷ [] })) (refused (m .code))) ≡ true
+        → leaves st (placed (p ∷ q ∷ []) (compsOf st) (cond b (accepted (record { tag = tagOf (m .label); after = m .sender ∷ m .receiver ∷ [] })) (refused (m .code))))
         (cond b (record { code = 0; label = m .label; state = putAt (putAt st p (m .sender)) q (m .receiver) }) (refusal (m .code) st))
-    go true = record { code = refl; tag = refl; comps = both; size = refl }
-    go false = refl
+    go true g =
+        let i = and-inv (compOk w (m .sender)) _ g in
+        let j = and-inv (compOk w (m .receiver)) _ (i .1) in
+        record { code = refl; tag = refl; comps = both (comp-fine w (m .sender) (i .0) .slots) (comp-fine w (m .receiver) (j .0) .slots); size = refl }
+    go false g = refl
 
-pub one-left : (w : List ℕ) (st : State) (k : Kind) (p : ℕ) (f : Fired) → valid w st ≡ true → length (st .c) ≡ 256 → p < st .n → oneOf f ≡ aloneAt w k (getD (st .c) p noComp)
+pub one-left : (w : List ℕ) (st : State) (k : Kind) (p : ℕ) (f : Fired) → valid w st ≡ true → length (st .c) ≡ 3_072 → p < st .n → oneOf f ≡ aloneAt w k (compIn (st .c) p)
     → leaves st (actOn w (single k p) (compsOf st)) (settledOne st p f)
 unfolding actOn leftBy positions
 one-left w st k p f v l h e =
     let n = few-comps w st v in
-    let z : at (compsOf st) p ≡ accepted (getD (st .c) p noComp) = unfold compsOf in at-take (st .c) (st .n) p noComp h (omega arith) in
-    rw z (put-left w st p f (aloneAt w k (getD (st .c) p noComp)) e h n l)
+    let z : at (compsOf st) p ≡ accepted (compIn (st .c) p) = at-in-use st p h in
+    rw z (put-left w st p f (aloneAt w k (compIn (st .c) p)) e h n l (subst (λ x. okA (goodLeft w) x ≡ true) (sym e) (alone-kept w (valid-parts w st v .0) k (compIn (st .c) p) (comp-fine w _ (comp-good w st v p h)))))
 
-pub two-left : (w : List ℕ) (st : State) (p q : ℕ) (m : Met) → valid w st ≡ true → length (st .c) ≡ 256 → p < st .n → q < st .n → twoOf m ≡ togetherAt w (getD (st .c) p noComp) (getD (st .c) q noComp)
+pub two-left : (w : List ℕ) (st : State) (p q : ℕ) (m : Met) → valid w st ≡ true → length (st .c) ≡ 3_072 → p < st .n → q < st .n → twoOf m ≡ togetherAt w (compIn (st .c) p) (compIn (st .c) q)
     → leaves st (actOn w (pair p q) (compsOf st)) (settledTwo st p q m)
 unfolding actOn leftBy positions
 two-left w st p q m v l h k e =
     let n = few-comps w st v in
-    let z : at (compsOf st) p ≡ accepted (getD (st .c) p noComp) = unfold compsOf in at-take (st .c) (st .n) p noComp h (omega arith) in
-    let y : at (compsOf st) q ≡ accepted (getD (st .c) q noComp) = unfold compsOf in at-take (st .c) (st .n) q noComp k (omega arith) in
-    rw (z, y) (put-two w st p q m (togetherAt w (getD (st .c) p noComp) (getD (st .c) q noComp)) e h k)
+    let z : at (compsOf st) p ≡ accepted (compIn (st .c) p) = at-in-use st p h in
+    let y : at (compsOf st) q ≡ accepted (compIn (st .c) q) = at-in-use st q k in
+    rw (z, y) (put-two w st p q m (togetherAt w (compIn (st .c) p) (compIn (st .c) q)) e h k n l (subst (λ x. okA (goodLeft w) x ≡ true) (sym e) (together-kept w (valid-parts w st v .0) (compIn (st .c) p) (compIn (st .c) q) (comp-fine w _ (comp-good w st v p h)) (comp-fine w _ (comp-good w st v q k)))))
 
 -- a position past the components in use: question 8
-pub one-out : (w : List ℕ) (st : State) (k : Kind) (p : ℕ) → valid w st ≡ true → length (st .c) ≡ 256 → st .n ≤ p → leaves st (actOn w (single k p) (compsOf st)) (refusal 8 st)
+pub one-out : (w : List ℕ) (st : State) (k : Kind) (p : ℕ) → valid w st ≡ true → st .n ≤ p → leaves st (actOn w (single k p) (compsOf st)) (refusal 8 st)
 unfolding actOn leftBy
-one-out w st k p v l h = rw (at-past (compsOf st) p (omega (arith, length-comps st l (few-comps w st v))))
+one-out w st k p v h = rw (at-past (compsOf st) p (omega (arith, comps-length st)))
 
-pub two-out-p : (w : List ℕ) (st : State) (p q : ℕ) → valid w st ≡ true → length (st .c) ≡ 256 → st .n ≤ p → leaves st (actOn w (pair p q) (compsOf st)) (refusal 8 st)
+pub two-out-p : (w : List ℕ) (st : State) (p q : ℕ) → valid w st ≡ true → st .n ≤ p → leaves st (actOn w (pair p q) (compsOf st)) (refusal 8 st)
 unfolding actOn leftBy
-two-out-p w st p q v l h = rw (at-past (compsOf st) p (omega (arith, length-comps st l (few-comps w st v))))
+two-out-p w st p q v h = rw (at-past (compsOf st) p (omega (arith, comps-length st)))
 
-pub two-out-q : (w : List ℕ) (st : State) (p q : ℕ) → valid w st ≡ true → length (st .c) ≡ 256 → p < st .n → st .n ≤ q → leaves st (actOn w (pair p q) (compsOf st)) (refusal 8 st)
+pub two-out-q : (w : List ℕ) (st : State) (p q : ℕ) → valid w st ≡ true → p < st .n → st .n ≤ q → leaves st (actOn w (pair p q) (compsOf st)) (refusal 8 st)
 unfolding actOn leftBy
-two-out-q w st p q v l h k =
+two-out-q w st p q v h k =
     let n = few-comps w st v in
-    let z : at (compsOf st) p ≡ accepted (getD (st .c) p noComp) = unfold compsOf in at-take (st .c) (st .n) p noComp h (omega arith) in
-    rw (z, at-past (compsOf st) q (omega (arith, length-comps st l n)))
+    let z : at (compsOf st) p ≡ accepted (compIn (st .c) p) = at-in-use st p h in
+    rw (z, at-past (compsOf st) q (omega (arith, comps-length st)))

@@ -1,17 +1,17 @@
 -- What the answer of an action stands for: document 01, *Actions* and *Questions, asked downward*. A refusal is its number with the state as it was.
-use Prim.Native.Nat.{ℕ}
+use Prim.Native.Nat.{ℕ, _*_}
 use mathlib.Core.List.{List}
 use mathlib.Core.Bool.{Bool, true, false, cond}
 use mathlib.Core.Path.{_≡_}
 use lib.Dec.{eqb}
-use lib.ListN.{set}
+use lib.Seq.{sets}
 use Rattle.terms.specs.Rules.{Answer, Action, Acted as ActedBy, _>>=_, act}
 use Rattle.terms.specs.Rules.Answer.{refused, accepted}
 use Rattle.terms.specs.Rules.Kind.{calls, moves}
 use Rattle.terms.specs.Rules.Action.{single, pair}
 use Rattle.table.specs.declared.Comp.{Comp}
 use Rattle.table.specs.declared.State.{State}
-use Rattle.table.specs.Meaning.{defsOf, compsOf, netOf}
+use Rattle.table.specs.Meaning.{wordsIn, defsOf, compsOf, netOf}
 use Rattle.table.specs.Valid.{valid}
 use Rattle.table.specs.Fire.{ActedAt, labelOf}
 use Rattle.calls_act.specs.declared.Fired.{Fired}
@@ -67,7 +67,7 @@ leaves st (refused n) r = r ≡ refusal n st
 leaves st (accepted a) r = Leaves st a r
 
 abbrev pub putAt : State → ℕ → Comp → State
-putAt st p v = record { c = set (st .c) p v; n = st .n }
+putAt st p v = record { c = sets (st .c) (p * 12) (wordsIn v); n = st .n }
 
 -- what one component at p has become
 abbrev pub settledOne : State → ℕ → Fired → Acted

@@ -2,10 +2,10 @@
 ghost use mathlib.Core.Path.{_≡_};
 ghost use mathlib.Core.Bool.{true};
 ghost use Prim.Native.Nat.{_<_};
-ghost use lib.ListN.{getD, length};
+ghost use lib.ListN.{length};
 ghost use Rattle.terms.specs.Rules.Kind.{calls, moves};
 ghost use Rattle.terms.specs.Rules.Action.{single, pair};
-ghost use Rattle.table.specs.Meaning.{compsOf, noComp};
+ghost use Rattle.table.specs.Meaning.{compIn, compsOf};
 ghost use Rattle.table.specs.Valid.{valid};
 ghost use Rattle.table.specs.Fire.{actOn};
 ghost use Rattle.calls_act.specs.Acted.{actionRule, refusal, actsAs, leaves, settledOne, settledTwo};
@@ -16,6 +16,8 @@ use super::Met;
 use super::fire;
 use table::Comp;
 use table::State;
+use table::comps::comp_at;
+use table::comps::put_comp;
 
 pub fn refuse(code: u32, st: State) -> Acted
     ensures { λ r. ⌜ r ≡ refusal code st ⌝ }
@@ -32,11 +34,11 @@ pub fn refuse(code: u32, st: State) -> Acted
     }
 }
 
-pub fn entry(st: State, p: usize) -> Comp
+fn entry(st: State, p: usize) -> Comp
     requires { ⌜ p < 256 ⌝ }
-    ensures { λ r. ⌜ (r ≡ getD (st .c) p noComp) × (length (st .c) ≡ 256) ⌝ }
+    ensures { λ r. ⌜ (r ≡ compIn (st .c) p) × (length (st .c) ≡ 3072) ⌝ }
 {
-    st.c[p]
+    comp_at(&st.c, p)
 }
 
 fn settle_one(st: State, p: usize, f: Fired) -> Acted
@@ -47,7 +49,7 @@ fn settle_one(st: State, p: usize, f: Fired) -> Acted
         let label = f.label;
         let d = f.comp;
         let mut next = st;
-        next.c[p] = d;
+        put_comp(&mut next.c, p, d);
         return Acted {
             code: 0,
             label: label,
@@ -66,8 +68,8 @@ fn settle_two(st: State, p: usize, q: usize, m: Met) -> Acted
         let a = m.sender;
         let b = m.receiver;
         let mut next = st;
-        next.c[p] = a;
-        next.c[q] = b;
+        put_comp(&mut next.c, p, a);
+        put_comp(&mut next.c, q, b);
         return Acted {
             code: 0,
             label: label,

@@ -6,7 +6,7 @@ ghost use Rattle.table.specs.Valid.{scriptOk, compOk, valid};
 ghost use Rattle.calls_forced.specs.Marked.{Marked, earIn, earOf};
 use table::Comp;
 use table::Head;
-use table::State;
+use table::comps::comp_at;
 use table::words;
 
 fn ear_in(l: u32, h: Head) -> usize
@@ -33,16 +33,15 @@ fn ear_of(w: &[u32; 99592], c: Comp) -> usize
     ear_in(c.loc, h)
 }
 
-pub(crate) fn ears_in(w: &[u32; 99592], st: State) -> [u32; 4096]
-    requires { ⌜ valid (now w) st ≡ true ⌝ }
-    ensures { λ r. ⌜ Marked 4096 (earOf (now (w .entry))) (compsOf st) r ⌝ }
+pub(crate) fn ears_in(w: &[u32; 99592], c: &[u32; 3072], n: usize) -> [u32; 4096]
+    requires { ⌜ valid (now w) (record { c = now c; n = n }) ≡ true ⌝ }
+    ensures { λ r. ⌜ Marked 4096 (earOf (now (w .entry))) (compsOf (record { c = now (c .entry); n = n })) r ⌝ }
 {
-    let n = st.n;
     let mut out = [0u32; 4096];
     let mut j: usize = 0;
     while j < n {
-        let c = st.c[j];
-        let k = ear_of(w, c);
+        let x = comp_at(c, j);
+        let k = ear_of(w, x);
         if k < 4096 {
             out[k] = 1;
         }

@@ -27,8 +27,8 @@ pub fn forced_valid(w: &[u32; 99592], st: State) -> Report
     requires { ⌜ valid (now w) st ≡ true ⌝ }
     ensures { λ r. ⌜ r ≡ reportOf (forcedTest (now (w .entry)) st) ⌝ }
 {
-    let heard = ears::ears_in(w, st);
-    let marks = press::pressed_in(w, st, &heard);
+    let heard = ears::ears_in(w, &st.c, st.n);
+    let marks = press::pressed_in(w, &st.c, st.n, &heard);
     let set = set_of(&marks);
     Report {
         code: 0,

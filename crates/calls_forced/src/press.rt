@@ -6,7 +6,7 @@ ghost use Rattle.table.specs.Valid.{scriptOk, compOk, valid};
 ghost use Rattle.calls_forced.specs.Marked.{Marked, isHeard, pressesIn, pressOf};
 use table::Comp;
 use table::Head;
-use table::State;
+use table::comps::comp_at;
 use table::words;
 
 fn is_heard(ears: &[u32; 4096], k: usize) -> bool
@@ -45,16 +45,20 @@ fn press_of(w: &[u32; 99592], ears: &[u32; 4096], c: Comp) -> usize
     64
 }
 
-pub(crate) fn pressed_in(w: &[u32; 99592], st: State, ears: &[u32; 4096]) -> [u32; 64]
-    requires { ⌜ valid (now w) st ≡ true ⌝ }
-    ensures { λ r. ⌜ Marked 64 (pressOf (now (w .entry)) (now (ears .entry))) (compsOf st) r ⌝ }
+pub(crate) fn pressed_in(
+    w: &[u32; 99592],
+    c: &[u32; 3072],
+    n: usize,
+    ears: &[u32; 4096],
+) -> [u32; 64]
+    requires { ⌜ valid (now w) (record { c = now c; n = n }) ≡ true ⌝ }
+    ensures { λ r. ⌜ Marked 64 (pressOf (now (w .entry)) (now (ears .entry))) (compsOf (record { c = now (c .entry); n = n })) r ⌝ }
 {
-    let n = st.n;
     let mut out = [0u32; 64];
     let mut j: usize = 0;
     while j < n {
-        let c = st.c[j];
-        let k = press_of(w, ears, c);
+        let x = comp_at(c, j);
+        let k = press_of(w, ears, x);
         if k < 64 {
             out[k] = 1;
         }

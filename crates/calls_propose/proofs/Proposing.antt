@@ -7,7 +7,7 @@ use mathlib.Core.List.{List, _∷_}
 use mathlib.Core.Bool.{Bool, true, false, cond}
 use mathlib.Core.Path.{_≡_, refl, sym, ap, subst, _∙_}
 use lib.Dec.{eqb, ltb, leb}
-use lib.ListN.{length, getD, drop, length-take, drop-of-length-le}
+use lib.ListN.{length, getD, drop, drop-of-length-le}
 use lib.Seq.{drop-cons}
 use borrow.Author.Tests.{lt-ltb, le-ltb, ltb-true, ltb-false, eq-eqb, ne-eqb}
 use Rattle.terms.specs.Names.{Name, sameName}
@@ -23,14 +23,15 @@ use Rattle.terms.proofs.Numbered.{numbered, bind-numbered, act-numbered, tick-n
 use Rattle.terms.proofs.Steps.{fires-here}
 use Rattle.table.specs.declared.State.{State}
 use Rattle.table.specs.Words.{locsIn, locName}
-use Rattle.table.specs.Meaning.{defsOf, means, compsOf, netOf, noComp}
+use Rattle.table.specs.Meaning.{compIn, defsOf, means, compsOf, netOf}
 use Rattle.table.specs.Valid.{valid}
 use Rattle.table.proofs.Tests.{script-fine, comp-fine, held-once}
 use Rattle.table.proofs.Fires.{mapA, at-map}
 use Rattle.calls_act.specs.declared.Acted.{Acted}
 use Rattle.calls_act.specs.Acted.{asked, actionOf, actionRule, actsAs}
 use Rattle.calls_act.specs.Acted as A
-use Rattle.calls_act.proofs.Positions.{at-take, at-past, valid-parts, few-comps, comp-good}
+use Rattle.table.proofs.InUse.{comps-length}
+use Rattle.calls_act.proofs.Positions.{at-in-use, at-past, valid-parts, comp-good}
 use Rattle.calls_tick.specs.declared.Ticked.{Ticked}
 use Rattle.calls_tick.specs.Ticked.{room, tickRule, refusal, Took, ticksAs}
 use Rattle.calls_propose.specs.declared.Record.{Record}
@@ -98,25 +99,25 @@ module _ (w : List ℕ) (st : State) (k p q : ℕ) (b : ActedBy) (e : actionRule
   in-use = go (ltb p (st .n)) refl
     where
       past : st .n ≤ p → length (compsOf st) ≤ p
-      past h = unfold compsOf in simp length-take (omega arith)
+      past h = omega (arith, comps-length st)
 
       go : (x : Bool) → ltb p (st .n) ≡ x → p < st .n
       go false h = clash (ap (mapA (means w)) (sym (at-past (compsOf st) p (past (omega (arith, ltb-false p (st .n) h))))) ∙ stood .1)
       go true h = ltb-true p (st .n) h
 
-  fires-at : valid w st ≡ true → length (st .c) ≡ 256 → firesAt (b .label) ≡ locName w (getD (st .c) p noComp .loc)
-  fires-at v n =
-      let z : at (compsOf st) p ≡ accepted (getD (st .c) p noComp) = unfold compsOf in at-take (st .c) (st .n) p noComp in-use (omega (arith, few-comps w st v)) in
-      let m : means w (getD (st .c) p noComp) ≡ stood .0 = took (ap (mapA (means w)) (sym z) ∙ stood .1) in
+  fires-at : valid w st ≡ true → firesAt (b .label) ≡ locName w (compIn (st .c) p .loc)
+  fires-at v =
+      let z : at (compsOf st) p ≡ accepted (compIn (st .c) p) = at-in-use st p in-use in
+      let m : means w (compIn (st .c) p) ≡ stood .0 = took (ap (mapA (means w)) (sym z) ∙ stood .1) in
       stood .2 ∙ ap placeOf (sym m) ∙ (unfold means placeOf in refl)
 
 -- question 16, on the table
-pub fires-here-is : (w : List ℕ) (st : State) (k p q l : ℕ) (b : ActedBy) → valid w st ≡ true → length (st .c) ≡ 256 → l < locsIn w → actionRule w st k p q ≡ accepted b
-    → sameName (firesAt (b .label)) (locName w l) ≡ eqb (getD (st .c) p noComp .loc) l
-fires-here-is w st k p q l b v n h e =
+pub fires-here-is : (w : List ℕ) (st : State) (k p q l : ℕ) (b : ActedBy) → valid w st ≡ true → l < locsIn w → actionRule w st k p q ≡ accepted b
+    → sameName (firesAt (b .label)) (locName w l) ≡ eqb (compIn (st .c) p .loc) l
+fires-here-is w st k p q l b v h e =
     let s = valid-parts w st v in
-    rw (fires-at w st k p q b e v n)
-    (held-once _ (locName w) (locsIn w) (script-fine w (s .0) .loc-names) (getD (st .c) p noComp .loc) l (comp-fine w _ (comp-good w st v n p (in-use w st k p q b e)) .loc) h)
+    rw (fires-at w st k p q b e v)
+    (held-once _ (locName w) (locsIn w) (script-fine w (s .0) .loc-names) (compIn (st .c) p .loc) l (comp-fine w _ (comp-good w st v p (in-use w st k p q b e)) .loc) h)
 
 -- ── one record ──
 rule-numbered : (w : List ℕ) (st : State) (k p q : ℕ) → numbered (actionRule w st k p q)
@@ -192,19 +193,19 @@ module _ (w : List ℕ) (out : Ticked) (l : ℕ) (r : Record) (g : Held w l out)
       pub position : r .p < out .state .n
       position = in-use w (out .state) (r .kind) (r .p) (r .q) (answer .0) (answer .1)
 
-      decided : length (out .state .c) ≡ 256 → firedNext w l r (soFar w out) ≡ cond (eqb (getD (out .state .c) (r .p) noComp .loc) l) (accepted (answer .0 .comps)) (refused 16)
-      decided n = fired-is z ∙ ap (λ x. x >>= hereOnly (locName w l)) (answer .1) ∙ ap (λ x. cond x (accepted (answer .0 .comps)) (refused 16)) (fires-here-is w (out .state) (r .kind) (r .p) (r .q) l (answer .0) (g .good) n (g .here z) (answer .1))
+      decided : firedNext w l r (soFar w out) ≡ cond (eqb (compIn (out .state .c) (r .p) .loc) l) (accepted (answer .0 .comps)) (refused 16)
+      decided = fired-is z ∙ ap (λ x. x >>= hereOnly (locName w l)) (answer .1) ∙ ap (λ x. cond x (accepted (answer .0 .comps)) (refused 16)) (fires-here-is w (out .state) (r .kind) (r .p) (r .q) l (answer .0) (g .good) (g .here z) (answer .1))
 
       -- question 16
-      pub next-elsewhere : length (out .state .c) ≡ 256 → (getD (out .state .c) (r .p) noComp .loc ≡ l → ⊥) → Next w l (firedNext w l r (soFar w out)) (refusal 16 (out .state))
-      next-elsewhere n k = record {
-        far = far-none w (refusal 16 (out .state)) (λ i. omega arith) ∙ sym (decided n ∙ rw (ne-eqb _ _ k));
+      pub next-elsewhere : (compIn (out .state .c) (r .p) .loc ≡ l → ⊥) → Next w l (firedNext w l r (soFar w out)) (refusal 16 (out .state))
+      next-elsewhere k = record {
+        far = far-none w (refusal 16 (out .state)) (λ i. omega arith) ∙ sym (decided ∙ rw (ne-eqb _ _ k));
         held = record { good = g .good; here = λ i. g .here z };
       }
 
-      pub next-fired : length (out .state .c) ≡ 256 → getD (out .state .c) (r .p) noComp .loc ≡ l → Next w l (firedNext w l r (soFar w out)) (record { code = 0; state = a .state })
-      next-fired n k = record {
-        far = far-some w (record { code = 0; state = a .state }) refl ∙ ap accepted (answer .2 .comps) ∙ sym (decided n ∙ rw (eq-eqb _ _ k));
+      pub next-fired : compIn (out .state .c) (r .p) .loc ≡ l → Next w l (firedNext w l r (soFar w out)) (record { code = 0; state = a .state })
+      next-fired k = record {
+        far = far-some w (record { code = 0; state = a .state }) refl ∙ ap accepted (answer .2 .comps) ∙ sym (decided ∙ rw (eq-eqb _ _ k));
         held = record { good = answer .2 .good; here = λ i. g .here z };
       }
 

@@ -11,7 +11,16 @@ use calls_act::act;
 use calls_tick::Ticked;
 use calls_tick::tick;
 use table::State;
+use table::comps::comp_at;
+use table::valid;
 use table::words;
+
+// Question 17.
+pub(crate) fn stands(w: &[u32; 99592], st: State) -> bool
+    ensures { λ r. ⌜ r ≡ valid (now (w .entry)) st ⌝ }
+{
+    valid::is_valid(w, &st.c, st.n)
+}
 
 // Question 8 of the location.
 pub(crate) fn begin(w: &[u32; 99592], st: State, l: u32) -> Ticked
@@ -48,7 +57,7 @@ pub(crate) fn act_next(w: &[u32; 99592], out: Ticked, l: u32, r: Record) -> Tick
     if a.code != 0 {
         return tick::refuse(a.code, st);
     }
-    let c = act::entry(st, p);
+    let c = comp_at(&st.c, p);
     if c.loc != l {
         return tick::refuse(16, st);
     }

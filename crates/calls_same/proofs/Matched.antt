@@ -14,7 +14,7 @@ use Rattle.terms.proofs.Mixed.{perm-≈}
 use Rattle.terms.proofs.Same.{reordered-perm}
 use Rattle.table.specs.declared.Comp.{Comp}
 use Rattle.table.specs.declared.State.{State}
-use Rattle.table.specs.Meaning.{means, compsOf, netOf, noComp}
+use Rattle.table.specs.Meaning.{compIn, means, compsOf, netOf, noComp}
 use Rattle.table.proofs.InUse.{comps-length, in-use, comp-at}
 use Rattle.calls_same.specs.Unused.{unused}
 
@@ -105,13 +105,13 @@ none-left {A} f us cs = go (unused us cs)
     go (d ∷ ds) e = absurd (omega arith)
 
 -- ── the components of two tables ──
-pub net-length : (w : List ℕ) (st : State) → st .n ≤ length (st .c) → length (netOf w st) ≡ st .n
+pub net-length : (w : List ℕ) (st : State) → length (netOf w st) ≡ st .n
 unfolding netOf
-net-length w st h = length-map (compsOf st) (means w) ∙ comps-length st h
+net-length w st = length-map (compsOf st) (means w) ∙ comps-length st
 
 -- the unused ones before the position n are not equal to c
 abbrev pub Unequal : List ℕ → Comp → List ℕ → State → List Bool → ℕ → Type 0
-Unequal w c v b us n = (m : ℕ) → m < n → getD us m false ≡ false → equal (means w c) (means v (getD (b .c) m noComp)) ≡ false
+Unequal w c v b us n = (m : ℕ) → m < n → getD us m false ≡ false → equal (means w c) (means v (compIn (b .c) m)) ≡ false
 
 -- what is left of the first from the position k on, and the unused ones of the second, are the same exactly if all are
 pub record Left (w v : List ℕ) (a b : State) (us : List Bool) (k : ℕ) : Type 0 where
@@ -119,45 +119,45 @@ pub record Left (w v : List ℕ) (a b : State) (us : List Bool) (k : ℕ) : Type
   pub many : length (unused us (compsOf b)) ≡ a .n - k
   pub same : reordered (map (means w) (drop k (compsOf a))) (map (means v) (unused us (compsOf b))) ≡ reordered (netOf w a) (netOf v b)
 
-module _ (w v : List ℕ) (a b : State) (ha : a .n ≤ length (a .c)) (hb : b .n ≤ length (b .c)) (even : a .n ≡ b .n) (few : b .n ≤ 256) where
+module _ (w v : List ℕ) (a b : State) (even : a .n ≡ b .n) (few : b .n ≤ 256) where
   pub begun : Left w v a b (replicate 256 false) 0
   begun =
-      let e = unused-all 256 (compsOf b) (omega (arith, comps-length b hb)) in
+      let e = unused-all 256 (compsOf b) (omega (arith, comps-length b)) in
       record {
         marks = refl;
-        many = ap length e ∙ omega (arith, comps-length b hb);
+        many = ap length e ∙ omega (arith, comps-length b);
         same = unfold netOf in ap (λ z. reordered (map (means w) (compsOf a)) (map (means v) z)) e;
       }
 
   in-order : (c : Comp) (us : List Bool) (n : ℕ) → n ≤ b .n → Unequal w c v b us n → Apart (means v) noComp (means w c) us (compsOf b) n
-  in-order c us n h u m l e = rw (in-use b hb noComp m (omega arith)) (u m l e)
+  in-order c us n h u m l e = rw (in-use b noComp m (omega arith)) (u m l e)
 
-  next-is : (k : ℕ) → k < a .n → map (means w) (drop k (compsOf a)) ≡ means w (getD (a .c) k noComp) ∷ map (means w) (drop (k + 1) (compsOf a))
-  next-is k h = ap (map (means w)) (comp-at a ha noComp k h)
+  next-is : (k : ℕ) → k < a .n → map (means w) (drop k (compsOf a)) ≡ means w (compIn (a .c) k) ∷ map (means w) (drop (k + 1) (compsOf a))
+  next-is k h = ap (map (means w)) (comp-at a k h)
 
   module _ (us : List Bool) (k : ℕ) (left : Left w v a b us k) where
-    pub step : (p : ℕ) → k < a .n → p < a .n → getD us p false ≡ false → equal (means w (getD (a .c) k noComp)) (means v (getD (b .c) p noComp)) ≡ true
-        → Unequal w (getD (a .c) k noComp) v b us p → Left w v a b (set us p true) (k + 1)
+    pub step : (p : ℕ) → k < a .n → p < a .n → getD us p false ≡ false → equal (means w (compIn (a .c) k)) (means v (compIn (b .c) p)) ≡ true
+        → Unequal w (compIn (a .c) k) v b us p → Left w v a b (set us p true) (k + 1)
     step p h l e q u =
-        let long : p < length (compsOf b) = omega (arith, comps-length b hb) in
+        let long : p < length (compsOf b) = omega (arith, comps-length b) in
         let f = unused-fewer us (compsOf b) p (omega (arith, left .marks)) long e in
-        let r = matched (means v) noComp (means w (getD (a .c) k noComp)) (map (means w) (drop (k + 1) (compsOf a))) us (compsOf b) p (omega (arith, left .marks)) long e
-        (rw (in-use b hb noComp p (omega arith)) q) (in-order (getD (a .c) k noComp) us p (omega arith) u) in
+        let r = matched (means v) noComp (means w (compIn (a .c) k)) (map (means w) (drop (k + 1) (compsOf a))) us (compsOf b) p (omega (arith, left .marks)) long e
+        (rw (in-use b noComp p (omega arith)) q) (in-order (compIn (a .c) k) us p (omega arith) u) in
         record {
           marks = length-set us p true ∙ left .marks;
           many = omega (arith, left .many);
           same = r ∙ ap (λ z. reordered z (map (means v) (unused us (compsOf b)))) (sym (next-is k h)) ∙ left .same;
         }
 
-    pub stuck : k < a .n → Unequal w (getD (a .c) k noComp) v b us (a .n) → false ≡ reordered (netOf w a) (netOf v b)
+    pub stuck : k < a .n → Unequal w (compIn (a .c) k) v b us (a .n) → false ≡ reordered (netOf w a) (netOf v b)
     stuck h u =
-        let long : length (compsOf b) ≡ a .n = comps-length b hb ∙ sym even in
-        let apart : Apart (means v) noComp (means w (getD (a .c) k noComp)) us (compsOf b) (length (compsOf b)) = rw long (in-order (getD (a .c) k noComp) us (a .n) (omega arith) u) in
-        unmatched (means v) noComp (means w (getD (a .c) k noComp)) (map (means w) (drop (k + 1) (compsOf a))) us (compsOf b) apart
+        let long : length (compsOf b) ≡ a .n = comps-length b ∙ sym even in
+        let apart : Apart (means v) noComp (means w (compIn (a .c) k)) us (compsOf b) (length (compsOf b)) = rw long (in-order (compIn (a .c) k) us (a .n) (omega arith) u) in
+        unmatched (means v) noComp (means w (compIn (a .c) k)) (map (means w) (drop (k + 1) (compsOf a))) us (compsOf b) apart
         ∙ ap (λ z. reordered z (map (means v) (unused us (compsOf b)))) (sym (next-is k h)) ∙ left .same
 
     pub ended : a .n ≤ k → true ≡ reordered (netOf w a) (netOf v b)
     ended h =
         none-left (means v) us (compsOf b) (left .many ∙ omega arith)
-        ∙ ap (λ z. reordered (map (means w) z) (map (means v) (unused us (compsOf b)))) (sym (drop-of-length-le (compsOf a) {i = k} (omega (arith, comps-length a ha))))
+        ∙ ap (λ z. reordered (map (means w) z) (map (means v) (unused us (compsOf b)))) (sym (drop-of-length-le (compsOf a) {i = k} (omega (arith, comps-length a))))
         ∙ left .same

@@ -32,13 +32,13 @@ pub struct Compared {
 pub fn same(w: &[u32; 99592], a: State, v: &[u32; 99592], b: State) -> Compared
     ensures { λ r. ⌜ r ≡ compared (sameAnswer (now (w .entry)) a (now (v .entry)) b) ⌝ }
 {
-    if !is_valid(w, a) {
+    if !is_valid(w, &a.c, a.n) {
         return Compared {
             code: 17,
             yes: false,
         };
     }
-    if !is_valid(v, b) {
+    if !is_valid(v, &b.c, b.n) {
         return Compared {
             code: 17,
             yes: false,
@@ -46,14 +46,21 @@ pub fn same(w: &[u32; 99592], a: State, v: &[u32; 99592], b: State) -> Compared
     }
     Compared {
         code: 0,
-        yes: same_networks(w, a, v, b),
+        yes: same_networks(w, &a.c, a.n, v, &b.c, b.n),
     }
 }
 
 // Two networks that pass question 17: the same definitions as a set, and the same components in any order, each as often.
-fn same_networks(w: &[u32; 99592], a: State, v: &[u32; 99592], b: State) -> bool
-    requires { ⌜ (valid (now w) a ≡ true) × (valid (now v) b ≡ true) ⌝ }
-    ensures { λ r. ⌜ r ≡ same (networkOf (now (w .entry)) a) (networkOf (now (v .entry)) b) ⌝ }
+fn same_networks(
+    w: &[u32; 99592],
+    a: &[u32; 3072],
+    n: usize,
+    v: &[u32; 99592],
+    b: &[u32; 3072],
+    m: usize,
+) -> bool
+    requires { ⌜ (valid (now w) (record { c = now a; n = n }) ≡ true) × (valid (now v) (record { c = now b; n = m }) ≡ true) ⌝ }
+    ensures { λ r. ⌜ r ≡ same (networkOf (now (w .entry)) (record { c = now (a .entry); n = n })) (networkOf (now (v .entry)) (record { c = now (b .entry); n = m })) ⌝ }
 {
     if !defs_within(w, v) {
         return false;
@@ -61,5 +68,5 @@ fn same_networks(w: &[u32; 99592], a: State, v: &[u32; 99592], b: State) -> bool
     if !defs_within(v, w) {
         return false;
     }
-    same_comps(w, a, v, b)
+    same_comps(w, a, n, v, b, m)
 }

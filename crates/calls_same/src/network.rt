@@ -13,7 +13,7 @@ use super::parts::same_name;
 use super::parts::same_part;
 use super::parts::same_process;
 use table::Comp;
-use table::State;
+use table::comps::comp_at;
 use table::words::arity_of;
 use table::words::body_of;
 use table::words::wide;
@@ -53,23 +53,29 @@ fn same_comp(w: &[u32; 99592], c: Comp, v: &[u32; 99592], d: Comp) -> bool
     same_held(w, c, v, d)
 }
 
-// The same components in any order, each as often: each of the first in order uses up the first equal one of the second.
-pub(crate) fn same_comps(w: &[u32; 99592], a: State, v: &[u32; 99592], b: State) -> bool
-    requires { ⌜ (valid (now w) a ≡ true) × (valid (now v) b ≡ true) ⌝ }
-    ensures { λ r. ⌜ r ≡ reordered (netOf (now (w .entry)) a) (netOf (now (v .entry)) b) ⌝ }
+// The same components in any order, each as often: each of the first n in order uses up the first equal one of the second m.
+pub(crate) fn same_comps(
+    w: &[u32; 99592],
+    a: &[u32; 3072],
+    n: usize,
+    v: &[u32; 99592],
+    b: &[u32; 3072],
+    m: usize,
+) -> bool
+    requires { ⌜ (valid (now w) (record { c = now a; n = n }) ≡ true) × (valid (now v) (record { c = now b; n = m }) ≡ true) ⌝ }
+    ensures { λ r. ⌜ r ≡ reordered (netOf (now (w .entry)) (record { c = now (a .entry); n = n })) (netOf (now (v .entry)) (record { c = now (b .entry); n = m })) ⌝ }
 {
-    let n = a.n;
-    if n != b.n {
+    if n != m {
         return false;
     }
     let mut used = [false; 256];
     let mut k = 0;
     'each: while k < n {
-        let c = a.c[k];
+        let c = comp_at(a, k);
         let mut p = 0;
         while p < n {
             if !used[p] {
-                let d = b.c[p];
+                let d = comp_at(b, p);
                 if same_comp(w, c, v, d) {
                     used[p] = true;
                     k += 1;

@@ -1,6 +1,6 @@
 -- The loop of `sweep`: the records written and the sweep over the positions left are the sweep over all positions.
 -- By the law of one position (Sweeping); the chains of who waits follow.
-use Prim.Native.Nat.{ℕ, zero, suc, _+_, _-_, _<_, _≤_}
+use Prim.Native.Nat.{ℕ, zero, suc, _+_, _-_, _*_, _<_, _≤_}
 use native.Mathlib.Omega.{arith}
 use native.Mathlib.Numerals.{add-one}
 use mathlib.Core.List.{List, [], _∷_, _++_, map, append-assoc, append-nil}
@@ -8,7 +8,7 @@ use mathlib.Core.Bool.{Bool, true, false, cond}
 use mathlib.Core.Path.{_≡_, refl, sym, ap, subst, _∙_}
 use lib.Dec.{eqb, ltb}
 use lib.ListN.{length, getD, set, take, length-set, length-map, length-take}
-use lib.Seq.{getD-set-same, getD-set-other, set-getD, take-suc-set, take-set-le}
+use lib.Seq.{sets, length-sets, getD-set-same, getD-set-other, take-suc-set, take-set-le}
 use borrow.Author.Tests.{eqb-true, eqb-false, ltb-true, ltb-false}
 use Rattle.terms.specs.Same.{every}
 use Rattle.terms.specs.Rules.{Answer, Action, _>>=_, at, seek}
@@ -20,13 +20,15 @@ use Rattle.table.specs.declared.State.{State}
 use Rattle.table.specs.declared.Head.{Head}
 use Rattle.table.specs.declared.Head.the-variants.{Stop, Go, Out, In, Call}
 use Rattle.table.specs.Words.{headAt}
-use Rattle.table.specs.Meaning.{compsOf, noComp}
+use Rattle.table.specs.Meaning.{compIn, wordsIn, compsOf}
 use Rattle.table.specs.Valid.{scriptOk, compOk}
 use Rattle.table.specs.Fire.{ActedAt, actOn, readyAt}
 use Rattle.table.proofs.Tests.{comp-fine}
 use Rattle.table.proofs.Fires.{every-at, map-append}
 use Rattle.table.proofs.Kept.{okA, goodActed, act-kept}
-use Rattle.calls_act.proofs.Positions.{at-take, take-put, length-comps}
+use Rattle.calls_act.proofs.Positions.{at-in-use}
+use Rattle.table.proofs.InUse.{comps-length}
+use Rattle.table.proofs.Stores.{comps-put}
 use Rattle.calls_step.specs.declared.Visit.{Visit}
 use Rattle.calls_step.specs.Sweep.{tookAt, takenAt, visitAt, followedAt, choiceAt, sweepAt, hearers, Chain, Queued, recOf}
 use Rattle.calls_step.specs.Visit.{sendsAt, kindAt, sentOn, kindBy, Performed, otherOf, poppedOf, recBy}
@@ -36,7 +38,7 @@ use Rattle.calls_step.proofs.Sweeping.{recsOf, Turned, turned-none, tur
 pub record Going (w : List ℕ) (l : ℕ) (st now : State) (heads nexts : List ℕ) (acts : List (List ℕ)) (count p : ℕ) : Type 0 where
   pub few-p : p ≤ st .n
   pub few-count : count ≤ p
-  pub size : length (now .c) ≡ 256
+  pub size : length (now .c) ≡ 3_072
   pub same : now .n ≡ st .n
   pub room : length acts ≡ 256
   pub fine : every (compOk w) (compsOf now) ≡ true
@@ -66,6 +68,13 @@ seek-below f (x ∷ xs) i e = go (f x) (seek f xs) refl e (seek-below f xs)
     go true s q e k = let z : _≡_ {A = ℕ} 0 i = took e in omega arith
     go false (refused n) q e k = clash e
     go false (accepted j) q e k = let z : _≡_ {A = ℕ} (suc j) i = took e in omega (arith, k j q)
+
+-- what stands at a position put there
+set-here : (cs : List Comp) (p : ℕ) (x : Comp) → at cs p ≡ accepted x → R.set cs p x ≡ cs
+unfolding R.set at
+set-here [] p x e = refl
+set-here (c ∷ cs) zero x e = ap (λ z. z ∷ cs) (sym (took e))
+set-here (c ∷ cs) (suc p) x e = ap (λ z. c ∷ z) (set-here cs p x e)
 
 -- ── records ──
 -- 1 for an action, 0 for none
@@ -120,7 +129,7 @@ module _ (w : List ℕ) (good : scriptOk w ≡ true) (l : ℕ) (st now : State) 
   cs = compsOf now
 
   abbrev c : Comp
-  c = getD (now .c) p noComp
+  c = compIn (now .c) p
 
   abbrev s : ℕ
   s = sendsAt w l c
@@ -128,46 +137,45 @@ module _ (w : List ℕ) (good : scriptOk w ≡ true) (l : ℕ) (st now : State) 
   abbrev x : ℕ
   x = getD heads s 0
 
-  at-here : (q : ℕ) → q < st .n → at (compsOf now) q ≡ accepted (getD (now .c) q noComp)
-  unfolding compsOf
-  at-here q b = at-take (now .c) (now .n) q noComp (omega (arith, i .same)) (omega (arith, i .same, i .size))
+  at-here : (q : ℕ) → q < st .n → at (compsOf now) q ≡ accepted (compIn (now .c) q)
+  at-here q b = at-in-use now q (omega (arith, i .same))
 
-  pub good-at : (q : ℕ) → q < st .n → compOk w (getD (now .c) q noComp) ≡ true
+  pub good-at : (q : ℕ) → q < st .n → compOk w (compIn (now .c) q) ≡ true
   good-at q b = every-at (compOk w) (compsOf now) q _ (i .fine) (at-here q b)
 
-  pub channel-fits : sendsAt w l (getD (now .c) p noComp) ≤ 64
-  channel-fits = sends-fits w l (getD (now .c) p noComp) good (good-at p h)
+  pub channel-fits : sendsAt w l (compIn (now .c) p) ≤ 64
+  channel-fits = sends-fits w l (compIn (now .c) p) good (good-at p h)
 
-  no-channel : sendsAt w l (getD (now .c) p noComp) ≡ 64 → getD heads (sendsAt w l (getD (now .c) p noComp)) 0 ≡ 0
+  no-channel : sendsAt w l (compIn (now .c) p) ≡ 64 → getD heads (sendsAt w l (compIn (now .c) p)) 0 ≡ 0
   no-channel e = ap (λ z. getD heads z 0) e ∙ i .queue .none
 
-  other-below : (y : ℕ) → getD heads (sendsAt w l (getD (now .c) p noComp)) 0 ≡ y → otherOf p y < st .n
+  other-below : (y : ℕ) → getD heads (sendsAt w l (compIn (now .c) p)) 0 ≡ y → otherOf p y < st .n
   other-below zero e = h
-  other-below (suc q) e = by (ltb (sendsAt w l (getD (now .c) p noComp)) 64) refl
+  other-below (suc q) e = by (ltb (sendsAt w l (compIn (now .c) p)) 64) refl
     where
-      by : (b : Bool) → ltb (sendsAt w l (getD (now .c) p noComp)) 64 ≡ b → q < st .n
-      by false b = absurd (omega (arith, ltb-false (sendsAt w l (getD (now .c) p noComp)) 64 b, channel-fits, e, no-channel (omega (arith, ltb-false (sendsAt w l (getD (now .c) p noComp)) 64 b, channel-fits))))
+      by : (b : Bool) → ltb (sendsAt w l (compIn (now .c) p)) 64 ≡ b → q < st .n
+      by false b = absurd (omega (arith, ltb-false (sendsAt w l (compIn (now .c) p)) 64 b, channel-fits, e, no-channel (omega (arith, ltb-false (sendsAt w l (compIn (now .c) p)) 64 b, channel-fits))))
       by true b =
-          let k = chain-some nexts q _ (subst (λ z. Chain nexts z (hearers w l (sendsAt w l (getD (now .c) p noComp)) 0 (compsOf now))) e (i .queue .chain _ (ltb-true _ 64 b))) in
-          let f = seek-first w l (sendsAt w l (getD (now .c) p noComp)) 0 (compsOf now) q (k .0) (k .1) in
-          omega (arith, f .2, seek-below _ (compsOf now) (f .0) (f .1), length-comps now (i .size) (omega (arith, i .same)), i .same)
+          let k = chain-some nexts q _ (subst (λ z. Chain nexts z (hearers w l (sendsAt w l (compIn (now .c) p)) 0 (compsOf now))) e (i .queue .chain _ (ltb-true _ 64 b))) in
+          let f = seek-first w l (sendsAt w l (compIn (now .c) p)) 0 (compsOf now) q (k .0) (k .1) in
+          omega (arith, f .2, seek-below _ (compsOf now) (f .0) (f .1), comps-length now, i .same)
 
-  pub other-fits : otherOf p (getD heads (sendsAt w l (getD (now .c) p noComp)) 0) < st .n
+  pub other-fits : otherOf p (getD heads (sendsAt w l (compIn (now .c) p)) 0) < st .n
   other-fits = other-below _ refl
 
-  module _ (v : Visit) (f : Performed w (kindAt w l (getD (now .c) p noComp) (getD heads (sendsAt w l (getD (now .c) p noComp)) 0)) (getD (now .c) p noComp) (getD (now .c) (otherOf p (getD heads (sendsAt w l (getD (now .c) p noComp)) 0)) noComp) v) where
-    turned : (y : ℕ) → getD heads (sendsAt w l (getD (now .c) p noComp)) 0 ≡ y → Performed w (kindAt w l (getD (now .c) p noComp) y) (getD (now .c) p noComp) (getD (now .c) (otherOf p y) noComp) v
-        → Turned w l p (otherOf p y) (kindAt w l (getD (now .c) p noComp) y) y (compsOf now) (getD (now .c) p noComp) v
+  module _ (v : Visit) (f : Performed w (kindAt w l (compIn (now .c) p) (getD heads (sendsAt w l (compIn (now .c) p)) 0)) (compIn (now .c) p) (compIn (now .c) (otherOf p (getD heads (sendsAt w l (compIn (now .c) p)) 0))) v) where
+    turned : (y : ℕ) → getD heads (sendsAt w l (compIn (now .c) p)) 0 ≡ y → Performed w (kindAt w l (compIn (now .c) p) y) (compIn (now .c) p) (compIn (now .c) (otherOf p y)) v
+        → Turned w l p (otherOf p y) (kindAt w l (compIn (now .c) p) y) y (compsOf now) (compIn (now .c) p) v
     turned zero e g = turned-none w good l p (compsOf now) c v (at-here p h) (comp-fine w c (good-at p h)) (λ b. chain-none nexts x _ (i .queue .chain s b) e) g
     turned (suc q) e g = by (ltb s 64) refl
       where
-        by : (b : Bool) → ltb (sendsAt w l (getD (now .c) p noComp)) 64 ≡ b → Turned w l p q (kindAt w l (getD (now .c) p noComp) (suc q)) (suc q) (compsOf now) (getD (now .c) p noComp) v
-        by false b = absurd (omega (arith, ltb-false (sendsAt w l (getD (now .c) p noComp)) 64 b, channel-fits, e, no-channel (omega (arith, ltb-false (sendsAt w l (getD (now .c) p noComp)) 64 b, channel-fits))))
+        by : (b : Bool) → ltb (sendsAt w l (compIn (now .c) p)) 64 ≡ b → Turned w l p q (kindAt w l (compIn (now .c) p) (suc q)) (suc q) (compsOf now) (compIn (now .c) p) v
+        by false b = absurd (omega (arith, ltb-false (sendsAt w l (compIn (now .c) p)) 64 b, channel-fits, e, no-channel (omega (arith, ltb-false (sendsAt w l (compIn (now .c) p)) 64 b, channel-fits))))
         by true b =
             let k = chain-some nexts q _ (subst (λ z. Chain nexts z (hearers w l s 0 (compsOf now))) e (i .queue .chain s (ltb-true _ 64 b))) in
-            turned-some w good l p q (compsOf now) c (getD (now .c) q noComp) v (at-here p h) (at-here q (other-below (suc q) e)) (comp-fine w c (good-at p h)) (λ z. sym e ∙ no-channel z) (k .0) (k .1) g
+            turned-some w good l p q (compsOf now) c (compIn (now .c) q) v (at-here p h) (at-here q (other-below (suc q) e)) (comp-fine w c (good-at p h)) (λ z. sym e ∙ no-channel z) (k .0) (k .1) g
 
-    t : Turned w l p (otherOf p (getD heads (sendsAt w l (getD (now .c) p noComp)) 0)) (kindAt w l (getD (now .c) p noComp) (getD heads (sendsAt w l (getD (now .c) p noComp)) 0)) (getD heads (sendsAt w l (getD (now .c) p noComp)) 0) (compsOf now) (getD (now .c) p noComp) v
+    t : Turned w l p (otherOf p (getD heads (sendsAt w l (compIn (now .c) p)) 0)) (kindAt w l (compIn (now .c) p) (getD heads (sendsAt w l (compIn (now .c) p)) 0)) (getD heads (sendsAt w l (compIn (now .c) p)) 0) (compsOf now) (compIn (now .c) p) v
     t = turned _ refl f
 
     abbrev q : ℕ
@@ -177,13 +185,12 @@ module _ (w : List ℕ) (good : scriptOk w ≡ true) (l : ℕ) (st now : State) 
     k = kindAt w l c x
 
     abbrev next : State
-    next = record { c = set (set (now .c) p (v .x)) q (v .y); n = now .n }
+    next = record { c = sets (sets (now .c) (p * 12) (wordsIn (v .x))) (q * 12) (wordsIn (v .y)); n = now .n }
 
     comps-next : compsOf next ≡ R.set (R.set (compsOf now) p (v .x)) q (v .y)
-    unfolding compsOf
     comps-next =
-        take-put (set (now .c) p (v .x)) (now .n) q (v .y) (omega (arith, other-fits, i .same))
-        ∙ ap (λ z. R.set z q (v .y)) (take-put (now .c) (now .n) p (v .x) (omega (arith, i .same)))
+        comps-put (record { c = sets (now .c) (p * 12) (wordsIn (v .x)); n = now .n }) q (v .y) (omega (arith, other-fits, i .same)) (omega (arith, i .same, few)) (length-sets (now .c) (p * 12) (wordsIn (v .x)) ∙ i .size) (f .slots-y)
+        ∙ ap (λ z. R.set z q (v .y)) (comps-put now p (v .x) (omega (arith, i .same)) (omega (arith, i .same, few)) (i .size) (f .slots-x))
 
     visited : visitAt w l p (at (compsOf now) p) (compsOf now) .comps ≡ compsOf next
     visited = t .comps ∙ sym comps-next
@@ -192,7 +199,7 @@ module _ (w : List ℕ) (good : scriptOk w ≡ true) (l : ℕ) (st now : State) 
     heads-same : (y : ℕ) → getD heads s 0 ≡ y → y ≡ 0 → (g : ℕ) → getD (set heads s 0) g 0 ≡ getD heads g 0
     heads-same y e z g = by (eqb g s) refl
       where
-        by : (b : Bool) → eqb g (sendsAt w l (getD (now .c) p noComp)) ≡ b → getD (set heads (sendsAt w l (getD (now .c) p noComp)) 0) g 0 ≡ getD heads g 0
+        by : (b : Bool) → eqb g (sendsAt w l (compIn (now .c) p)) ≡ b → getD (set heads (sendsAt w l (compIn (now .c) p)) 0) g 0 ≡ getD heads g 0
         by true b = let m = eqb-true g s b in ap (λ n. getD (set heads s 0) n 0) m ∙ getD-set-same heads s 0 0 (omega (arith, i .queue .size, channel-fits)) ∙ sym (ap (λ n. getD heads n 0) m ∙ e ∙ z)
         by false b = getD-set-other heads s g 0 0 (eqb-false g s b)
 
@@ -214,7 +221,7 @@ module _ (w : List ℕ) (good : scriptOk w ≡ true) (l : ℕ) (st now : State) 
         some : _≡_ {A = ℕ} (suc r) 0 → ⊥
         some m = omega arith
 
-        link : (g : ℕ) → g < 64 → (b : Bool) → eqb g (sendsAt w l (getD (now .c) p noComp)) ≡ b → Chain nexts (getD (set heads (sendsAt w l (getD (now .c) p noComp)) (getD nexts r 0)) g 0) (hearers w l g 0 (compsOf next))
+        link : (g : ℕ) → g < 64 → (b : Bool) → eqb g (sendsAt w l (compIn (now .c) p)) ≡ b → Chain nexts (getD (set heads (sendsAt w l (compIn (now .c) p)) (getD nexts r 0)) g 0) (hearers w l g 0 (compsOf next))
         link g b false m = subst (λ xs. Chain nexts (getD (set heads s (getD nexts r 0)) g 0) xs) (sym (ap (hearers w l g 0) z ∙ u .others some g m)) (subst (λ y. Chain nexts y (hearers w l g 0 (compsOf now))) (sym (getD-set-other heads s g (getD nexts r 0) 0 (eqb-false g s m))) (i .queue .chain g b))
         link g b true m =
             let o = eqb-true g s m in
@@ -236,14 +243,14 @@ module _ (w : List ℕ) (good : scriptOk w ≡ true) (l : ℕ) (st now : State) 
         ∙ ap (λ z. record { actions = visitAt w l p (at (compsOf now) p) (compsOf now) .actions ++ sweepAt w l (suc p) (st .n - (p + 1)) z .actions; comps = sweepAt w l (suc p) (st .n - (p + 1)) z .comps }) visited
         ∙ ap (λ z. record { actions = visitAt w l p (at (compsOf now) p) (compsOf now) .actions ++ z .actions; comps = z .comps }) (rest-is (st .n - (p + 1)) refl)
 
-    going-turn : Going w l st (record { c = set (set (now .c) p (v .x)) (otherOf p (getD heads (sendsAt w l (getD (now .c) p noComp)) 0)) (v .y); n = now .n })
-        (set heads (sendsAt w l (getD (now .c) p noComp)) (poppedOf (getD heads (sendsAt w l (getD (now .c) p noComp)) 0) (getD nexts (otherOf p (getD heads (sendsAt w l (getD (now .c) p noComp)) 0)) 0))) nexts
-        (set acts count (recBy (kindAt w l (getD (now .c) p noComp) (getD heads (sendsAt w l (getD (now .c) p noComp)) 0)) p (otherOf p (getD heads (sendsAt w l (getD (now .c) p noComp)) 0))))
-        (count + someOf (kindAt w l (getD (now .c) p noComp) (getD heads (sendsAt w l (getD (now .c) p noComp)) 0))) (p + 1)
+    going-turn : Going w l st (record { c = sets (sets (now .c) (p * 12) (wordsIn (v .x))) (otherOf p (getD heads (sendsAt w l (compIn (now .c) p)) 0) * 12) (wordsIn (v .y)); n = now .n })
+        (set heads (sendsAt w l (compIn (now .c) p)) (poppedOf (getD heads (sendsAt w l (compIn (now .c) p)) 0) (getD nexts (otherOf p (getD heads (sendsAt w l (compIn (now .c) p)) 0)) 0))) nexts
+        (set acts count (recBy (kindAt w l (compIn (now .c) p) (getD heads (sendsAt w l (compIn (now .c) p)) 0)) p (otherOf p (getD heads (sendsAt w l (compIn (now .c) p)) 0))))
+        (count + someOf (kindAt w l (compIn (now .c) p) (getD heads (sendsAt w l (compIn (now .c) p)) 0))) (p + 1)
     going-turn = record {
       few-p = omega arith;
       few-count = omega (arith, i .few-count, some-fits k);
-      size = length-set (set (now .c) p (v .x)) q (v .y) ∙ length-set (now .c) p (v .x) ∙ i .size;
+      size = length-sets (sets (now .c) (p * 12) (wordsIn (v .x))) (q * 12) (wordsIn (v .y)) ∙ length-sets (now .c) (p * 12) (wordsIn (v .x)) ∙ i .size;
       same = i .same;
       room = length-set acts count (recBy k p q) ∙ i .room;
       fine = subst (λ z. every (compOk w) z ≡ true) visited (visit-fine w good l p (at (compsOf now) p) (compsOf now) (i .fine));
@@ -257,31 +264,38 @@ module _ (w : List ℕ) (good : scriptOk w ≡ true) (l : ℕ) (st now : State) 
       comps = ap (λ z. z .comps) (sym stepped) ∙ i .comps;
     }
 
-    pub going-fires : (kindAt w l (getD (now .c) p noComp) (getD heads (sendsAt w l (getD (now .c) p noComp)) 0) ≡ 0 → ⊥) → Going w l st (record { c = set (set (now .c) p (v .x)) (otherOf p (getD heads (sendsAt w l (getD (now .c) p noComp)) 0)) (v .y); n = now .n })
-        (set heads (sendsAt w l (getD (now .c) p noComp)) (poppedOf (getD heads (sendsAt w l (getD (now .c) p noComp)) 0) (getD nexts (otherOf p (getD heads (sendsAt w l (getD (now .c) p noComp)) 0)) 0))) nexts
-        (set acts count (recBy (kindAt w l (getD (now .c) p noComp) (getD heads (sendsAt w l (getD (now .c) p noComp)) 0)) p (otherOf p (getD heads (sendsAt w l (getD (now .c) p noComp)) 0))))
+    pub going-fires : (kindAt w l (compIn (now .c) p) (getD heads (sendsAt w l (compIn (now .c) p)) 0) ≡ 0 → ⊥) → Going w l st (record { c = sets (sets (now .c) (p * 12) (wordsIn (v .x))) (otherOf p (getD heads (sendsAt w l (compIn (now .c) p)) 0) * 12) (wordsIn (v .y)); n = now .n })
+        (set heads (sendsAt w l (compIn (now .c) p)) (poppedOf (getD heads (sendsAt w l (compIn (now .c) p)) 0) (getD nexts (otherOf p (getD heads (sendsAt w l (compIn (now .c) p)) 0)) 0))) nexts
+        (set acts count (recBy (kindAt w l (compIn (now .c) p) (getD heads (sendsAt w l (compIn (now .c) p)) 0)) p (otherOf p (getD heads (sendsAt w l (compIn (now .c) p)) 0))))
         (count + 1) (p + 1)
     going-fires d = subst (λ m. Going w l st next (set heads s (poppedOf x (getD nexts q 0))) nexts (set acts count (recBy k p q)) (count + m) (p + 1)) (some-one k d) going-turn
 
   -- a position where nothing fires is passed, and nothing changes
-  module _ (idle : kindAt w l (getD (now .c) p noComp) (getD heads (sendsAt w l (getD (now .c) p noComp)) 0) ≡ 0) where
+  module _ (idle : kindAt w l (compIn (now .c) p) (getD heads (sendsAt w l (compIn (now .c) p)) 0) ≡ 0) where
     -- the visit that leaves both as they were
     stays : Visit
-    stays = record { x = getD (now .c) p noComp; y = getD (now .c) (otherOf p (getD heads (sendsAt w l (getD (now .c) p noComp)) 0)) noComp }
+    stays = record { x = compIn (now .c) p; y = compIn (now .c) (otherOf p (getD heads (sendsAt w l (compIn (now .c) p)) 0)) }
 
-    performed : (k : ℕ) → k ≡ 0 → Performed w k (getD (now .c) p noComp) (getD (now .c) (otherOf p (getD heads (sendsAt w l (getD (now .c) p noComp)) 0)) noComp) stays
+    performed : (k : ℕ) → k ≡ 0 → Performed w k (compIn (now .c) p) (compIn (now .c) (otherOf p (getD heads (sendsAt w l (compIn (now .c) p)) 0))) stays
     unfolding stays
-    performed k e = record { none = λ z. (refl, refl); call = λ z. absurd (omega arith); move = λ z. absurd (omega arith); pair = λ z. absurd (omega arith) }
+    performed k e = record {
+      slots-x = comp-fine w _ (good-at p h) .slots;
+      slots-y = comp-fine w _ (good-at _ other-fits) .slots;
+      none = λ z. (refl, refl);
+      call = λ z. absurd (omega arith);
+      move = λ z. absurd (omega arith);
+      pair = λ z. absurd (omega arith);
+    }
 
-    kept : (y : ℕ) → getD heads (sendsAt w l (getD (now .c) p noComp)) 0 ≡ y → y ≡ 0 → set (set (now .c) p (getD (now .c) p noComp)) (otherOf p y) (getD (now .c) (otherOf p y) noComp) ≡ now .c
-    kept zero e z = ap (λ cs. set cs p (getD (now .c) p noComp)) (set-getD (now .c) p noComp) ∙ set-getD (now .c) p noComp
+    kept : (y : ℕ) → getD heads (sendsAt w l (compIn (now .c) p)) 0 ≡ y → y ≡ 0 → R.set (R.set (compsOf now) p (compIn (now .c) p)) (otherOf p y) (compIn (now .c) (otherOf p y)) ≡ compsOf now
+    kept zero e z = let a = set-here (compsOf now) p (compIn (now .c) p) (at-here p h) in ap (λ cs. R.set cs p (compIn (now .c) p)) a ∙ a
     kept (suc q) e z = absurd (omega arith)
 
     pub going-idle : Going w l st now heads nexts acts count (p + 1)
     unfolding stays
     going-idle =
         let g = going-turn stays (performed _ idle) in
-        let z = kept _ refl (idle-link w l c x idle no-channel) in
+        let z = comps-next stays (performed _ idle) ∙ kept _ refl (idle-link w l c x idle no-channel) in
         record {
           few-p = g .few-p;
           few-count = omega (arith, i .few-count);
@@ -292,11 +306,11 @@ module _ (w : List ℕ) (good : scriptOk w ≡ true) (l : ℕ) (st now : State) 
           queue = i .queue;
           actions =
               ap (λ cs. cs ++ map recOf (sweepAt w l (p + 1) (st .n - (p + 1)) (compsOf now) .actions)) (sym (take-rec acts count (kindAt w l c x) p (otherOf p x) (omega (arith, i .room, i .few-count)) ∙ ap (λ k. take count acts ++ recsOf k p (otherOf p x)) idle ∙ append-nil (take count acts)))
-              ∙ subst (λ cs. take (count + someOf (kindAt w l c x)) (set acts count (recBy (kindAt w l c x) p (otherOf p x))) ++ map recOf (sweepAt w l (p + 1) (st .n - (p + 1)) (compsOf (record { c = cs; n = now .n })) .actions) ≡ map recOf (sweepAt w l 0 (st .n) (compsOf st) .actions)) z (g .actions);
-          comps = subst (λ cs. sweepAt w l (p + 1) (st .n - (p + 1)) (compsOf (record { c = cs; n = now .n })) .comps ≡ sweepAt w l 0 (st .n) (compsOf st) .comps) z (g .comps);
+              ∙ subst (λ cs. take (count + someOf (kindAt w l c x)) (set acts count (recBy (kindAt w l c x) p (otherOf p x))) ++ map recOf (sweepAt w l (p + 1) (st .n - (p + 1)) cs .actions) ≡ map recOf (sweepAt w l 0 (st .n) (compsOf st) .actions)) z (g .actions);
+          comps = subst (λ cs. sweepAt w l (p + 1) (st .n - (p + 1)) cs .comps ≡ sweepAt w l 0 (st .n) (compsOf st) .comps) z (g .comps);
         }
 
-pub going-begin : (w : List ℕ) (l : ℕ) (st : State) (heads nexts : List ℕ) (acts : List (List ℕ)) → length (st .c) ≡ 256 → length acts ≡ 256 → every (compOk w) (compsOf st) ≡ true → Queued w l 0 (compsOf st) heads nexts → Going w l st st heads nexts acts 0 0
+pub going-begin : (w : List ℕ) (l : ℕ) (st : State) (heads nexts : List ℕ) (acts : List (List ℕ)) → length (st .c) ≡ 3_072 → length acts ≡ 256 → every (compOk w) (compsOf st) ≡ true → Queued w l 0 (compsOf st) heads nexts → Going w l st st heads nexts acts 0 0
 going-begin w l st heads nexts acts e r f q =
     let z : st .n - 0 ≡ st .n = omega arith in
     record { few-p = omega arith; few-count = omega arith; size = e; same = refl; room = r; fine = f; queue = q; actions = ap (λ n. map recOf (sweepAt w l 0 n (compsOf st) .actions)) z; comps = ap (λ n. sweepAt w l 0 n (compsOf st) .comps) z }

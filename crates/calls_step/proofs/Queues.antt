@@ -6,7 +6,7 @@ use mathlib.Core.List.{List, [], _∷_, cons≢nil}
 use mathlib.Core.Bool.{Bool, true, false, cond, _&&_}
 use mathlib.Core.Path.{_≡_, refl, sym, ap, subst, _∙_}
 use lib.Dec.{eqb}
-use lib.ListN.{length, getD, set, drop, length-set, replicate}
+use lib.ListN.{getD, set, drop, length-set, replicate}
 use lib.Seq.{getD-set-same, getD-set-other, drop-length}
 use borrow.Author.Tests.{lt-ltb, eqb-true, eqb-false}
 use Rattle.terms.specs.Rules.{_>>=_, at, seek}
@@ -20,13 +20,12 @@ use Rattle.table.specs.Words.{headAt}
 use Rattle.table.specs.Valid.{scriptOk, compOk}
 use Rattle.table.specs.Fire.{readyAt, hears}
 use Rattle.table.specs.declared.State.{State}
-use Rattle.table.specs.Meaning.{compsOf, noComp}
-use Rattle.calls_act.proofs.Positions.{length-comps}
+use Rattle.table.specs.Meaning.{compIn, compsOf}
 use Rattle.calls_tick.specs.Heard.{heardOn, hearsAt}
 use Rattle.calls_tick.proofs.Hearing.{ear-fits, inEar, hears-own}
 use Rattle.calls_step.specs.Sweep.{hearers, Chain, Queued}
 use Rattle.calls_step.specs.Visit.{sentOn, sendsAt, link, otherOf, poppedOf}
-use Rattle.table.proofs.InUse.{from-here}
+use Rattle.table.proofs.InUse.{comps-length, from-here}
 
 -- ── positions of a chain ──
 abbrev Above : ℕ → List ℕ → Type 0
@@ -176,10 +175,10 @@ popped-some zero nx h = absurd (h refl)
 popped-some (suc q) nx h = refl
 
 -- ── from the last position down ──
-pub dropped-all : (st : State) → length (st .c) ≡ 256 → st .n ≤ 256 → drop (st .n) (compsOf st) ≡ []
-dropped-all st e h = ap (λ n. drop n (compsOf st)) (sym (length-comps st e h)) ∙ drop-length (compsOf st)
+pub dropped-all : (st : State) → drop (st .n) (compsOf st) ≡ []
+dropped-all st = ap (λ n. drop n (compsOf st)) (sym (comps-length st)) ∙ drop-length (compsOf st)
 
-pub queue-turn : (w : List ℕ) (l : ℕ) (st : State) (i : ℕ) (heads nexts : List ℕ) → scriptOk w ≡ true → compOk w (getD (st .c) i noComp) ≡ true → i < st .n → st .n ≤ 256 → length (st .c) ≡ 256
+pub queue-turn : (w : List ℕ) (l : ℕ) (st : State) (i : ℕ) (heads nexts : List ℕ) → scriptOk w ≡ true → compOk w (compIn (st .c) i) ≡ true → i < st .n → st .n ≤ 256
     → Queued w l (suc i) (drop (suc i) (compsOf st)) heads nexts
-    → Queued w l i (drop i (compsOf st)) (set heads (hearsAt w l (getD (st .c) i noComp)) (link (hearsAt w l (getD (st .c) i noComp)) i)) (set nexts i (getD heads (hearsAt w l (getD (st .c) i noComp)) 0))
-queue-turn w l st i heads nexts e f h n s q = rw (from-here st (omega arith) noComp i h) (queue-more w l i (getD (st .c) i noComp) (drop (suc i) (compsOf st)) heads nexts (hears-fits w l (getD (st .c) i noComp) e f) (omega arith) q)
+    → Queued w l i (drop i (compsOf st)) (set heads (hearsAt w l (compIn (st .c) i)) (link (hearsAt w l (compIn (st .c) i)) i)) (set nexts i (getD heads (hearsAt w l (compIn (st .c) i)) 0))
+queue-turn w l st i heads nexts e f h n q = rw (from-here st i h) (queue-more w l i (compIn (st .c) i) (drop (suc i) (compsOf st)) heads nexts (hears-fits w l (compIn (st .c) i) e f) (omega arith) q)

@@ -22,16 +22,20 @@ use Rattle.table.specs.Valid.{scriptOk, stateOk, valid}
 use Rattle.table.specs.Fire.{passedAll}
 use Rattle.table.proofs.Ticks.{passed-all}
 use Rattle.calls_act.specs.Acted.{asked}
-use Rattle.calls_act.proofs.Positions.{valid-parts, length-comps}
+use Rattle.calls_act.proofs.Positions.{valid-parts}
+use Rattle.table.proofs.InUse.{comps-length}
 use Rattle.calls_tick.specs.Ticked.{room}
 use Rattle.calls_tick.proofs.Ticking.{tick-took}
-use Rattle.calls_step.specs.declared.Swept.{Swept}
 use Rattle.calls_step.specs.Sweep.{SweptAt, sweepAt, recOf}
 use Rattle.calls_step.specs.Visit.{SweepsAs}
 use Rattle.calls_step.specs.Stepped.{stepOf, stepRule, Took}
 use Rattle.calls_step.proofs.Sweeps.{Like, fires-like}
 
-module _ (w : List ℕ) (st : State) (l : ℕ) (v : valid w st ≡ true) (len : length (st .c) ≡ 256) (acts : List (List ℕ)) (r : Swept) (s : SweepsAs w l st acts r) where
+module _ (w : List ℕ) (st : State) (l : ℕ) (v : valid w st ≡ true) (after : List ℕ) (acts : List (List ℕ)) (count : ℕ) (s : SweepsAs w l st after acts count) where
+  -- the state that the actions leave
+  abbrev left : State
+  left = record { c = after; n = st .n }
+
   good : scriptOk w ≡ true
   good = valid-parts w st v .0
 
@@ -41,39 +45,39 @@ module _ (w : List ℕ) (st : State) (l : ℕ) (v : valid w st ≡ true) (len : 
   module _ (inl : l < locsIn w) where
     -- the sweep of the rules
     like : Like w good l inl (fires (defsOf w) (locName w l) (map (means w) (compsOf st))) (sweepAt w l 0 (st .n) (compsOf st))
-    like = subst (λ n. Like w good l inl (fires (defsOf w) (locName w l) (map (means w) (compsOf st))) (sweepAt w l 0 n (compsOf st))) (length-comps st len (valid-parts w st v .1 .few)) (fires-like w good l inl (compsOf st) (valid-parts w st v .1 .each))
+    like = subst (λ n. Like w good l inl (fires (defsOf w) (locName w l) (map (means w) (compsOf st))) (sweepAt w l 0 n (compsOf st))) (comps-length st) (fires-like w good l inl (compsOf st) (valid-parts w st v .1 .each))
 
     -- the swept state still passes question 17
-    pub swept-good : valid w (r .state) ≡ true
+    pub swept-good : valid w left ≡ true
     unfolding valid stateOk
     swept-good =
         let p = valid-parts w st v .1 in
-        and-in _ _ good (and-in _ _ (lt-ltb 0 (r .state .n) (omega (arith, s .size, p .some))) (and-in _ _ (le-leb (r .state .n) 256 (omega (arith, s .size, p .few))) (rw (s .comps) (like .fine))))
+        and-in _ _ good (and-in _ _ (lt-ltb 0 (left .n) (omega (arith, p .some))) (and-in _ _ (le-leb (left .n) 256 (omega (arith, p .few))) (rw (s .comps) (like .fine))))
 
     -- what the rules answer, by the numbers of the code
-    ruled : (size : ℕ) → stepRule w st l size ≡ asked 15 (leb (r .count) size) (room (map (means w) (passedAll w l (compsOf (r .state)))) >>= λ cs. accepted (stepOf (swept .actions) cs))
+    ruled : (size : ℕ) → stepRule w st l size ≡ asked 15 (leb count size) (room (map (means w) (passedAll w l (compsOf left))) >>= λ cs. accepted (stepOf (swept .actions) cs))
     unfolding stepRule netOf
     ruled size =
         let c = passed-all w good l inl (swept .comps) (like .fine) in
         rw (lt-ltb l (locsIn w) inl, like .actions, ← s .number, step-accepted (defsOf w) (locName w l) (map (means w) (compsOf st)), like .actions, like .comps, ← c, s .comps)
 
-    pub step-small : (size : ℕ) → size < r .count → stepRule w st l size ≡ refused 15
-    step-small size h = ruled size ∙ rw (lt-leb (r .count) size h)
+    pub step-small : (size : ℕ) → size < count → stepRule w st l size ≡ refused 15
+    step-small size h = ruled size ∙ rw (lt-leb count size h)
 
-    pub step-full : (size : ℕ) → r .count ≤ size → 256 < length (passedAll w l (compsOf (r .state))) → stepRule w st l size ≡ refused 13
+    pub step-full : (size : ℕ) → count ≤ size → 256 < length (passedAll w l (compsOf left)) → stepRule w st l size ≡ refused 13
     unfolding room
-    step-full size h n = ruled size ∙ rw (le-leb (r .count) size h, length-map (passedAll w l (compsOf (r .state))) (means w), lt-leb (length (passedAll w l (compsOf (r .state)))) 256 n)
+    step-full size h n = ruled size ∙ rw (le-leb count size h, length-map (passedAll w l (compsOf left)) (means w), lt-leb (length (passedAll w l (compsOf left))) 256 n)
 
-    pub step-done : (size : ℕ) → r .count ≤ size → length (passedAll w l (compsOf (r .state))) < 257 → stepRule w st l size ≡ accepted (stepOf (swept .actions) (map (means w) (passedAll w l (compsOf (r .state)))))
+    pub step-done : (size : ℕ) → count ≤ size → length (passedAll w l (compsOf left)) < 257 → stepRule w st l size ≡ accepted (stepOf (swept .actions) (map (means w) (passedAll w l (compsOf left))))
     unfolding room
-    step-done size h n = ruled size ∙ rw (le-leb (r .count) size h, length-map (passedAll w l (compsOf (r .state))) (means w), le-leb (length (passedAll w l (compsOf (r .state)))) 256 (omega arith))
+    step-done size h n = ruled size ∙ rw (le-leb count size h, length-map (passedAll w l (compsOf left)) (means w), le-leb (length (passedAll w l (compsOf left))) 256 (omega arith))
 
-    pub step-took : (next : State) (before after : List (List ℕ)) → length (r .state .c) ≡ 256 → compsOf next ≡ passedAll w l (compsOf (r .state)) → next .n ≡ length (passedAll w l (compsOf (r .state))) → length (passedAll w l (compsOf (r .state))) < 257
-        → after ≡ take (r .count) acts ++ drop (r .count) before
-        → Took w (stepOf (swept .actions) (map (means w) (passedAll w l (compsOf (r .state))))) (record { code = 0; count = r .count; state = next }) before after
-    step-took next before after z e n b a =
-        let t = tick-took w (r .state) next l swept-good z e n b in
-        record { code = refl; count = s .number; comps = t .comps; good = t .good; records = a ∙ ap (λ xs. xs ++ drop (r .count) before) (s .records) ∙ ap (λ k. map recOf (swept .actions) ++ drop k before) (s .number) }
+    pub step-took : (next : State) (before now : List (List ℕ)) → compsOf next ≡ passedAll w l (compsOf left) → next .n ≡ length (passedAll w l (compsOf left)) → length (passedAll w l (compsOf left)) < 257
+        → now ≡ take count acts ++ drop count before
+        → Took w (stepOf (swept .actions) (map (means w) (passedAll w l (compsOf left)))) (record { code = 0; count = count; state = next }) before now
+    step-took next before now e n b a =
+        let t = tick-took w left next l swept-good e n b in
+        record { code = refl; count = s .number; comps = t .comps; good = t .good; records = a ∙ ap (λ xs. xs ++ drop count before) (s .records) ∙ ap (λ k. map recOf (swept .actions) ++ drop k before) (s .number) }
 
 -- question 8
 pub step-out : (w : List ℕ) (st : State) (l size : ℕ) → locsIn w ≤ l → stepRule w st l size ≡ refused 8

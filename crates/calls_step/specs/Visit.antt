@@ -17,7 +17,6 @@ use Rattle.calls_act.specs.declared.Fired.{Fired}
 use Rattle.calls_act.specs.declared.Met.{Met}
 use Rattle.calls_act.specs.Fired.{oneOf, twoOf}
 use Rattle.calls_step.specs.declared.Visit.{Visit}
-use Rattle.calls_step.specs.declared.Swept.{Swept}
 use Rattle.calls_step.specs.Sweep.{sweepAt, recOf}
 
 -- the channel of an output; 64 for none
@@ -49,6 +48,8 @@ kindAt w l c x = cond (readyAt l c) (kindBy x (c .timer) (headAt w (c .place))) 
 
 -- what becomes of the component c at the position and of e, its partner or itself
 pub record Performed (w : List ℕ) (k : ℕ) (c e : Comp) (r : Visit) : Type 0 where
+  pub slots-x : length (r .x .vals) ≡ 8
+  pub slots-y : length (r .y .vals) ≡ 8
   pub none : k ≡ 0 → (r .x ≡ c) × (r .y ≡ e)
   pub call : k ≡ 1 → (f : Fired) × (oneOf f ≡ aloneAt w calls c) × (r .x ≡ f .comp) × (r .y ≡ f .comp)
   pub move : k ≡ 2 → (f : Fired) × (oneOf f ≡ aloneAt w moves c) × (r .x ≡ f .comp) × (r .y ≡ f .comp)
@@ -69,12 +70,10 @@ abbrev pub recBy : ℕ → ℕ → ℕ → List ℕ
 recBy k p q = k ∷ p ∷ cond (eqb k 3) q 0 ∷ []
 
 -- the sweep over all positions: its records, how many, and the components it leaves
-pub record SweepsAs (w : List ℕ) (l : ℕ) (st : State) (acts : List (List ℕ)) (r : Swept) : Type 0 where
+pub record SweepsAs (w : List ℕ) (l : ℕ) (st : State) (after : List ℕ) (acts : List (List ℕ)) (count : ℕ) : Type 0 where
   pub room : length acts ≡ 256
-  pub records : take (r .count) acts ≡ map recOf (sweepAt w l 0 (st .n) (compsOf st) .actions)
-  pub number : r .count ≡ length (sweepAt w l 0 (st .n) (compsOf st) .actions)
-  pub few : r .count ≤ st .n
-  pub comps : compsOf (r .state) ≡ sweepAt w l 0 (st .n) (compsOf st) .comps
-  pub size : r .state .n ≡ st .n
-  pub slots : length (st .c) ≡ 256
-  pub slotted : length (r .state .c) ≡ 256
+  pub records : take count acts ≡ map recOf (sweepAt w l 0 (st .n) (compsOf st) .actions)
+  pub number : count ≡ length (sweepAt w l 0 (st .n) (compsOf st) .actions)
+  pub few : count ≤ st .n
+  pub comps : compsOf (record { c = after; n = st .n }) ≡ sweepAt w l 0 (st .n) (compsOf st) .comps
+  pub slotted : length after ≡ 3_072

@@ -23,12 +23,6 @@ pub struct Visit {
     pub y: Comp,
 }
 
-// The state that the actions of a step leave, and how many they are.
-pub struct Swept {
-    pub state: State,
-    pub count: usize,
-}
-
 // The answer of a step: code 0 with the number of actions and the next state, or the number of the question answered by no with the state as it was.
 #[repr(C)]
 pub struct Stepped {

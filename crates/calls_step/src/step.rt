@@ -43,21 +43,21 @@ pub fn step_valid(w: &[u32; 99592], st: State, l: u32, records: &mut [[u32; 3]])
         return refuse(8, st);
     }
     let mut acts = [[0; 3]; 256];
-    let s = sweep::sweep(w, st, l, &mut acts);
-    let count = s.count;
+    let mut swept = st;
+    let count = sweep::sweep(w, &mut swept.c, st.n, l, &mut acts);
     if records.len() < count {
         return refuse(15, st);
     }
-    let swept = s.state;
-    let p = pass::pass_all(w, swept, l);
-    if p.full {
+    let mut out = swept;
+    let k = pass::pass_all(w, &swept.c, st.n, l, &mut out.c);
+    if 256 < k {
         return refuse(13, st);
     }
     put_records(&acts, count, records);
-    let next = p.state;
+    out.n = k;
     Stepped {
         code: 0,
         count: count,
-        state: next,
+        state: out,
     }
 }

@@ -6,13 +6,13 @@ ghost use lib.ListN.{length};
 ghost use Rattle.table.specs.Valid.{scriptOk, compOk, valid};
 ghost use Rattle.calls_step.specs.Visit.{sentOn, sendsAt, link, kindBy, kindAt, Performed, otherOf, poppedOf, recBy, SweepsAs};
 use super::Queue;
-use super::Swept;
 use super::Visit;
 use calls_act::fire;
 use calls_tick::forced;
 use table::Comp;
 use table::Head;
-use table::State;
+use table::comps::comp_at;
+use table::comps::put_comp;
 use table::words;
 
 fn sent_on(h: Head) -> u32
@@ -132,14 +132,17 @@ fn rec_by(k: u32, p: usize, q: usize) -> [u32; 3]
     [k, p as u32, 0]
 }
 
-// The chains are made and the positions gone through in one function, since a state that goes into a function is copied. The records of the actions are
-// the first of acts.
-pub(crate) fn sweep(w: &[u32; 99592], st: State, l: u32, acts: &mut [[u32; 3]; 256]) -> Swept
-    requires { ⌜ (valid (now w) st ≡ true) × (length (now acts) ≡ 256) ⌝ }
-    ensures { λ r. ⌜ SweepsAs (now (w .entry)) l st (now (acts .exit)) r ⌝ }
+// How many actions there are. Their records are the first of acts, and the components are left as they leave them.
+pub(crate) fn sweep(
+    w: &[u32; 99592],
+    c: &mut [u32; 3072],
+    n: usize,
+    l: u32,
+    acts: &mut [[u32; 3]; 256],
+) -> usize
+    requires { ⌜ (valid (now w) (record { c = now c; n = n }) ≡ true) × (length (now c) ≡ 3072) × (length (now acts) ≡ 256) ⌝ }
+    ensures { λ r. ⌜ SweepsAs (now (w .entry)) l (record { c = now (c .entry); n = n }) (now (c .exit)) (now (acts .exit)) r ⌝ }
 {
-    let n = st.n;
-    let mut state = st;
     let mut queue = Queue {
         heads: [0u32; 65],
         nexts: [0u32; 256],
@@ -147,8 +150,8 @@ pub(crate) fn sweep(w: &[u32; 99592], st: State, l: u32, acts: &mut [[u32; 3]; 2
     let mut j = n;
     while 0 < j {
         let i = j - 1;
-        let c = state.c[i];
-        let h = words::wide(forced::hears_at(w, l, c));
+        let x = comp_at(c, i);
+        let h = words::wide(forced::hears_at(w, l, x));
         let old = queue.heads[h];
         queue.nexts[i] = old;
         queue.heads[h] = link_to(h, i);
@@ -157,21 +160,21 @@ pub(crate) fn sweep(w: &[u32; 99592], st: State, l: u32, acts: &mut [[u32; 3]; 2
     let mut count: usize = 0;
     let mut p: usize = 0;
     while p < n {
-        let c = state.c[p];
-        let s = words::wide(sends_at(w, l, c));
+        let d = comp_at(c, p);
+        let s = words::wide(sends_at(w, l, d));
         let x = queue.heads[s];
-        let k = kind_at(w, l, c, x);
+        let k = kind_at(w, l, d, x);
         if k == 0 {
             p += 1;
             continue;
         }
         let q = other_of(p, x);
-        let e = state.c[q];
-        let v = perform(w, k, c, e);
+        let e = comp_at(c, q);
+        let v = perform(w, k, d, e);
         let a = v.x;
         let b = v.y;
-        state.c[p] = a;
-        state.c[q] = b;
+        put_comp(c, p, a);
+        put_comp(c, q, b);
         let r = rec_by(k, p, q);
         acts[count] = r;
         count += 1;
@@ -179,8 +182,5 @@ pub(crate) fn sweep(w: &[u32; 99592], st: State, l: u32, acts: &mut [[u32; 3]; 2
         queue.heads[s] = popped_of(x, nx);
         p += 1;
     }
-    Swept {
-        state: state,
-        count: count,
-    }
+    count
 }

@@ -171,3 +171,26 @@ pub turn-part : (w : List ℕ) (l : ℕ) (c : Comp) (next : ℕ) → (next ≡ 0
 unfolding turnOf
 turn-part w l c zero h = absurd (h refl)
 turn-part w l c (suc j) h = ap (partOf w c) (omega arith)
+
+-- ── the values of a component stay ──
+pub turn-vals : (w : List ℕ) (l : ℕ) (c : Comp) (next : ℕ) → length (turnOf w l c next .comp .vals) ≡ length (c .vals)
+unfolding turnOf firstTurn waitTurn elseTurn fresh timed
+turn-vals w l c (suc j) = refl
+turn-vals w l c zero = first (ltb (c .mark) 64) (eqb (c .mark) l) (eqb (c .loc) l) (headAt w (c .place))
+  where
+    other : (b : Bool) (q : ℕ) → length (cond b (partOf w c q) (whole (timed c (lessRaw (c .timer)))) .comp .vals) ≡ length (c .vals)
+    other true q = refl
+    other false q = refl
+
+    wait : (h : Head) → length (waitTurn w c h .comp .vals) ≡ length (c .vals)
+    wait Stop = refl
+    wait (Go t v p) = refl
+    wait (Out d t v p q) = other (eqb (c .timer) 0) q
+    wait (In d t k p q) = other (eqb (c .timer) 0) q
+    wait (Call d n a₀ a₁ a₂ a₃) = refl
+
+    first : (m x y : Bool) (h : Head) → length (cond m (cond x (partOf w c (c .place)) (whole c)) (cond y (waitTurn w c h) (whole c)) .comp .vals) ≡ length (c .vals)
+    first true true y h = refl
+    first true false y h = refl
+    first false x true h = wait h
+    first false x false h = refl

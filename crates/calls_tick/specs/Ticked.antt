@@ -1,7 +1,7 @@
 -- What the answer of a tick stands for: document 01, *The tick at l* and *Questions, asked downward*.
-use Prim.Native.Nat.{ℕ, _<_}
+use Prim.Native.Nat.{ℕ, _<_, _≤_}
 use mathlib.Core.List.{List}
-use mathlib.Core.Bool.{true, false}
+use mathlib.Core.Bool.{true}
 use mathlib.Core.Path.{_≡_}
 use lib.Dec.{leb, ltb}
 use lib.ListN.{length}
@@ -15,7 +15,6 @@ use Rattle.table.specs.Meaning.{defsOf, compsOf, netOf}
 use Rattle.table.specs.Valid.{valid}
 use Rattle.calls_act.specs.Acted.{asked}
 use Rattle.calls_tick.specs.declared.Ticked.{Ticked}
-use Rattle.calls_tick.specs.declared.Passed.{Passed}
 
 -- question 13: at most 256 components
 unfoldable pub room : List Component → Answer (List Component)
@@ -44,5 +43,5 @@ ticksAs w st (refused n) r = r ≡ refusal n st
 ticksAs w st (accepted cs) r = Took w cs r
 
 -- what the tick's pass over all components gives: it is full if there is no room, else the components are these
-abbrev pub passes : List Comp → Passed → Type 0
-passes cs r = (r .full ≡ true → 256 < length cs) × (r .full ≡ false → (compsOf (r .state) ≡ cs) × (r .state .n ≡ length cs) × (length cs < 257))
+abbrev pub passes : List Comp → List ℕ → ℕ → Type 0
+passes cs out k = (256 < k → 256 < length cs) × (k ≤ 256 → (compsOf (record { c = out; n = k }) ≡ cs) × (k ≡ length cs))

@@ -10,7 +10,7 @@ ghost use Rattle.table.specs.Fire.{readyAt, forcedAt};
 ghost use Rattle.calls_tick.specs.Heard.{heardOn, hearsAt, Heard, pressesBy, pressedBy};
 use table::Comp;
 use table::Head;
-use table::State;
+use table::comps::comp_at;
 use table::words;
 
 pub fn ready_at(l: u32, c: Comp) -> bool
@@ -46,16 +46,15 @@ pub fn hears_at(w: &[u32; 99592], l: u32, c: Comp) -> u32
 }
 
 // The channels that are heard: a 1 for each.
-fn heard_at(w: &[u32; 99592], st: State, l: u32) -> [u32; 64]
-    requires { ⌜ valid (now w) st ≡ true ⌝ }
-    ensures { λ r. ⌜ Heard (now (w .entry)) l (compsOf st) r ⌝ }
+fn heard_at(w: &[u32; 99592], c: &[u32; 3072], n: usize, l: u32) -> [u32; 64]
+    requires { ⌜ valid (now w) (record { c = now c; n = n }) ≡ true ⌝ }
+    ensures { λ r. ⌜ Heard (now (w .entry)) l (compsOf (record { c = now (c .entry); n = n })) r ⌝ }
 {
-    let n = st.n;
     let mut out = [0u32; 64];
     let mut j: usize = 0;
     while j < n {
-        let c = st.c[j];
-        let k = words::wide(hears_at(w, l, c));
+        let x = comp_at(c, j);
+        let k = words::wide(hears_at(w, l, x));
         if k < 64 {
             out[k] = 1;
         }
@@ -96,16 +95,15 @@ fn pressed_by(w: &[u32; 99592], l: u32, ears: &[u32; 64], c: Comp) -> bool
     false
 }
 
-pub(crate) fn forced_at(w: &[u32; 99592], st: State, l: u32) -> bool
-    requires { ⌜ valid (now w) st ≡ true ⌝ }
-    ensures { λ r. ⌜ r ≡ forcedAt (now (w .entry)) l (compsOf st) ⌝ }
+pub(crate) fn forced_at(w: &[u32; 99592], c: &[u32; 3072], n: usize, l: u32) -> bool
+    requires { ⌜ valid (now w) (record { c = now c; n = n }) ≡ true ⌝ }
+    ensures { λ r. ⌜ r ≡ forcedAt (now (w .entry)) l (compsOf (record { c = now (c .entry); n = n })) ⌝ }
 {
-    let ears = heard_at(w, st, l);
-    let n = st.n;
+    let ears = heard_at(w, c, n, l);
     let mut j: usize = 0;
     while j < n {
-        let c = st.c[j];
-        if pressed_by(w, l, &ears, c) {
+        let x = comp_at(c, j);
+        if pressed_by(w, l, &ears, x) {
             return true;
         }
         j += 1;

@@ -20,12 +20,6 @@ pub struct Turn {
     pub step: usize,
 }
 
-// Every component in a tick; full where they are more than 256.
-pub struct Passed {
-    pub state: State,
-    pub full: bool,
-}
-
 // The answer of a tick: code 0 with the next state, or the number of the question answered by no with the state as it was.
 #[repr(C)]
 pub struct Ticked {

@@ -2,6 +2,7 @@
 ghost use mathlib.Core.Path.{_≡_};
 ghost use mathlib.Core.Bool.{true};
 ghost use Prim.Native.Nat.{_<_, _≤_};
+ghost use lib.ListN.{length};
 ghost use Rattle.table.specs.Words.{partsIn};
 ghost use Rattle.table.specs.Meaning.{compsOf};
 ghost use Rattle.table.specs.Valid.{scriptOk, compOk, valid, headOk};
@@ -10,11 +11,11 @@ ghost use Rattle.table.specs.Fire.{passedAll};
 ghost use Rattle.terms.specs.Clock.{lessRaw};
 ghost use Rattle.calls_tick.specs.Turn.{whole, partOf, elseTurn, waitTurn, firstTurn, turnOf};
 ghost use Rattle.calls_tick.specs.Ticked.{passes};
-use super::Passed;
 use super::Turn;
 use table::Comp;
 use table::Head;
-use table::State;
+use table::comps::comp_at;
+use table::comps::put_comp;
 use table::words;
 use terms::Timer;
 
@@ -143,34 +144,25 @@ fn turn(w: &[u32; 99592], l: u32, c: Comp, next: u32) -> Turn
     part_turn(w, c, next - 1)
 }
 
-// Every component in the tick at l.
-pub fn pass_all(w: &[u32; 99592], st: State, l: u32) -> Passed
-    requires { ⌜ valid (now w) st ≡ true ⌝ }
-    ensures { λ r. ⌜ passes (passedAll (now (w .entry)) l (compsOf st)) r ⌝ }
+// Every component in the tick at l, written to out: how many they are, or 257 if there is no room for all.
+pub fn pass_all(w: &[u32; 99592], c: &[u32; 3072], n: usize, l: u32, out: &mut [u32; 3072]) -> usize
+    requires { ⌜ (valid (now w) (record { c = now c; n = n }) ≡ true) × (length (now out) ≡ 3072) ⌝ }
+    ensures { λ r. ⌜ passes (passedAll (now (w .entry)) l (compsOf (record { c = now (c .entry); n = n }))) (now (out .exit)) r ⌝ }
 {
-    let n = st.n;
-    let mut out = st;
     let mut k: usize = 0;
     let mut i: usize = 0;
     let mut next: u32 = 0;
     while i < n {
         if 256 <= k {
-            return Passed {
-                state: out,
-                full: true,
-            };
+            return 257;
         }
-        let c = st.c[i];
-        let t = turn(w, l, c, next);
+        let x = comp_at(c, i);
+        let t = turn(w, l, x, next);
         let d = t.comp;
-        out.c[k] = d;
+        put_comp(out, k, d);
         k += 1;
         next = t.next;
         i += t.step;
     }
-    out.n = k;
-    Passed {
-        state: out,
-        full: false,
-    }
+    k
 }

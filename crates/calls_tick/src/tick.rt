@@ -25,16 +25,17 @@ pub fn tick_valid(w: &[u32; 99592], st: State, l: u32) -> Ticked
     if words::word(w, 1) <= l {
         return refuse(8, st);
     }
-    if forced::forced_at(w, st, l) {
+    if forced::forced_at(w, &st.c, st.n, l) {
         return refuse(12, st);
     }
-    let p = pass::pass_all(w, st, l);
-    if p.full {
+    let mut out = st;
+    let k = pass::pass_all(w, &st.c, st.n, l, &mut out.c);
+    if 256 < k {
         return refuse(13, st);
     }
-    let next = p.state;
+    out.n = k;
     Ticked {
         code: 0,
-        state: next,
+        state: out,
     }
 }

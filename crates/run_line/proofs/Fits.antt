@@ -5,7 +5,7 @@ use native.Mathlib.Omega.{arith}
 use mathlib.Core.List.{List, [], _∷_, flatMap}
 use mathlib.Core.Bool.{true}
 use mathlib.Core.Path.{_≡_, ap, sym, subst, _∙_}
-use lib.ListN.{length, take, length-map, length-append, length-take}
+use lib.ListN.{length, take, length-map, length-append}
 use lib.Seq.{take-at}
 use borrow.Author.Tests.{leb-true}
 use Rattle.terms.specs.Names.{Name, bytes}
@@ -16,6 +16,7 @@ use Rattle.terms.specs.Step.{idle, tookPlace, taken, followed, visit, sweep, fi
 use Rattle.table.specs.declared.State.{State}
 use Rattle.table.specs.Words.{nameAt, locName, chanName, defName, word}
 use Rattle.table.specs.Meaning.{defsOf, means, compsOf, netOf}
+use Rattle.table.proofs.InUse.{comps-length}
 use Rattle.table.specs.Valid.{valid}
 use Rattle.table.specs.Fire.{Tag, ActedAt, labelOf, actOn}
 use Rattle.table.specs.Fire.Tag.{callTag, moveTag, sendTag}
@@ -81,8 +82,8 @@ module _ (w : List ℕ) (st : State) (v : valid w st ≡ true) where
   all-short (a ∷ xs) = rw spaced-append (simp length-append (omega (arith, one-short a, all-short xs)))
 
   pub few : length (netOf w st) ≤ 256
-  unfolding netOf compsOf
-  few = omega (arith, length-map (take (st .n) (st .c)) (means w), length-take (st .n) (st .c), valid-parts w st v .1 .few)
+  unfolding netOf
+  few = omega (arith, length-map (compsOf st) (means w), comps-length st, valid-parts w st v .1 .few)
 
   pub line-short : (l : ℕ) → length (lineText (locName w l) (stepLabels w st l)) ≤ 13_329
   unfolding lineText locName

@@ -22,7 +22,7 @@ use Rattle.text.specs.Grammar.Rest.{ok, bad}
 use Rattle.text.specs.Questions.{ask, _>>_, short, whole, form, shallow, fits, definedOnce, callsMet, bound, read}
 use Rattle.table.specs.declared.State.{State}
 use Rattle.table.specs.Words.{locsIn, locName}
-use Rattle.table.specs.Meaning.{defsOf, netOf, networkOf as tableNetwork, noComp}
+use Rattle.table.specs.Meaning.{compIn, defsOf, netOf, networkOf as tableNetwork}
 use Rattle.table.specs.Valid.{valid}
 use Rattle.table.proofs.Tests.{length-listFrom, getD-listFrom, script-fine, comp-fine}
 use Rattle.text_build.specs.Rows.{locsOf}
@@ -48,10 +48,10 @@ use Rattle.text_write.proofs.Puts.{step as put-step}
 pub locs-few : (w : List ℕ) (st : State) → valid w st ≡ true → locsIn w ≤ 64
 locs-few w st g = script-fine w (valid-parts w st g .0) .locs
 
-pub locs-some : (w : List ℕ) (st : State) → valid w st ≡ true → length (st .c) ≡ 256 → 0 < locsIn w
-locs-some w st g long =
+pub locs-some : (w : List ℕ) (st : State) → valid w st ≡ true → 0 < locsIn w
+locs-some w st g =
     let v = valid-parts w st g in
-    let c = comp-fine w (getD (st .c) 0 noComp) (comp-good w st g long 0 (v .1 .some)) in
+    let c = comp-fine w (compIn (st .c) 0) (comp-good w st g 0 (v .1 .some)) in
     let h = c .loc in
     omega arith
 

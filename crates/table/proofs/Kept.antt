@@ -71,7 +71,7 @@ arg-in w ys vs xs n k e m h f z = go (ltb k n) refl
     go false q = lt-ltb 0 (locsIn w) z
 
 -- ── what an action leaves ──
-abbrev goodLeft : List ℕ → Left → Bool
+abbrev pub goodLeft : List ℕ → Left → Bool
 goodLeft w f = every (compOk w) (f .after)
 
 abbrev pub goodActed : List ℕ → ActedAt → Bool

@@ -1,6 +1,5 @@
 pub mod Scopes
 pub mod Tests
-pub mod InUse
 pub mod Places
 pub mod Size
 pub mod Splits
@@ -12,6 +11,8 @@ pub mod WordsHead
 pub mod NamesForm
 pub mod ValidBool
 pub mod ValidLists
+pub mod InUse
+pub mod Stores
 pub mod ValidScopes
 pub mod ValidParts
 pub mod NamesRows

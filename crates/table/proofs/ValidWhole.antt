@@ -2,11 +2,11 @@
 -- By the definitions; the names of a sort stand at equal distances.
 use Prim.Native.Nat.{ℕ, _≤_, _<_}
 use native.Mathlib.Omega.{arith}
-use mathlib.Core.List.{List, map}
+use mathlib.Core.List.{List}
 use mathlib.Core.Bool.{Bool, true, false, _&&_, _||_}
-use mathlib.Core.Path.{_≡_, refl, ap, sym, _∙_}
+use mathlib.Core.Path.{_≡_, refl, ap, _∙_}
 use lib.Dec.{eqb, leb, ltb}
-use lib.ListN.{length, getD, length-map}
+use lib.ListN.{length}
 use borrow.Author.Tests.{leb-true, eq-eqb}
 use Rattle.terms.specs.Same.{every}
 use Rattle.terms.proofs.Names.{and-inv}
@@ -16,7 +16,7 @@ use Rattle.table.specs.declared.State.{State}
 use Rattle.table.specs.declared.Sort.{Sort}
 use Rattle.table.specs.declared.Sort.the-variants.{Location, Small, Identifier}
 use Rattle.table.specs.Words.{partsIn, locsIn, chansIn, defsIn, locName, chanName, defName}
-use Rattle.table.specs.Meaning.{listFrom, compsOf, noComp}
+use Rattle.table.specs.Meaning.{listFrom, compIn, compsOf, noComp}
 use Rattle.table.specs.Valid.{timerOk, sortOk, markOk, compOk}
 use Rattle.table.specs.Tests.{firstOf, rowName, countsOk}
 use Rattle.table.proofs.ValidLists.{every-all, every-miss}
@@ -60,18 +60,12 @@ module _ (w : List ℕ) (n : ℕ) where
   identifiers-are = refl
 
 -- ── components ──
-pub mapped : {X Y : Type 0} (f : X → Y) (l : List X) (n : ℕ) → length (map f l) ≡ n → length l ≡ n
-mapped f l n p = sym (length-map l f) ∙ p
+module _ (st : State) (f : Comp → Bool) where
+  pub comps-all : ((k : ℕ) → k < st .n → f (compIn (st .c) k) ≡ true) → every f (compsOf st) ≡ true
+  comps-all e = every-all f noComp (compsOf st) (λ k b. let c : k < st .n = omega (arith, comps-length st) in ap f (in-use st noComp k c) ∙ e k c)
 
-module _ (st : State) (f : Comp → Bool) (h : st .n ≤ 256) (l : length (st .c) ≡ 256) where
-  held : st .n ≤ length (st .c)
-  held = omega arith
-
-  pub comps-all : ((k : ℕ) → k < st .n → f (getD (st .c) k noComp) ≡ true) → every f (compsOf st) ≡ true
-  comps-all e = every-all f noComp (compsOf st) (λ k b. let c : k < st .n = omega (arith, comps-length st held) in ap f (in-use st held noComp k c) ∙ e k c)
-
-  pub comps-miss : (k : ℕ) → k < st .n → f (getD (st .c) k noComp) ≡ false → every f (compsOf st) ≡ false
-  comps-miss k b e = every-miss f noComp (compsOf st) k (omega (arith, comps-length st held)) (ap f (in-use st held noComp k b) ∙ e)
+  pub comps-miss : (k : ℕ) → k < st .n → f (compIn (st .c) k) ≡ false → every f (compsOf st) ≡ false
+  comps-miss k b e = every-miss f noComp (compsOf st) k (omega (arith, comps-length st)) (ap f (in-use st noComp k b) ∙ e)
 
 pub comp-is : (w : List ℕ) (x : Comp) → ltb (x .loc) (locsIn w) ≡ true → (eqb (x .mark) 64 || ltb (x .mark) (locsIn w)) ≡ true
     → ltb (x .place) (partsIn w) ≡ true

@@ -1,6 +1,6 @@
 -- Small tables, computed: what they stand for, and what question 17 says of them.
 use Prim.Native.Nat.{ℕ, _-_}
-use mathlib.Core.List.{List, [], _∷_, _++_}
+use mathlib.Core.List.{List, [], _∷_, _++_, flatMap}
 use mathlib.Core.Bool.{true, false}
 use mathlib.Core.Path.{_≡_, refl}
 use lib.ListN.{replicate, length}
@@ -20,11 +20,11 @@ use Rattle.terms.specs.Rules.{some}
 use Rattle.table.specs.declared.Comp.{Comp}
 use Rattle.table.specs.declared.State.{State}
 use Rattle.table.specs.Words.{strip, letters, nameAt, locName, chanName, arityOf, bodyOf, defName, paramsAt, paramsOf, headAt, nextAt, lowAt, ownAt, boundAt, scopeAt, namesAt}
-use Rattle.table.specs.Meaning.{valueOf, valuesOf, partOf, joined, deep, processAt, partAt, listFrom, defOf, defsOf, withTimer, envAt, markOf, processOf, means, compsOf, netOf, networkOf}
+use Rattle.table.specs.Meaning.{valueOf, valuesOf, partOf, joined, deep, processAt, partAt, listFrom, defOf, defsOf, withTimer, envAt, markOf, processOf, means, compIn, wordsIn, compsOf, netOf, networkOf}
 use Rattle.table.specs.Valid.{below, alike, index, timerOk, slotOk, refOk, innerOk, entered, headOk, nextOk, scopeOk, stacked, floor, lowOk, treeOk, partOk, defOk, sortOk, scriptOk, markOk, compOk, stateOk, valid}
 
 unfoldable pub tables : Unit {0}
-unfolding rules classOf member some isName isLocation isSmall isIdentifier ticksOf strip letters nameAt locName chanName arityOf bodyOf defName paramsAt paramsOf headAt nextAt lowAt ownAt boundAt scopeAt namesAt valueOf valuesOf partOf joined deep processAt partAt listFrom defOf defsOf withTimer envAt markOf processOf means compsOf netOf networkOf below alike distinct index timerOk slotOk refOk innerOk entered headOk nextOk scopeOk stacked floor lowOk treeOk partOk defOk sortOk scriptOk markOk compOk stateOk valid
+unfolding rules classOf member some isName isLocation isSmall isIdentifier ticksOf strip letters nameAt locName chanName arityOf bodyOf defName paramsAt paramsOf headAt nextAt lowAt ownAt boundAt scopeAt namesAt valueOf valuesOf partOf joined deep processAt partAt listFrom defOf defsOf withTimer envAt markOf processOf means compIn flatMap compsOf netOf networkOf below alike distinct index timerOk slotOk refOk innerOk entered headOk nextOk scopeOk stacked floor lowOk treeOk partOk defOk sortOk scriptOk markOk compOk stateOk valid
 tables = tt
 
 abbrev zeros : ℕ → List ℕ
@@ -59,7 +59,7 @@ abbrev at : ℕ → ℕ → ℕ → ℕ → Comp
 at l m i t = record { loc = l; mark = m; place = i; timer = t; vals = zeros 8 }
 
 abbrev state : List Comp → State
-state cs = record { c = cs; n = length cs }
+state cs = record { c = flatMap wordsIn cs; n = length cs }
 
 stands-for : networkOf script (state (at 0 64 1 0 ∷ at 1 0 1 0 ∷ at 0 64 3 7 ∷ []))
     ≡ record {

@@ -1,5 +1,5 @@
 -- What a table stands for: a network in letters, values put in. Document 01, *The term and the network*.
-use Prim.Native.Nat.{ℕ, zero, suc, _-_}
+use Prim.Native.Nat.{ℕ, zero, suc, _+_, _-_, _*_}
 use mathlib.Core.List.{List, [], _∷_, map}
 use mathlib.Core.Bool.{cond}
 use lib.Dec.{ltb}
@@ -18,7 +18,7 @@ use Rattle.table.specs.declared.Head.{Head}
 use Rattle.table.specs.declared.Head.the-variants.{Stop, Go, Out, In, Call}
 use Rattle.table.specs.declared.Comp.{Comp}
 use Rattle.table.specs.declared.State.{State}
-use Rattle.table.specs.Words.{defsIn, locName, chanName, defName, bodyOf, paramsOf, headAt, nextAt, boundAt, namesAt}
+use Rattle.table.specs.Words.{word, defsIn, locName, chanName, defName, bodyOf, paramsOf, headAt, nextAt, boundAt, namesAt}
 
 -- ── terms ──
 -- what a value's word stands for where the names ys are in scope
@@ -95,9 +95,26 @@ means w c = comp (locName w (c .loc)) (markOf w (c .mark)) (processOf w c)
 abbrev pub noComp : Comp
 noComp = record { loc = 0; mark = 0; place = 0; timer = 0; vals = [] }
 
+-- the component at position i of a state's words, and the words of a component
+unfoldable pub compIn : List ℕ → ℕ → Comp
+compIn c i = record {
+  loc = word c (i * 12);
+  mark = word c (i * 12 + 1);
+  place = word c (i * 12 + 2);
+  timer = word c (i * 12 + 3);
+  vals =
+      word c (i * 12 + 4) ∷ word c (i * 12 + 5) ∷ word c (i * 12 + 6) ∷ word c (i * 12 + 7) ∷ word c (i * 12 + 8) ∷ word c (i * 12 + 9)
+      ∷ word c (i * 12 + 10) ∷ word c (i * 12 + 11) ∷ [];
+}
+
+abbrev pub wordsIn : Comp → List ℕ
+wordsIn x =
+    x .loc ∷ x .mark ∷ x .place ∷ x .timer ∷ word (x .vals) 0 ∷ word (x .vals) 1 ∷ word (x .vals) 2 ∷ word (x .vals) 3 ∷ word (x .vals) 4 ∷ word (x .vals) 5
+    ∷ word (x .vals) 6 ∷ word (x .vals) 7 ∷ []
+
 -- the components in use
 unfoldable pub compsOf : State → List Comp
-compsOf st = take (st .n) (st .c)
+compsOf st = listFrom 0 (st .n) (compIn (st .c))
 
 unfoldable pub netOf : List ℕ → State → List Component
 netOf w st = map (means w) (compsOf st)

@@ -8,9 +8,11 @@
 //   specs/Split     what a tick makes of a component
 //   specs/Fire      what an action makes of its components, and when a tick is allowed
 //   specs/Examples  small tables, computed
+//   comps           reading and writing a component
 //   words           reading a script's words, names, heads
 //   forms           the form of a name of each sort
 //   valid           question 17, answered
+pub mod comps;
 mod forms;
 pub mod valid;
 pub mod words;
@@ -29,7 +31,6 @@ pub enum Head {
 }
 
 // A component: location, mark (64 for none), place, timer, and a location for each slot.
-#[repr(C)]
 pub struct Comp {
     pub loc: u32,
     pub mark: u32,
@@ -38,10 +39,10 @@ pub struct Comp {
     pub vals: [u32; 8],
 }
 
-// The components; the first n are in use.
+// The components, twelve words for each in the order of its fields; the first n of 256 are in use.
 #[repr(C)]
 pub struct State {
-    pub c: [Comp; 256],
+    pub c: [u32; 3072],
     pub n: usize,
 }
 

@@ -15,7 +15,7 @@ ghost use Rattle.table.specs.declared.Head.the-variants.{Go, Out, In, Ca
 use super::Comp;
 use super::Key;
 use super::Sort;
-use super::State;
+use super::comps::comp_at;
 use super::forms::is_name;
 use super::words::arity_of;
 use super::words::body_of;
@@ -573,10 +573,9 @@ fn comp_ok(w: &[u32; 99592], c: Comp) -> bool
 }
 
 // A state by itself.
-pub fn state_ok(w: &[u32; 99592], st: State) -> bool
-    ensures { λ r. ⌜ r ≡ stateOk (now (w .entry)) st ⌝ }
+pub fn state_ok(w: &[u32; 99592], c: &[u32; 3072], n: usize) -> bool
+    ensures { λ r. ⌜ r ≡ stateOk (now (w .entry)) (record { c = now (c .entry); n = n }) ⌝ }
 {
-    let n = st.n;
     if n == 0 {
         return false;
     }
@@ -585,8 +584,8 @@ pub fn state_ok(w: &[u32; 99592], st: State) -> bool
     }
     let mut i = 0;
     while i < n {
-        let c = st.c[i];
-        if !comp_ok(w, c) {
+        let x = comp_at(c, i);
+        if !comp_ok(w, x) {
             return false;
         }
         i += 1;
@@ -594,12 +593,12 @@ pub fn state_ok(w: &[u32; 99592], st: State) -> bool
     true
 }
 
-// Question 17.
-pub fn is_valid(w: &[u32; 99592], st: State) -> bool
-    ensures { λ r. ⌜ r ≡ valid (now (w .entry)) st ⌝ }
+// Question 17, of a state's words and the number of its components.
+pub fn is_valid(w: &[u32; 99592], c: &[u32; 3072], n: usize) -> bool
+    ensures { λ r. ⌜ r ≡ valid (now (w .entry)) (record { c = now (c .entry); n = n }) ⌝ }
 {
     if !script_ok(w) {
         return false;
     }
-    state_ok(w, st)
+    state_ok(w, c, n)
 }

@@ -1,6 +1,6 @@
 -- The round trip of the tables: what is written for a table that passes question 17 and has no mark is read again as the network that the table stands for,
 -- unless a limit of 1, 3 or 4 is passed (document 01, *Write* of *The other calls*, last sentence). By the round trip of networks (the crate `text`), since the table's network can be written and is sound.
-use Prim.Native.Nat.{ℕ, _≤_}
+use Prim.Native.Nat.{ℕ}
 use native.Mathlib.Omega.{arith}
 use mathlib.Core.List.{List}
 use mathlib.Core.Bool.{Bool, true, false, cond}
@@ -19,24 +19,23 @@ use Rattle.table.specs.Valid.{valid}
 use Rattle.text_write.specs.Answer.{textOf, noMark, writeAnswer}
 use Rattle.text_back.proofs.Tables.{back-sound, back-writable}
 
--- the components in use all stand in the array
-module _ (w : List ℕ) (st : State) (held : st .n ≤ length (st .c)) where
+module _ (w : List ℕ) (st : State) where
   module _ (v : valid w st ≡ true) (u : every unmarked (netOf w st) ≡ true) where
     -- 2 does not refuse the text of a table, and its tree is that of the table's network
     pub table-form : form (textOf w st) ≡ accepted (treeOf (networkOf w st))
     unfolding textOf
-    table-form = form-write (networkOf w st) (back-writable w st v held u)
+    table-form = form-write (networkOf w st) (back-writable w st v u)
 
     -- only the limits, 1, 3 and 4, can refuse the text of a table
     pub table-only-limits : read (textOf w st) ≡ limited (networkOf w st)
     unfolding textOf
-    table-only-limits = only-limits (networkOf w st) (back-writable w st v held u) (back-sound w st v)
+    table-only-limits = only-limits (networkOf w st) (back-writable w st v u) (back-sound w st v)
 
     -- the round trip
     pub table-round-trip : short (textOf w st) ≡ true → shallow (treeOf (networkOf w st)) ≡ true → fits (treeOf (networkOf w st)) ≡ true
         → read (textOf w st) ≡ accepted (networkOf w st)
     unfolding textOf
-    table-round-trip a b c = round-trip (networkOf w st) (back-writable w st v held u) (back-sound w st v) a b c
+    table-round-trip a b c = round-trip (networkOf w st) (back-writable w st v u) (back-sound w st v) a b c
 
   -- what the write call writes, into a buffer of n bytes, is read again as the same network
   pub written-again : (n : ℕ) (s : List ℕ) → writeAnswer w st n ≡ accepted s → read s ≡ limited (networkOf w st)

@@ -1,6 +1,6 @@
 -- A table that passes question 17 stands for a network of which 5, 6 and 7 hold, and which can be written if it has no mark: `back-sound`, `back-writable`.
 -- By what holds of the process at a place: a definition's body has its parameters in scope, and a component has a location for each name in scope.
-use Prim.Native.Nat.{ℕ, zero, suc, _+_, _≤_, _<_}
+use Prim.Native.Nat.{ℕ, zero, suc, _+_, _<_}
 use native.Mathlib.Omega.{arith}
 use mathlib.Core.List.{List, [], _∷_, map, flatMap}
 use mathlib.Core.Bool.{Bool, true, false, cond, not}
@@ -165,7 +165,7 @@ module _ (w : List ℕ) (st : State) (v : valid w st ≡ true) where
   }
 
   -- the components in use all stand in the array
-  module _ (held : st .n ≤ length (st .c)) (u : every unmarked (netOf w st) ≡ true) where
+  module _ (u : every unmarked (netOf w st) ≡ true) where
     unmarked-each : Each (λ c. not (ltb (c .mark) 64) ≡ true) (compsOf st)
     unmarked-each = each-every (λ c. not (ltb (c .mark) 64)) (compsOf st) (sym (unmarked-table w st) ∙ (unfold noMark in u))
 
@@ -182,5 +182,5 @@ module _ (w : List ℕ) (st : State) (v : valid w st ≡ true) where
     back-writable = record {
       defs-well = defs-well w (valid-script w st v);
       comps-well = comps-well;
-      some-comps = unfold netOf in some-one (map (means w) (compsOf st)) (omega (arith, length-map (compsOf st) (means w), comps-length st held, valid-state w st v .some));
+      some-comps = unfold netOf in some-one (map (means w) (compsOf st)) (omega (arith, length-map (compsOf st) (means w), comps-length st, valid-state w st v .some));
     }

@@ -23,7 +23,8 @@ use Rattle.text_build.specs.Tables.{keyWords, heldIn, numberIn, addKey, 
 use Rattle.text_build.specs.Growth.{Frame}
 use Rattle.text_build.proofs.Numbers.{member-index}
 use Rattle.text_build.proofs.Tables.{index-within}
-use Rattle.text_build.proofs.Writes.{set-out, sets-under, sets-past, sets-in, frame-none, frame-then, frame-names, frame-count}
+use Rattle.text_build.proofs.Writes.{frame-none, frame-then, frame-names, frame-count}
+use Rattle.table.proofs.Stores.{set-out, sets-under, sets-past, sets-in}
 
 -- ── lists of names ──
 pub list-same : (f g : ℕ → Name) (k n : ℕ) → ((j : ℕ) → j < k + n → f j ≡ g j) → listFrom k n f ≡ listFrom k n g

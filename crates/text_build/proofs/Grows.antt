@@ -21,7 +21,8 @@ use Rattle.table.proofs.Tests.{length-listFrom}
 use Rattle.text_build.specs.Tables.{keyWords, heldIn, numberIn, addKey, enlist}
 use Rattle.text_build.specs.Rows.{locsOf, chansOf, idsOf, chanKnown}
 use Rattle.text_build.specs.Growth.{locListed, Grown, Frame, Making}
-use Rattle.text_build.proofs.Writes.{set-out, sets-under, frame-then, frame-row}
+use Rattle.text_build.proofs.Writes.{frame-then, frame-row}
+use Rattle.table.proofs.Stores.{set-out, sets-under}
 use Rattle.text_build.proofs.Enlist.{list-same, index-into, names, names-same, Entered, entered, came-within, index-came}
 
 -- ── the tables ──

@@ -28,7 +28,7 @@ use Rattle.text_build.specs.Rows.{Row, Below, Stands, scopeNames, headOf
 use Rattle.text_build.specs.Growth.{valueListed, partListed, placeListed, Grown, Frame, Making}
 use Rattle.text_build.specs.Put.{offsets, slotOf, enterPart, rowWords, rowOf, opened, setSecond, linked, innerScope, scopeMark, putPart, put}
 use Rattle.text_build.proofs.Places.{PartFit, Fit, here, size-some, sizeP-some}
-use Rattle.text_build.proofs.Writes.{sets-under, sets-past}
+use Rattle.table.proofs.Stores.{sets-under, sets-past}
 use Rattle.text_build.proofs.Grows.{Grew, grew-then, row-grew, mark-back}
 use Rattle.text_build.proofs.RowWords.{RowIs, Eight, row-after, row-new, row-kept}
 use Rattle.text_build.proofs.Entering.{Clear, Settled, settled-same, settled-lower, listed-on, grew-none}

@@ -17,7 +17,7 @@ use Rattle.text_build.specs.declared.Scope.{Scope}
 use Rattle.text_build.specs.Growth.{Frame}
 use Rattle.text_build.specs.Rows.{Row}
 use Rattle.text_build.specs.Put.{offsets}
-use Rattle.text_build.proofs.Writes.{sets-under, sets-past, sets-in}
+use Rattle.table.proofs.Stores.{sets-under, sets-past, sets-in}
 
 -- the row at i holds the words r
 abbrev pub RowIs : List ℕ → ℕ → List ℕ → Type 0

@@ -1,32 +1,12 @@
 -- Words after a run of stores: those stored, and the others as they were. By induction on the run.
-use Prim.Native.Nat.{ℕ, zero, suc, _+_, _-_, _*_, _≤_, _<_}
+use Prim.Native.Nat.{ℕ, suc, _+_, _-_, _*_, _≤_, _<_}
 use native.Mathlib.Omega.{arith}
 use mathlib.Core.List.{List, [], _∷_, _++_}
 use mathlib.Core.Path.{_≡_, refl, ap, sym, _∙_}
-use lib.ListN.{length, getD, set, length-set}
-use lib.Seq.{sets, length-sets, getD-set-same, getD-set-other}
-use Rattle.table.specs.Words.{word}
+use lib.ListN.{length, set, length-set}
+use lib.Seq.{sets, length-sets}
 use Rattle.text_build.specs.Growth.{Frame}
-
-pub set-out : (l : List ℕ) (i j a : ℕ) → (j ≡ i → ⊥) → word (set l i a) j ≡ word l j
-set-out l i j a h = getD-set-other l i j a 0 h
-
-pub sets-under : (vs l : List ℕ) (i j : ℕ) → j < i → word (sets l i vs) j ≡ word l j
-sets-under [] l i j h = refl
-sets-under (a ∷ vs) l i j h = sets-under vs (set l i a) (suc i) j (omega arith) ∙ set-out l i j a (λ e. omega arith)
-
-pub sets-past : (vs l : List ℕ) (i j : ℕ) → i + length vs ≤ j → word (sets l i vs) j ≡ word l j
-sets-past [] l i j h = refl
-sets-past (a ∷ vs) l i j h = sets-past vs (set l i a) (suc i) j (omega arith) ∙ set-out l i j a (λ e. omega arith)
-
-pub sets-in : (vs l : List ℕ) (i k : ℕ) → k < length vs → i + length vs ≤ length l → word (sets l i vs) (i + k) ≡ getD vs k 0
-sets-in [] l i k h b = absurd (omega arith)
-sets-in (a ∷ vs) l i zero h b =
-    let e : i + 0 ≡ i = omega arith in
-    rw e (sets-under vs (set l i a) (suc i) i (omega arith) ∙ getD-set-same l i a 0 (omega arith))
-sets-in (a ∷ vs) l i (suc k) h b =
-    let e : i + suc k ≡ suc i + k = omega arith in
-    rw e (sets-in vs (set l i a) (suc i) k (omega arith) (rw (length-set l i a) (omega arith)))
+use Rattle.table.proofs.Stores.{set-out, sets-under, sets-past}
 
 -- ── frames ──
 pub frame-none : (w : List ℕ) (low i : ℕ) → Frame w w low i

@@ -28,6 +28,7 @@ use Rattle.text_scan.proofs.Limits.{capped-within}
 use Rattle.table.specs.declared.State.{State}
 use Rattle.table.specs.Words.{word}
 use Rattle.table.specs.Size.{sizeP}
+use Rattle.table.specs.Meaning.{compsOf}
 use Rattle.text_build.specs.Rows.{placeKnown}
 use Rattle.text_tree.specs.Pass.{Within, heads, afterBodies, brackets, spots, started, top, defined, behind, scriptOf, spotsOf}
 use Rattle.text_tree.specs.Asked.{roomy, apart, callsHeld, allBound, compOf}
@@ -199,7 +200,7 @@ module _ {s : List ℕ} (x : Ready s) {w v : List ℕ} {parts n : ℕ} (zeros : 
     pub places-few : r ≤ 256
     places-few = let k = count-is (x .tree) in let m = x .within .components in let e = all .1 in omega arith
 
-    pub state-is : (st : State) → StateIs v (take r after) st → (st .n ≡ length (spotsOf (x .tree))) × (take (st .n) (st .c) ≡ map (compOf (scriptOf (x .tree))) (spotsOf (x .tree)))
+    pub state-is : (st : State) → StateIs v (take r after) st → (st .n ≡ length (spotsOf (x .tree))) × (compsOf st ≡ map (compOf (scriptOf (x .tree))) (spotsOf (x .tree)))
     state-is st g = (g .count ∙ ap length places-are, g .comps ∙ ap (map (compOf v)) places-are ∙ ap (λ q. map (compOf q) (spotsOf (x .tree))) script-is)
 
 -- the numbers of parts and definitions stay as they are
@@ -265,7 +266,7 @@ module _ {s : List ℕ} (x : Passing s) where
           known-yes : every (placeKnown S) (places T) ≡ true
           known-yes = known T S W (x .ready .within .parameters) distinct-yes (x .ready .well) calls-yes bound-yes
 
-          took : (st : State) → st .n ≡ length (spotsOf T) → take (st .n) (st .c) ≡ map (compOf S) (spotsOf T) → Took s S (networkOf T) (record { code = 0; state = st })
+          took : (st : State) → st .n ≡ length (spotsOf T) → compsOf st ≡ map (compOf S) (spotsOf T) → Took s S (networkOf T) (record { code = 0; state = st })
           took st n c = record {
             code = refl;
             network = network-is T (x .ready .within) (x .ready .well) flag distinct-yes known-yes st n c;
@@ -284,7 +285,7 @@ module _ {s : List ℕ} (x : Passing s) where
       go₁ true true true false e f g h n = read-6 e f g ∙ rw h
       go₁ true true true true e f g h n = absurd (n refl)
 
-  pub asked-yes : asked S ≡ 0 → (st : State) → st .n ≡ length (spotsOf T) → take (st .n) (st .c) ≡ map (compOf S) (spotsOf T) → (w : List ℕ) → readsAs s (read s) w S (record { code = 0; state = st })
+  pub asked-yes : asked S ≡ 0 → (st : State) → st .n ≡ length (spotsOf T) → compsOf st ≡ map (compOf S) (spotsOf T) → (w : List ℕ) → readsAs s (read s) w S (record { code = 0; state = st })
   asked-yes z st n c w = go₁ (roomy S) (apart S) (callsHeld S) (allBound S) refl refl refl refl z
     where
       go₁ : (a b c d : Bool) → roomy S ≡ a → apart S ≡ b → callsHeld S ≡ c → allBound S ≡ d → _≡_ {A = ℕ} (cond a (cond b (cond c (cond d 0 7) 6) 5) 4) 0 → readsAs s (read s) w S (record { code = 0; state = st })

@@ -25,7 +25,7 @@ use Rattle.text_build.specs.Keys.{keyOf}
 use Rattle.text_build.specs.Tables.{keyWords, heldIn, numberIn, addKey, enlist}
 use Rattle.text_build.specs.Rows.{firstPlace, secondPlace}
 use Rattle.text_build.specs.Put.{slotOf, enterLoc, enterChan, enterValue, enterValues, enterPart, rowOf, opened, setSecond, linked, innerScope, scopeMark, putPart, put}
-use Rattle.text_build.proofs.Writes.{set-out, sets-under}
+use Rattle.table.proofs.Stores.{set-out, sets-under}
 use Rattle.text_tree.specs.Pass.{noScope, paramsFrom, paramScope, bodies, putLocated, brackets}
 use Rattle.text_tree.proofs.Heads.{HeadsStand, FewParams, heads-kept}
 use Rattle.text_read.specs.Ready.{bodiesBy}

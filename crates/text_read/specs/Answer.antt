@@ -4,7 +4,7 @@ use mathlib.Core.List.{List, [], map}
 use mathlib.Core.Bool.{true, cond, _&&_}
 use mathlib.Core.Path.{_≡_}
 use lib.Dec.{leb}
-use lib.ListN.{length, take, replicate}
+use lib.ListN.{length, replicate}
 use Rattle.terms.specs.Names.{Name}
 use Rattle.terms.specs.Terms.{Network}
 use Rattle.terms.specs.Rules.{Answer}
@@ -12,23 +12,18 @@ use Rattle.terms.specs.Rules.Answer.{refused, accepted}
 use Rattle.text.specs.Tree.{Tree}
 use Rattle.text.specs.Questions.{form, channels, locations, read}
 use Rattle.text_scan.specs.declared.Scanned.{Scanned}
-use Rattle.table.specs.declared.Comp.{Comp}
 use Rattle.table.specs.declared.State.{State}
-use Rattle.table.specs.Meaning.{networkOf}
+use Rattle.table.specs.Meaning.{compsOf, networkOf}
 use Rattle.table.specs.Valid.{valid}
 use Rattle.text_build.specs.Rows.{locsOf, chansOf}
 use Rattle.text_tree.specs.Asked.{roomy, apart, callsHeld, allBound, compOf}
 use Rattle.text_read.specs.declared.Reading.{Reading}
 
 -- ── components ──
--- a component of zeros, which stands where none was read
-abbrev pub zeroComp : Comp
-zeroComp = record { loc = 0; mark = 0; place = 0; timer = 0; vals = replicate 8 0 }
-
 -- the components at the places xs, and no others
 pub record StateIs (w : List ℕ) (xs : List (List ℕ)) (st : State) : Type 0 where
   pub count : st .n ≡ length xs
-  pub comps : take (st .n) (st .c) ≡ map (compOf w) xs
+  pub comps : compsOf st ≡ map (compOf w) xs
 
 -- ── questions: 0, or the number of the first that is answered by no ──
 -- 1 to 3, and 4 as far as the scan knows it
@@ -45,7 +40,7 @@ asked w = cond (roomy w) (cond (apart w) (cond (callsHeld w) (cond (allBound w) 
 
 -- ── the answer ──
 abbrev pub refusal : ℕ → Reading
-refusal n = record { code = n; state = record { c = replicate 256 zeroComp; n = 0 } }
+refusal n = record { code = n; state = record { c = replicate 3_072 0; n = 0 } }
 
 -- the locations and channels of a text that has a form, numbered by first place
 abbrev pub locationsIn : Answer Tree → List Name

@@ -4,25 +4,13 @@ ghost use mathlib.Core.List.{[], _∷_};
 ghost use mathlib.Core.Path.{_≡_};
 ghost use lib.ListN.{length, take, replicate};
 ghost use Rattle.text_tree.specs.Asked.{compOf};
-ghost use Rattle.text_read.specs.Answer.{zeroComp, StateIs};
+ghost use Rattle.text_read.specs.Answer.{StateIs};
 use table::Comp;
 use table::State;
-
-// A component of zeros.
-fn zero_comp() -> Comp
-    ensures { λ r. ⌜ r ≡ zeroComp ⌝ }
-{
-    Comp {
-        loc: 0,
-        mark: 0,
-        place: 0,
-        timer: 0,
-        vals: [0; 8],
-    }
-}
+use table::comps::put_comp;
 
 // The component at the place i and the location l: unmarked, with the timer of its part.
-fn comp_at(w: &[u32; 99592], l: u32, i: u32) -> Comp
+fn comp_of(w: &[u32; 99592], l: u32, i: u32) -> Comp
     ensures { λ r. ⌜ r ≡ compOf (now (w .entry)) (l ∷ i ∷ []) ⌝ }
 {
     let t = table::words::word(w, 1288 + table::words::wide(i) * 24 + 2);
@@ -37,10 +25,9 @@ fn comp_at(w: &[u32; 99592], l: u32, i: u32) -> Comp
 
 // A network of no components.
 pub fn no_state() -> State
-    ensures { λ r. ⌜ r ≡ record { c = replicate 256 zeroComp; n = 0 } ⌝ }
+    ensures { λ r. ⌜ r ≡ record { c = replicate 3072 0; n = 0 } ⌝ }
 {
-    let x = zero_comp();
-    State { c: [x; 256], n: 0 }
+    State { c: [0; 3072], n: 0 }
 }
 
 // The components at the first n places.
@@ -48,12 +35,12 @@ pub(crate) fn state_of(w: &[u32; 99592], out: &[[u32; 2]], n: usize) -> State
     requires { ⌜ (n ≤ 256) × (n ≤ length (now out)) ⌝ }
     ensures { λ r. ⌜ StateIs (now (w .entry)) (take n (now (out .entry))) r ⌝ }
 {
-    let x = zero_comp();
-    let mut st = State { c: [x; 256], n: n };
+    let mut st = State { c: [0; 3072], n: n };
     let mut j = 0;
     while j < n {
         let y = out[j];
-        st.c[j] = comp_at(w, y[0], y[1]);
+        let x = comp_of(w, y[0], y[1]);
+        put_comp(&mut st.c, j, x);
         j += 1;
     }
     st

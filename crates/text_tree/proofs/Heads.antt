@@ -19,7 +19,8 @@ use Rattle.table.specs.Size.{sizeP}
 use Rattle.table.proofs.ValidDefs.{params-names}
 use Rattle.text_build.specs.Keys.{keyOf}
 use Rattle.text_build.specs.Tables.{keyWords}
-use Rattle.text_build.proofs.Writes.{sets-under, sets-past, sets-in, sets-append}
+use Rattle.text_build.proofs.Writes.{sets-append}
+use Rattle.table.proofs.Stores.{sets-under, sets-past, sets-in}
 use Rattle.text_build.proofs.Enlist.{names-same, name-written}
 use Rattle.text_build.proofs.Entering.{small-spelt, id-spelt}
 use Rattle.text_tree.specs.Pass.{putParams, putHead, heads}

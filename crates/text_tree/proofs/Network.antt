@@ -7,7 +7,7 @@ use mathlib.Core.Bool.{Bool, true, false, cond}
 use mathlib.Core.Path.{_≡_, refl, ap, sym, _∙_}
 use borrow.Author.Tests.{ltb-true, lt-ltb, le-leb}
 use lib.Dec.{eqb}
-use lib.ListN.{length, take, length-append}
+use lib.ListN.{length, length-append}
 use Rattle.terms.specs.Names.{Name}
 use Rattle.terms.specs.Terms.{Part, Process}
 use Rattle.terms.specs.Terms.Part.{stop, go, out, inp, call}
@@ -177,7 +177,7 @@ count-is t = spots-count (t .located) (behind t) _
 
 -- ── the network ──
 module _ (t : Tree) (l : Within t) (f : WellTree t) (z : word (scriptOf t) 4 ≡ 0) (e : Q.definedOnce (t .defs) ≡ true) (k : every (placeKnown (scriptOf t)) (places t) ≡ true)
-    (st : State) (n : st .n ≡ length (spotsOf t)) (c : take (st .n) (st .c) ≡ map (compOf (scriptOf t)) (spotsOf t)) where
+    (st : State) (n : st .n ≡ length (spotsOf t)) (c : compsOf st ≡ map (compOf (scriptOf t)) (spotsOf t)) where
   good : scriptOk (scriptOf t) ≡ true
   good = script-ok t (scriptOf t) (whole t l f z) f l e k
 

@@ -18,7 +18,7 @@ use Rattle.table.specs.Words.{word}
 use Rattle.table.specs.Meaning.{listFrom}
 use Rattle.text_build.specs.Rows.{locsOf, chansOf}
 use Rattle.text_build.specs.Growth.{Making}
-use Rattle.text_build.proofs.Writes.{set-out}
+use Rattle.table.proofs.Stores.{set-out}
 use Rattle.text_build.proofs.Grows.{grown-none}
 use Rattle.text_build.proofs.Numbering.{flat-append, Numbered, numbered-then}
 use Rattle.text_tree.specs.Pass.{Within, heads, bodies, started, top, defined, behind, scriptOf, spotsOf}

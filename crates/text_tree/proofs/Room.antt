@@ -31,7 +31,7 @@ use Rattle.text_build.specs.Put.{offsets, slotOf, enterLoc, enterChan, enterVal
 use Rattle.text_build.proofs.Numbers.{member-index, names-entered}
 use Rattle.text_build.proofs.Places.{Fit, fit-first, fit-par}
 use Rattle.text_build.proofs.Kept.{entering-same}
-use Rattle.text_build.proofs.Writes.{set-out, sets-under}
+use Rattle.table.proofs.Stores.{set-out, sets-under}
 use Rattle.text_build.proofs.Enlist.{names}
 use Rattle.text_build.proofs.Grows.{into-longer, Grew}
 use Rattle.text_build.proofs.RowWords.{Eight}

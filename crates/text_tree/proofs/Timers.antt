@@ -25,7 +25,7 @@ use Rattle.text_build.specs.Keys.{keyOf}
 use Rattle.text_build.specs.Tables.{keyWords, heldIn, numberIn, addKey, enlist}
 use Rattle.text_build.specs.Rows.{timerWord, firstPlace, secondPlace}
 use Rattle.text_build.specs.Put.{slotOf, enterLoc, enterChan, enterValue, enterValues, enterPart, rowWords, rowOf, opened, setSecond, linked, innerScope, scopeMark, putPart, put}
-use Rattle.text_build.proofs.Writes.{set-out, sets-past}
+use Rattle.table.proofs.Stores.{set-out, sets-past}
 use Rattle.text_build.proofs.RowWords.{Eight}
 use Rattle.text_build.proofs.Opening.{row-length}
 use Rattle.text_build.proofs.Puts.{inner-eight}

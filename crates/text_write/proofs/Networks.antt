@@ -6,7 +6,7 @@ use mathlib.Core.List.{List, [], _∷_, _++_, map}
 use mathlib.Core.Bool.{Bool, true, false, _&&_, not}
 use mathlib.Core.Path.{_≡_, refl, ap, sym, _∙_}
 use lib.Dec.{ltb}
-use lib.ListN.{length, getD, take, drop, replicate, drop-of-length-le}
+use lib.ListN.{take, drop, replicate, drop-of-length-le}
 use native.Mathlib.Numerals.{add-one}
 use borrow.Author.Tests.{ltb-true, ltb-false, lt-ltb, le-ltb, not-true}
 use Rattle.terms.specs.Names.{bytes}
@@ -19,7 +19,7 @@ use Rattle.text.specs.Write.{located}
 use Rattle.table.specs.declared.Comp.{Comp}
 use Rattle.table.specs.declared.State.{State}
 use Rattle.table.specs.Words.{locsIn, defsIn, nameAt, locName, defName, arityOf, bodyOf, paramsAt, paramsOf}
-use Rattle.table.specs.Meaning.{listFrom, processAt, defOf, defsOf, means, compsOf, netOf, networkOf}
+use Rattle.table.specs.Meaning.{listFrom, processAt, defOf, defsOf, means, noComp, compIn, compsOf, netOf, networkOf}
 use Rattle.table.specs.Valid.{scriptOk, compOk, valid}
 use Rattle.table.proofs.Tests.{script-fine, def-fine, comp-fine, every-getD}
 use Rattle.table.proofs.Splits.{unmarked-is, marked-is}
@@ -103,41 +103,40 @@ unfolding noMark netOf
 unmarked-table w st = unmarked-all w (compsOf st)
 
 -- a test of the components from position k on
-module _ (f : Comp → Bool) (st : State) (h : st .n ≤ length (st .c)) where
-  every-next : (d : Comp) (k : ℕ) → k < st .n → every f (drop k (compsOf st)) ≡ f (getD (st .c) k d) && every f (drop (k + 1) (compsOf st))
-  every-next d k l = ap (every f) (comp-at st h d k l) ∙ (unfold every in refl)
+module _ (f : Comp → Bool) (st : State) where
+  every-next : (k : ℕ) → k < st .n → every f (drop k (compsOf st)) ≡ f (compIn (st .c) k) && every f (drop (k + 1) (compsOf st))
+  every-next k l = ap (every f) (comp-at st k l) ∙ (unfold every in refl)
 
-  pub every-yes : (d : Comp) (k : ℕ) → k < st .n → f (getD (st .c) k d) ≡ true → every f (drop (k + 1) (compsOf st)) ≡ every f (drop k (compsOf st))
-  every-yes d k l e = sym (every-next d k l ∙ ap (λ b. b && every f (drop (k + 1) (compsOf st))) e)
+  pub every-yes : (k : ℕ) → k < st .n → f (compIn (st .c) k) ≡ true → every f (drop (k + 1) (compsOf st)) ≡ every f (drop k (compsOf st))
+  every-yes k l e = sym (every-next k l ∙ ap (λ b. b && every f (drop (k + 1) (compsOf st))) e)
 
-  pub every-no : (d : Comp) (k : ℕ) → k < st .n → f (getD (st .c) k d) ≡ false → false ≡ every f (drop k (compsOf st))
-  every-no d k l e = sym (every-next d k l ∙ ap (λ b. b && every f (drop (k + 1) (compsOf st))) e)
+  pub every-no : (k : ℕ) → k < st .n → f (compIn (st .c) k) ≡ false → false ≡ every f (drop k (compsOf st))
+  every-no k l e = sym (every-next k l ∙ ap (λ b. b && every f (drop (k + 1) (compsOf st))) e)
 
   pub every-end : (k : ℕ) → st .n ≤ k → true ≡ every f (drop k (compsOf st))
-  every-end k l = sym (ap (every f) (drop-of-length-le (compsOf st) {i = k} (omega (arith, comps-length st h))) ∙ (unfold every in refl))
+  every-end k l = sym (ap (every f) (drop-of-length-le (compsOf st) {i = k} (omega (arith, comps-length st))) ∙ (unfold every in refl))
 
 -- the components that are left from position k on
 module _ (w : List ℕ) (st : State) where
   abbrev pub left : ℕ → List (List ℕ)
   left k = map compText (map (means w) (drop k (compsOf st)))
 
-  module _ (h : st .n ≤ length (st .c)) where
-    pub comps-first : (d : Comp) → 0 < st .n → netText (map compText (netOf w st)) ≡ compText (means w (getD (st .c) 0 d)) ++ barred (left 1)
-    comps-first d l = unfold netOf in ap (λ cs. netText (map compText (map (means w) cs))) (comp-at st h d 0 l) ∙ (unfold netText in refl)
+  pub comps-first : 0 < st .n → netText (map compText (netOf w st)) ≡ compText (means w (compIn (st .c) 0)) ++ barred (left 1)
+  comps-first l = unfold netOf in ap (λ cs. netText (map compText (map (means w) cs))) (comp-at st 0 l) ∙ (unfold netText in refl)
 
-    pub comps-next : (d : Comp) (k : ℕ) → k < st .n → barred (left k) ≡ bytes " | " ++ (compText (means w (getD (st .c) k d)) ++ barred (left (k + 1)))
-    comps-next d k l = ap (λ cs. barred (map compText (map (means w) cs))) (comp-at st h d k l) ∙ (unfold barred in refl)
+  pub comps-next : (k : ℕ) → k < st .n → barred (left k) ≡ bytes " | " ++ (compText (means w (compIn (st .c) k)) ++ barred (left (k + 1)))
+  comps-next k l = ap (λ cs. barred (map compText (map (means w) cs))) (comp-at st k l) ∙ (unfold barred in refl)
 
-    pub comps-end : (k : ℕ) → st .n ≤ k → barred (left k) ≡ bytes " .\n"
-    comps-end k l = ap (λ cs. barred (map compText (map (means w) cs))) (drop-of-length-le (compsOf st) {i = k} (omega (arith, comps-length st h))) ∙ (unfold barred in refl)
+  pub comps-end : (k : ℕ) → st .n ≤ k → barred (left k) ≡ bytes " .\n"
+  comps-end k l = ap (λ cs. barred (map compText (map (means w) cs))) (drop-of-length-le (compsOf st) {i = k} (omega (arith, comps-length st))) ∙ (unfold barred in refl)
 
-    -- a component in use is good, and unmarked where all are
-    pub comp-good : (d : Comp) (k : ℕ) → k < st .n → valid w st ≡ true → noMark w st ≡ true → (compOk w (getD (st .c) k d) ≡ true) × (64 ≤ getD (st .c) k d .mark)
-    comp-good d k l v u =
-        let q = in-use st h d k l in
-        let g = every-getD (compOk w) (compsOf st) d k (valid-state w st v .each) (omega (arith, comps-length st h)) in
-        let m = every-getD (λ c. not (ltb (c .mark) 64)) (compsOf st) d k (sym (unmarked-table w st) ∙ u) (omega (arith, comps-length st h)) in
-        (rw q at g, ltb-false (getD (st .c) k d .mark) 64 (not-true (ltb (getD (st .c) k d .mark) 64) (rw q at m)))
+  -- a component in use is good, and unmarked where all are
+  pub comp-good : (k : ℕ) → k < st .n → valid w st ≡ true → noMark w st ≡ true → (compOk w (compIn (st .c) k) ≡ true) × (64 ≤ compIn (st .c) k .mark)
+  comp-good k l v u =
+      let q = in-use st noComp k l in
+      let g = every-getD (compOk w) (compsOf st) noComp k (valid-state w st v .each) (omega (arith, comps-length st)) in
+      let m = every-getD (λ c. not (ltb (c .mark) 64)) (compsOf st) noComp k (sym (unmarked-table w st) ∙ u) (omega (arith, comps-length st)) in
+      (rw q at g, ltb-false (compIn (st .c) k .mark) 64 (not-true (ltb (compIn (st .c) k .mark) 64) (rw q at m)))
 
 -- ── the whole text ──
 pub text-is : (w : List ℕ) (st : State) → defsText (defsOf w) ++ netText (map compText (netOf w st)) ≡ textOf w st

@@ -35,10 +35,10 @@ pub struct Written {
 pub fn write(w: &[u32; 99592], st: State, buf: &mut [u8]) -> Written
     ensures { λ r. ⌜ Answers (writeAnswer (now (w .entry)) st (length (now (buf .entry)))) (now (buf .entry)) r (now (buf .exit)) ⌝ }
 {
-    if !is_valid(w, st) {
+    if !is_valid(w, &st.c, st.n) {
         return Written { code: 17, len: 0 };
     }
-    write_valid(w, st, buf)
+    write_valid(w, &st.c, st.n, buf)
 }
 
 // The first n bytes of s to the front of the buffer.
@@ -55,22 +55,22 @@ fn copy_front(s: &[u8], n: usize, buf: &mut [u8])
 
 // The same on a network that passes question 17: 14, then 15, for which the text is written beside the buffer, then the text. Only a text that is longer than
 // any that can be read is written a second time.
-fn write_valid(w: &[u32; 99592], st: State, buf: &mut [u8]) -> Written
-    requires { ⌜ valid (now w) st ≡ true ⌝ }
-    ensures { λ r. ⌜ Answers (writeAnswer (now (w .entry)) st (length (now (buf .entry)))) (now (buf .entry)) r (now (buf .exit)) ⌝ }
+fn write_valid(w: &[u32; 99592], c: &[u32; 3072], n: usize, buf: &mut [u8]) -> Written
+    requires { ⌜ valid (now w) (record { c = now c; n = n }) ≡ true ⌝ }
+    ensures { λ r. ⌜ Answers (writeAnswer (now (w .entry)) (record { c = now (c .entry); n = n }) (length (now (buf .entry)))) (now (buf .entry)) r (now (buf .exit)) ⌝ }
 {
-    if !all_unmarked(st) {
+    if !all_unmarked(c, n) {
         return Written { code: 14, len: 0 };
     }
     let mut text = [0; 65536];
-    let n = write_text(w, st, &mut text);
-    if buf.len() < n {
+    let k = write_text(w, c, n, &mut text);
+    if buf.len() < k {
         return Written { code: 15, len: 0 };
     }
-    if 65536 < n {
-        write_text(w, st, buf);
-        return Written { code: 0, len: n };
+    if 65536 < k {
+        write_text(w, c, n, buf);
+        return Written { code: 0, len: k };
     }
-    copy_front(&text, n, buf);
-    Written { code: 0, len: n }
+    copy_front(&text, k, buf);
+    Written { code: 0, len: k }
 }

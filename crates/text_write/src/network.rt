@@ -20,7 +20,7 @@ use super::put::put_end;
 use super::put::put_list;
 use super::put::put_name;
 use table::Comp;
-use table::State;
+use table::comps::comp_at;
 use table::words::arity_of;
 use table::words::body_of;
 use table::words::wide;
@@ -68,42 +68,40 @@ fn write_comp(w: &[u32; 99592], c: Comp, buf: &mut [u8], at: usize) -> usize
 }
 
 // The line of the components, in order.
-fn write_comps(w: &[u32; 99592], st: State, buf: &mut [u8], at: usize) -> usize
-    requires { ⌜ (valid (now w) st ≡ true) × (noMark (now w) st ≡ true) ⌝ }
-    ensures { λ r. ⌜ Wrote (now (buf .entry)) at (netText (map compText (netOf (now (w .entry)) st))) (now (buf .exit)) r ⌝ }
+fn write_comps(w: &[u32; 99592], c: &[u32; 3072], n: usize, buf: &mut [u8], at: usize) -> usize
+    requires { ⌜ (valid (now w) (record { c = now c; n = n }) ≡ true) × (noMark (now w) (record { c = now c; n = n }) ≡ true) ⌝ }
+    ensures { λ r. ⌜ Wrote (now (buf .entry)) at (netText (map compText (netOf (now (w .entry)) (record { c = now (c .entry); n = n })))) (now (buf .exit)) r ⌝ }
 {
-    let n = st.n;
-    let first = st.c[0];
+    let first = comp_at(c, 0);
     let mut a = write_comp(w, first, buf, at);
     let mut k = 1;
     while k < n {
         a = put_bar(buf, a);
-        let c = st.c[k];
-        a = write_comp(w, c, buf, a);
+        let x = comp_at(c, k);
+        a = write_comp(w, x, buf, a);
         k += 1;
     }
     put_end(buf, a)
 }
 
 // The whole text, from the start of the buffer on.
-pub(crate) fn write_text(w: &[u32; 99592], st: State, buf: &mut [u8]) -> usize
-    requires { ⌜ (valid (now w) st ≡ true) × (noMark (now w) st ≡ true) ⌝ }
-    ensures { λ r. ⌜ Wrote (now (buf .entry)) 0 (textOf (now (w .entry)) st) (now (buf .exit)) r ⌝ }
+pub(crate) fn write_text(w: &[u32; 99592], c: &[u32; 3072], n: usize, buf: &mut [u8]) -> usize
+    requires { ⌜ (valid (now w) (record { c = now c; n = n }) ≡ true) × (noMark (now w) (record { c = now c; n = n }) ≡ true) ⌝ }
+    ensures { λ r. ⌜ Wrote (now (buf .entry)) 0 (textOf (now (w .entry)) (record { c = now (c .entry); n = n })) (now (buf .exit)) r ⌝ }
 {
     let a = write_defs(w, buf, 0);
-    write_comps(w, st, buf, a)
+    write_comps(w, c, n, buf, a)
 }
 
 // 14: is no component marked?
-pub(crate) fn all_unmarked(st: State) -> bool
-    requires { ⌜ st .n ≤ 256 ⌝ }
-    ensures { λ r. ⌜ r ≡ every (λ c. not (ltb (c .mark) 64)) (compsOf st) ⌝ }
+pub(crate) fn all_unmarked(c: &[u32; 3072], n: usize) -> bool
+    requires { ⌜ n ≤ 256 ⌝ }
+    ensures { λ r. ⌜ r ≡ every (λ x. not (ltb (x .mark) 64)) (compsOf (record { c = now (c .entry); n = n })) ⌝ }
 {
-    let n = st.n;
     let mut k = 0;
     while k < n {
-        let c = st.c[k];
-        if c.mark < 64 {
+        let x = comp_at(c, k);
+        if x.mark < 64 {
             return false;
         }
         k += 1;

@@ -42,7 +42,7 @@ pub extern "C" fn timo_read(text: &[u8], w: &mut [u32; 99592]) -> Reading
 pub extern "C" fn timo_valid(w: &[u32; 99592], st: State) -> bool
     ensures { λ r. ⌜ r ≡ valid (now (w .entry)) st ⌝ }
 {
-    is_valid(w, st)
+    is_valid(w, &st.c, st.n)
 }
 
 // A single action: questions 17, 8, 9, 10, 11.

@@ -4,14 +4,13 @@ use Rattle.table.specs.Meaning.{networkOf}
 use Rattle.table.proofs.ValidBool.{failed, passed}
 use Rattle.terms.specs.Same.{same}
 use Rattle.table.proofs.InUse.{valid-script}
-use borrow.Author.Needs.{needs}
 use Rattle.calls_same.proofs.same_networks.Statement.{statement}
 use Rattle.calls_same.proofs.same_networks.Tie as tie
 
 defs-within-requires : tie.Need-defs-within-requires
 defs-within-requires c κs =
     let k = c .args in
-    (valid-script (k .w .now) (k .a) (c .pre .0), valid-script (k .v .now) (k .b) (c .pre .1))
+    (valid-script (k .w .now) _ (c .pre .0), valid-script (k .v .now) _ (c .pre .1))
 
 returns : tie.Need-returns
 unfolding same networkOf
@@ -20,9 +19,7 @@ returns c = rw (failed (c .if1 .taken) (c .before .defs-within .ensures))
 defs-within-requires-2 : tie.Need-defs-within-requires-2
 defs-within-requires-2 c κs =
     let k = c .before .before .args in
-    let p = valid-script (k .w .now) (k .a) (c .before .before .pre .0) in
-    let q = valid-script (k .v .now) (k .b) (c .before .before .pre .1) in
-    search needs
+    (valid-script (k .v .now) _ (c .before .before .pre .1), valid-script (k .w .now) _ (c .before .before .pre .0))
 
 returns-2 : tie.Need-returns-2
 unfolding same networkOf

@@ -10,7 +10,6 @@ use Rattle.table.specs.Meaning.{defsOf, netOf}
 use Rattle.table.specs.Valid.{valid}
 use Rattle.text_build.specs.Rows.{locsOf}
 use Rattle.run_print.specs.Print.{four, playing}
-use Rattle.table.proofs.ValidWhole.{mapped}
 use Rattle.run_print.proofs.Playing.{locs-some, locs-few, Playing, play-first, play-stopped, play-on, play-next, play-end}
 use Rattle.run_print.proofs.Fits.{turn-ends, ending-ends}
 use Rattle.run_print.proofs.play.Statement.{statement}
@@ -30,8 +29,7 @@ wide-requires c κs = search needs
 
 loop-holds : tie.Need-loop-holds Inv-loop μ-loop
 loop-holds c =
-    let q : length (c .before .before .before .args .st .c) ≡ 256 = search (needs, mapped) in
-    let h = locs-some _ _ (c .before .before .before .pre) q in
+    let h = locs-some _ _ (c .before .before .before .pre) in
     let e = c .wide .ensures ∙ c .before .word .ensures in
     (c .before .before .before .pre, omega arith, omega arith, refl, play-first _ _ _, omega arith)
 

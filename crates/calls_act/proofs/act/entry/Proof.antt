@@ -1,17 +1,13 @@
--- `entry` meets its contract; the array has 256 components by its type.
-use Rattle.table.proofs.ValidWhole.{mapped}
+-- `entry` meets its contract; the array has its words by its type.
 use borrow.Author.Needs.{needs}
 use Rattle.calls_act.proofs.act.entry.Statement.{statement}
 use Rattle.calls_act.proofs.act.entry.Tie as tie
 
-mul-result : tie.Need-mul-result
-mul-result c = search needs
-
-element-copy-out-result : tie.Need-element-copy-out-result
-element-copy-out-result c = search needs
+comp-at-requires : tie.Need-comp-at-requires
+comp-at-requires c κs = search needs
 
 returns : tie.Need-returns
-returns c = (search needs, search (needs, mapped))
+returns c = (c .comp-at .ensures, search needs)
 
 pub entry-spec : {M : Type 1} → statement M
-entry-spec = tie.close (tie.spec mul-result element-copy-out-result returns)
+entry-spec = tie.close (tie.spec comp-at-requires returns)

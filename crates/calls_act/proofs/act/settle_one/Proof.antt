@@ -4,14 +4,11 @@ use borrow.Author.Needs.{needs}
 use Rattle.calls_act.proofs.act.settle_one.Statement.{statement}
 use Rattle.calls_act.proofs.act.settle_one.Tie as tie
 
-mul-d : tie.Need-mul-d
-mul-d c = search needs
-
-element-set-from-d : tie.Need-element-set-from-d
-element-set-from-d c = search needs
+put-comp-requires : tie.Need-put-comp-requires
+put-comp-requires c κs = search needs
 
 returns : tie.Need-returns
-returns c = simp (eq-eqb _ _ (c .before .before .if1 .taken))
+returns c = simp (eq-eqb _ _ (c .before .before .before .before .if1 .taken), c .put-comp .ensures)
 
 refuse-requires : tie.Need-refuse-requires
 refuse-requires c κs = search needs
@@ -20,4 +17,4 @@ returns-2 : tie.Need-returns-2
 returns-2 c = simp (c .refuse .ensures, ne-eqb _ _ (c .before .if1 .left))
 
 pub settle-one-spec : {M : Type 1} → statement M
-settle-one-spec = tie.close (tie.spec mul-d element-set-from-d returns refuse-requires returns-2)
+settle-one-spec = tie.close (tie.spec put-comp-requires returns refuse-requires returns-2)

@@ -18,10 +18,10 @@ set-of-requires c κs = search needs
 
 returns : tie.Need-returns
 returns c =
-    let a = c .before .before .before .before .before .args in
+    let a = c .before .before .before .before .before .before .before .before .before .args in
     let hs = c .before .before .pressed-in .result in
-    let e = set-is (a .w .now) (a .st) (c .before .before .before .before .ears-in .result) hs (c .before .before .before .before .before .pre) (c .before .before .before .before .ears-in .ensures) (c .before .before .pressed-in .ensures) in
-    report-is (forcedTest (a .w .now) (a .st)) (c .set-of .result) (c .set-of .ensures ∙ e)
+    let e = set-is (a .w .now) (a .t2) (c .before .before .before .before .before .before .ears-in .result) hs (c .before .before .before .before .before .before .before .before .before .pre) (c .before .before .before .before .before .before .ears-in .ensures) (c .before .before .pressed-in .ensures) in
+    report-is (forcedTest (a .w .now) (a .t2)) (c .set-of .result) (c .set-of .ensures ∙ e)
 
 pub forced-valid-spec : {M : Type 1} → statement M
 forced-valid-spec =

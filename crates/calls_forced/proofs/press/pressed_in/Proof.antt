@@ -1,12 +1,13 @@
 -- `pressed_in` meets its contract. The loop's invariant: the marks are those of the components looked at.
-use native.Mathlib.Omega.{arith}
-use mathlib.Core.Path.{_≡_, refl, sym, ap, subst, _∙_}
-use mathlib.Core.Logic.{⊎-elim}
-use borrow.Author.Needs.{needs}
 use Prim.Native.Nat.{_+_, _-_, _≤_, _<_}
+use native.Mathlib.Omega.{arith}
+use mathlib.Core.Logic.{⊎-elim}
+use mathlib.Core.Path.{_≡_, refl, sym, ap, subst, _∙_}
 use lib.ListN.{length, take, set, length-set}
+use lib.Seq.{take-all}
+use Rattle.table.specs.declared.State.{State}
 use Rattle.table.specs.Meaning.{compsOf, noComp}
-use Rattle.table.proofs.ValidWhole.{mapped}
+use Rattle.table.proofs.InUse.{comps-length, in-use}
 use Rattle.calls_act.proofs.Positions.{few-comps, valid-parts, comp-good}
 use Rattle.calls_forced.specs.Marked.{Marked, pressOf}
 use Rattle.calls_forced.proofs.Marking.{marked-none, marked-one, marked-past}
@@ -14,25 +15,23 @@ use Rattle.calls_forced.proofs.press.pressed_in.Statement.{statement}
 use Rattle.calls_forced.proofs.press.pressed_in.Tie as tie
 
 abbrev Inv-loop : tie.InvT-loop
-Inv-loop w ears st n out₀ j₀ out j = (j ≤ n) × (length out ≡ 64) × Marked 64 (pressOf w ears) (take j (st .c)) out
+Inv-loop w c n ears out₀ j₀ out j = (j ≤ n) × (length out ≡ 64) × Marked 64 (pressOf w ears) (take j (compsOf (record { c = c; n = n }))) out
 
 abbrev μ-loop : tie.MeasureT-loop
-μ-loop w ears st n out₀ j₀ out j = n - j
+μ-loop w c n ears out₀ j₀ out j = n - j
 
 loop-holds : tie.Need-loop-holds Inv-loop μ-loop
-loop-holds c = (omega arith, refl, marked-none 64 64 (pressOf (c .args .w .now) (c .args .ears .now)))
+loop-holds c = let a = c .args in (omega arith, refl, marked-none 64 64 (pressOf (a .w .now) (a .ears .now)))
 
-mul-c : tie.Need-mul-c Inv-loop μ-loop
-mul-c c = omega (arith, few-comps (c .before .before .args .w .now) (c .before .before .args .t2) (c .before .before .pre))
-
-element-copy-out-c : tie.Need-element-copy-out-c Inv-loop μ-loop
-element-copy-out-c c = omega (arith, few-comps (c .before .before .args .w .now) (c .before .before .args .t2) (c .before .before .pre))
+comp-at-requires : tie.Need-comp-at-requires Inv-loop μ-loop
+comp-at-requires c κs = let a = c .before .before .args in omega (arith, few-comps (a .w .now) (record { c = a .c .now; n = a .n }) (c .before .before .pre))
 
 press-of-requires : tie.Need-press-of-requires Inv-loop μ-loop
 press-of-requires c κs =
     let a = c .before .before .before .args in
-    let l : length (a .t2 .c) ≡ 256 = search (needs, mapped) in
-    (valid-parts (a .w .now) (a .t2) (c .before .before .before .pre) .0, comp-good (a .w .now) (a .t2) (c .before .before .before .pre) l (c .before .before .loop .j) (c .before .loop-test .taken))
+    let v = c .before .before .before .pre in
+    let st : State = record { c = a .c .now; n = a .n } in
+    (valid-parts (a .w .now) st v .0, rw (c .comp-at .ensures) (comp-good (a .w .now) st v (c .before .before .loop .j) (c .before .loop-test .taken)))
 
 mul-out : tie.Need-mul-out Inv-loop μ-loop
 mul-out c = omega arith
@@ -52,21 +51,21 @@ loop-again c =
     let i = c .before .before .before .before .loop .inv in
     let j = c .before .before .before .before .loop .j in
     let ys = c .before .before .before .before .loop .out in
-    let l : length (a .t2 .c) ≡ 256 = search (needs, mapped) in
-    let b : j < length (a .t2 .c) = omega (arith, few-comps (a .w .now) (a .t2) (c .before .before .before .before .before .pre)) in
-    let k = c .before .press-of .ensures in
+    let st : State = record { c = a .c .now; n = a .n } in
+    let h : j < a .n = c .before .before .before .loop-test .taken in
+    let b : j < length (compsOf st) = omega (arith, comps-length st) in
     let f = pressOf (a .w .now) (a .ears .now) in
+    let k = c .before .press-of .ensures ∙ ap f (c .before .before .comp-at .ensures ∙ sym (in-use st noComp j h)) in
     ⊎-elim
-    (λ t. (omega arith, ap length (t .1) ∙ length-set ys (c .before .press-of .result) 1 ∙ i .1, subst (Marked 64 f (take (j + 1) (a .t2 .c))) (sym (t .1 ∙ ap (λ z. set ys z 1) k)) (marked-one 64 f (a .t2 .c) j noComp ys b (i .2) (i .1) (omega (arith, k, t .0 .taken)))))
-    (λ t. (omega arith, ap length (t .1) ∙ i .1, subst (Marked 64 f (take (j + 1) (a .t2 .c))) (sym (t .1)) (marked-past 64 f (a .t2 .c) j noComp ys b (i .2) (omega (arith, k, t .0 .left)))))
+    (λ t. (omega arith, ap length (t .1) ∙ length-set ys (c .before .press-of .result) 1 ∙ i .1, subst (Marked 64 f (take (j + 1) (compsOf st))) (sym (t .1 ∙ ap (λ z. set ys z 1) k)) (marked-one 64 f (compsOf st) j noComp ys b (i .2) (i .1) (omega (arith, k, t .0 .taken)))))
+    (λ t. (omega arith, ap length (t .1) ∙ i .1, subst (Marked 64 f (take (j + 1) (compsOf st))) (sym (t .1)) (marked-past 64 f (compsOf st) j noComp ys b (i .2) (omega (arith, k, t .0 .left)))))
     (c .if1 .came)
 
 returns : tie.Need-returns Inv-loop μ-loop
-unfolding compsOf
 returns c =
     let a = c .before .before .args in
-    let z : c .before .loop .j ≡ a .t2 .n = omega arith in
-    subst (λ j. Marked 64 (pressOf (a .w .now) (a .ears .now)) (take j (a .t2 .c)) (c .before .loop .out)) z (c .before .loop .inv .2)
+    let st : State = record { c = a .c .now; n = a .n } in
+    subst (λ cs. Marked 64 (pressOf (a .w .now) (a .ears .now)) cs (c .before .loop .out)) (take-all (c .before .loop .j) (compsOf st) (omega (arith, comps-length st))) (c .before .loop .inv .2)
 
 pub pressed-in-spec : {M : Type 1} → statement M
 pressed-in-spec =
@@ -75,8 +74,7 @@ pressed-in-spec =
     Inv-loop
     μ-loop
     loop-holds
-    mul-c
-    element-copy-out-c
+    comp-at-requires
     press-of-requires
     mul-out
     array-write-out

@@ -54,9 +54,9 @@ use Rattle.table.proofs.State.Laws as S′
 use Rattle.calls_tick.proofs.Ticked as T
 use Rattle.calls_tick.proofs.Ticked.Laws as T′
 use Rattle.calls_propose.proofs.Record as R
-use Rattle.table.proofs.valid.is_valid as is-valid
-use Rattle.table.proofs.valid.is_valid.Symbol as is-valid-def
-use Rattle.table.proofs.valid.is_valid.Met as is-valid-thm
+use Rattle.calls_propose.proofs.next.stands as stands
+use Rattle.calls_propose.proofs.next.stands.Symbol as stands-def
+use Rattle.calls_propose.proofs.next.stands.Met as stands-thm
 use Rattle.calls_tick.proofs.tick.refuse as refuse
 use Rattle.calls_tick.proofs.tick.refuse.Symbol as refuse-def
 use Rattle.calls_tick.proofs.tick.refuse.Met as refuse-thm
@@ -67,7 +67,7 @@ use Rattle.calls_propose.proofs.outward.propose as propose
 use Rattle.calls_propose.proofs.outward.propose.Statement as stated
 use Rattle.calls_propose.proofs.outward.propose.Code as code
 use Rattle.calls_propose.proofs.outward.propose.Code.Mir as m
-use Rattle.table.proofs.valid.is_valid.Symbol.{name as #is-valid}
+use Rattle.calls_propose.proofs.next.stands.Symbol.{name as #stands}
 use Rattle.calls_tick.proofs.tick.refuse.Symbol.{name as #refuse}
 use Rattle.calls_propose.proofs.propose.propose_valid.Symbol.{name as #inner}
 use Rattle.calls_propose.proofs.outward.propose.Key.{name as #propose}
@@ -106,8 +106,8 @@ answers-no ws s l ys r bad e = rw bad e
 
 module _ {M : Type 1} (𝓤 : URA M) (H : Heap 𝓤) (A : Atoms 𝓤) (mem : Memory → SProp 𝓤) (run : Routine → Fun 𝓤) where
   -- the contracts that the proof cites
-  abbrev IsValid : Contract 𝓤
-  IsValid = tripleOf 𝓤 H A is-valid.signature (is-valid.spec 𝓤 H A mem run)
+  abbrev Stands : Contract 𝓤
+  Stands = tripleOf 𝓤 H A stands.signature (stands.spec 𝓤 H A mem run)
 
   abbrev Inner : Contract 𝓤
   Inner = tripleOf 𝓤 H A inner.signature (inner.spec 𝓤 H A mem run)
@@ -164,20 +164,20 @@ module _ {M : Type 1} (𝓤 : URA M) (H : Heap 𝓤) (A : Atoms 𝓤) (W : Given
         owned ! T.the-row (Is T.the-row) (LL.makes T.the-type T′.the-plain 𝓤 H A) r _ is $ done !
 
     -- what each callee is passed, what it asks, and of its `ensured` the clause alone
-    abbrev to-valid : IsValid 𝓤 H A mem run .Ghost
+    abbrev to-valid : Stands 𝓤 H A mem run .Ghost
     to-valid = (((κ, tt), (p, tt), tt, (x, (s, tt)), (script ∷ [], (mach s ∷ [], tt))), tt)
 
-    goes-valid : ent 𝓤 (⋆ 𝓤 H A (Token ∷ ‵ Own ∷ [])) (sep 𝓤 (IsValid 𝓤 H A mem run .pre to-valid) (sem 𝓤 H A Own))
+    goes-valid : ent 𝓤 (⋆ 𝓤 H A (Token ∷ ‵ Own ∷ [])) (sep 𝓤 (Stands 𝓤 H A mem run .pre to-valid) (sem 𝓤 H A Own))
     goes-valid =
         qed W (Token ∷ ‵ Own ∷ []) ∵ move ! (1 ∷ []) $ use1 W (‵ Own ⊛ ‵ Own) (shr-copy 𝓤 H A W (named 0) κ Words .twice x (script ∷ [])) $ split ! $
         nothing ! $ owned ! S.the-row (Is S.the-row) (LL.makes S.the-type S′.the-plain 𝓤 H A) s _ is₀ $ fjoin ! $ move ! (1 ∷ 0 ∷ []) $ fjoin ! $ move ! (2 ∷ 0 ∷ []) $
-        use2 W (raw (IsValid 𝓤 H A mem run .pre to-valid)) asks $ frame ! $ done !
+        use2 W (raw (Stands 𝓤 H A mem run .pre to-valid)) asks $ frame ! $ done !
       where
-        asks : ent 𝓤 (onEntry 𝓤 H A is-valid.signature (κ, tt) (p, tt) (x, (s, tt)) (script ∷ [], (mach s ∷ [], tt))) (IsValid 𝓤 H A mem run .pre to-valid)
+        asks : ent 𝓤 (onEntry 𝓤 H A stands.signature (κ, tt) (p, tt) (x, (s, tt)) (script ∷ [], (mach s ∷ [], tt))) (Stands 𝓤 H A mem run .pre to-valid)
         asks = qed W (Token ∷ ‵ (owns (ShrRef (named 0) κ Words ∷ S.the-row ∷ []) (x, (s, tt)) (script ∷ [], (mach s ∷ [], tt))) ∷ []) ∵ join ! $ frame ! $ done !
 
-    said-valid : (r : Bool) → ent 𝓤 (ensured 𝓤 H A is-valid.ended (is-valid.clauses 𝓤 H A mem run) (κ, tt) (x, (s, tt)) tt r) (fact 𝓤 (r ≡ valid ws s))
-    said-valid r = exE 𝓤 _ (λ es. snd∗ 𝓤 (sem 𝓤 H A (lasts is-valid.ended (κ, tt) (x, (s, tt)) es)) (fact 𝓤 (r ≡ valid ws s)))
+    said-valid : (r : Bool) → ent 𝓤 (ensured 𝓤 H A stands.ended (stands.clauses 𝓤 H A mem run) (κ, tt) (x, (s, tt)) tt r) (fact 𝓤 (r ≡ valid ws s))
+    said-valid r = exE 𝓤 _ (λ es. snd∗ 𝓤 (sem 𝓤 H A (lasts stands.ended (κ, tt) (x, (s, tt)) es)) (fact 𝓤 (r ≡ valid ws s)))
 
     abbrev to-inner : Inner 𝓤 H A mem run .Ghost
     to-inner = (((κ, (κ′, tt)), (p, (q, tt)), tt, (x, (s, (l, (ref, tt)))), args), tt)
@@ -200,7 +200,7 @@ module _ {M : Type 1} (𝓤 : URA M) (H : Heap 𝓤) (A : Atoms 𝓤) (W : Given
     said-refuse r = exE 𝓤 _ (λ es. snd∗ 𝓤 (sem 𝓤 H A (lasts refuse.ended tt (17, (s, tt)) es)) (fact 𝓤 (r ≡ refusal 17 s)))
 
     module _ (𝓣 : Tables 𝓤 H) (g : Room R.the-row n)
-        (known-valid : Triple 𝓤 (𝓣 .C #is-valid) (IsValid 𝓤 H A mem run)) (known-inner : Triple 𝓤 (𝓣 .C #inner) (Inner 𝓤 H A mem run)) (known-refuse : Triple 𝓤 (𝓣 .C #refuse) (Refuse 𝓤 H A mem run)) where
+        (known-valid : Triple 𝓤 (𝓣 .C #stands) (Stands 𝓤 H A mem run)) (known-inner : Triple 𝓤 (𝓣 .C #inner) (Inner 𝓤 H A mem run)) (known-refuse : Triple 𝓤 (𝓣 .C #refuse) (Refuse 𝓤 H A mem run)) where
       abbrev C : Calls 𝓤 H
       C = 𝓣 .C
 
@@ -280,10 +280,10 @@ module _ {M : Type 1} (𝓤 : URA M) (H : Heap 𝓤) (A : Atoms 𝓤) (W : Given
           move ! (13 ∷ []) $ fsplit ! $ move ! (1 ∷ []) $ fsplit ! $ drop ! $ fsplit ! $ drop ! $ fsplit ! $ move ! (1 ∷ []) $ drop ! $
           move ! (14 ∷ []) $ split ! $ move ! (1 ∷ []) $ split ! $ move ! (2 ∷ 1 ∷ []) $ join ! $ move ! (0 ∷ 3 ∷ []) $
           -- [w's token and part; the slice's token; the slice; _5; …; _0; …]
-          use2 W (raw (IsValid 𝓤 H A mem run .pre to-valid) ⊛ ‵ Own) goes-valid $ split ! $
-          calls-at ! (fmOf 𝓤 H (W .laws) 𝓣) (IsValid 𝓤 H A mem run) known-valid to-valid
+          use2 W (raw (Stands 𝓤 H A mem run .pre to-valid) ⊛ ‵ Own) goes-valid $ split ! $
+          calls-at ! (fmOf 𝓤 H (W .laws) 𝓣) (Stands 𝓤 H A mem run) known-valid to-valid
           (and-then ! (load ! (from ! (stop !)) (look ! 12 refl)) (and-then ! (load ! (from ! (stop !)) (look ! 10 refl)) (no-more !))) (λ z.
-          use1 W (later (some (λ (r : Bool). (Token ⊛ ‵ (bool .own r (z ∷ []))) ⊛ raw (ensured 𝓤 H A is-valid.ended (is-valid.clauses 𝓤 H A mem run) (κ, tt) (x, (s, tt)) tt r)))) (id⊢ 𝓤 _) $ await ! tt $ pick ! (λ r.
+          use1 W (later (some (λ (r : Bool). (Token ⊛ ‵ (bool .own r (z ∷ []))) ⊛ raw (ensured 𝓤 H A stands.ended (stands.clauses 𝓤 H A mem run) (κ, tt) (x, (s, tt)) tt r)))) (id⊢ 𝓤 _) $ await ! tt $ pick ! (λ r.
           split ! $ move ! (1 ∷ []) $ use1 W (raw (fact 𝓤 (r ≡ valid ws s))) (said-valid r) $ heard ! (r ≡ valid ws s) (λ e. split ! $ move ! (1 ∷ []) $
           peeks ! bool (Is bool) (shows 𝓤 H A bool) r (z ∷ []) (λ isb. drop ! $
           land ! (from ! (stop !)) (init ! 4 refl (bool-lawful 𝓤 H A W .typed r _ isb .0)) $
@@ -296,7 +296,7 @@ module _ {M : Type 1} (𝓤 : URA M) (H : Heap 𝓤) (A : Atoms 𝓤) (W : Given
           typed = LL.lawful S.the-type S′.the-laws 𝓤 H A W .typed s _ is₀ .0
 
 module _ {M : Type 1} (𝓤 : URA M) (H : Heap 𝓤) (A : Atoms 𝓤) (W : Given 𝓤 H A) (mem : Memory → SProp 𝓤) (run : Routine → Fun 𝓤) (𝓣 : Tables 𝓤 H)
-    (known-valid : Triple 𝓤 (𝓣 .C #is-valid) (IsValid 𝓤 H A mem run)) (known-inner : Triple 𝓤 (𝓣 .C #inner) (Inner 𝓤 H A mem run)) (known-refuse : Triple 𝓤 (𝓣 .C #refuse) (Refuse 𝓤 H A mem run)) where
+    (known-valid : Triple 𝓤 (𝓣 .C #stands) (Stands 𝓤 H A mem run)) (known-inner : Triple 𝓤 (𝓣 .C #inner) (Inner 𝓤 H A mem run)) (known-refuse : Triple 𝓤 (𝓣 .C #refuse) (Refuse 𝓤 H A mem run)) where
   walks : Walks 𝓤 H A propose.ended stayed (WpFn 𝓤 H (𝓣 .C) (𝓣 .Λ) code.function) (propose.clauses 𝓤 H A mem run)
   walks = walked 𝓤 H A propose.ended stayed (propose.clauses 𝓤 H A mem run) (WpFn 𝓤 H (𝓣 .C) (𝓣 .Λ) code.function)
       (λ κs. (ptr-vals, (LL.vals S.the-type S′.the-laws, (uint-vals w32, (slice-vals, tt)))))
@@ -315,6 +315,6 @@ propose-spec 𝓤 H 𝓜 𝓖 𝓡 =
     entered 𝓤 H (tripleOf 𝓤 H (𝓖 .A) propose.signature (propose.spec 𝓤 H (𝓖 .A) (𝓜 .mem) (𝓡 .run)))
     (tables 𝓤 H 𝓜 𝓡 code.env .C) (tables 𝓤 H 𝓜 𝓡 code.env .Λ) #propose code.function (code.unfolded 𝓤 H 𝓜 𝓡)
     (meets 𝓤 H (𝓖 .A) (givenOf 𝓤 H 𝓜 𝓖) (𝓜 .mem) (𝓡 .run) (tablesOf 𝓤 H 𝓜 (tables 𝓤 H 𝓜 𝓡 code.env))
-    (cited 𝓤 H (IsValid 𝓤 H (𝓖 .A) (𝓜 .mem) (𝓡 .run)) 𝓜 𝓡 code.env #is-valid is-valid-def.routine code.calls-table·valid·is-valid (is-valid-thm.met 𝓤 H 𝓜 𝓖 𝓡))
+    (cited 𝓤 H (Stands 𝓤 H (𝓖 .A) (𝓜 .mem) (𝓡 .run)) 𝓜 𝓡 code.env #stands stands-def.routine code.calls-calls-propose·next·stands (stands-thm.met 𝓤 H 𝓜 𝓖 𝓡))
     (cited 𝓤 H (Inner 𝓤 H (𝓖 .A) (𝓜 .mem) (𝓡 .run)) 𝓜 𝓡 code.env #inner inner-def.routine code.calls-calls-propose·propose·propose-valid (inner-thm.met 𝓤 H 𝓜 𝓖 𝓡))
     (cited 𝓤 H (Refuse 𝓤 H (𝓖 .A) (𝓜 .mem) (𝓡 .run)) 𝓜 𝓡 code.env #refuse refuse-def.routine code.calls-calls-tick·tick·refuse (refuse-thm.met 𝓤 H 𝓜 𝓖 𝓡)))

@@ -5,12 +5,10 @@ use native.Mathlib.Omega.{arith}
 use mathlib.Core.Bool.{Bool, true, false, not, false≢true}
 use mathlib.Core.Logic.{⊎-elim}
 use mathlib.Core.Path.{_≡_, refl, ap, sym, _∙_}
-use lib.ListN.{length}
 use borrow.Author.Count.{below-more}
-use Rattle.table.proofs.ValidWhole.{mapped}
+use Rattle.table.specs.declared.State.{State}
 use Rattle.table.proofs.InUse.{valid-script, valid-state, comp-held}
 use Rattle.calls_same.proofs.Matched.{net-length, uneven, Unequal, Left, begun, step, stuck, ended}
-use borrow.Author.Needs.{needs}
 use Rattle.calls_same.proofs.network.same_comps.Statement.{statement}
 use Rattle.calls_same.proofs.network.same_comps.Tie as tie
 
@@ -25,122 +23,109 @@ taken : {b : Bool} → b ≡ false → not b ≡ false → ⊥
 taken e n = false≢true (sym n ∙ ap not e)
 
 abbrev Inv-loop : tie.InvT-loop
-Inv-loop w v a b n used₀ k₀ c p₀ used k p = (used ≡ used₀) × (k ≡ k₀) × (p ≤ n) × Unequal w c v b used p
+Inv-loop w a n v b m used₀ k₀ c p₀ used k p = (used ≡ used₀) × (k ≡ k₀) × (p ≤ n) × Unequal w c v (record { c = b; n = m }) used p
 
 abbrev μ-loop : tie.MeasureT-loop
-μ-loop w v a b n used₀ k₀ c p₀ used k p = n - p
+μ-loop w a n v b m used₀ k₀ c p₀ used k p = n - p
 
 abbrev Inv-each : tie.InvT-each
-Inv-each w v a b n used₀ k₀ used k = (k ≤ n) × (n ≡ b .n) × (length (a .c) ≡ 256) × (length (b .c) ≡ 256) × Left w v a b used k
+Inv-each w a n v b m used₀ k₀ used k = (k ≤ n) × (n ≡ m) × Left w v (record { c = a; n = n }) (record { c = b; n = m }) used k
 
 abbrev μ-each : tie.MeasureT-each
-μ-each w v a b n used₀ k₀ used k = n - k
+μ-each w a n v b m used₀ k₀ used k = n - k
+
+-- ── what is known from the start on ──
+module _ (s : tie.Start Inv-loop μ-loop Inv-each μ-each) where
+  -- the two networks
+  abbrev one : State
+  one = record { c = s .args .a .now; n = s .args .n }
+
+  abbrev two : State
+  two = record { c = s .args .b .now; n = s .args .m }
+
+  few : s .args .n ≤ 256
+  few = valid-state (s .args .w .now) one (s .pre .0) .few
+
+  few-other : s .args .m ≤ 256
+  few-other = valid-state (s .args .v .now) two (s .pre .1) .few
 
 returns : tie.Need-returns Inv-loop μ-loop Inv-each μ-each
 returns c =
     let k = c .before .args in
-    let pa : length (k .t2 .c) ≡ 256 = search (needs, mapped) in
-    let pb : length (k .t4 .c) ≡ 256 = search (needs, mapped) in
-    let la = net-length (k .w .now) (k .t2) (omega (arith, pa, valid-state (k .w .now) (k .t2) (c .before .pre .0) .few)) in
-    let lb = net-length (k .v .now) (k .t4) (omega (arith, pb, valid-state (k .v .now) (k .t4) (c .before .pre .1) .few)) in
-    uneven _ _ (λ e. c .if1 .taken (sym la ∙ e ∙ lb))
+    uneven _ _ (λ e. c .if1 .taken (sym (net-length (k .w .now) (one (c .before))) ∙ e ∙ net-length (k .v .now) (two (c .before))))
 
 each-holds : tie.Need-each-holds Inv-loop μ-loop Inv-each μ-each
 each-holds c =
     let k = c .before .args in
-    let pa : length (k .t2 .c) ≡ 256 = search (needs, mapped) in
-    let pb : length (k .t4 .c) ≡ 256 = search (needs, mapped) in
-    (omega arith, c .if1 .left, pa, pb, begun (k .w .now) (k .v .now) (k .t2) (k .t4) (omega (arith, pa, valid-state (k .w .now) (k .t2) (c .before .pre .0) .few)) (omega (arith, pb, valid-state (k .v .now) (k .t4) (c .before .pre .1) .few)) (c .if1 .left) (valid-state (k .v .now) (k .t4) (c .before .pre .1) .few))
+    (omega arith, c .if1 .left, begun (k .w .now) (k .v .now) (one (c .before)) (two (c .before)) (c .if1 .left) (few-other (c .before)))
 
-mul-c : tie.Need-mul-c Inv-loop μ-loop Inv-each μ-each
-mul-c c =
-    let k = c .before .before .before .args in
-    omega (arith, c .each-test .taken, valid-state (k .w .now) (k .t2) (c .before .before .before .pre .0) .few)
-
-element-copy-out-c : tie.Need-element-copy-out-c Inv-loop μ-loop Inv-each μ-each
-element-copy-out-c c =
-    let k = c .before .before .before .args in
-    omega (arith, c .each-test .taken, valid-state (k .w .now) (k .t2) (c .before .before .before .pre .0) .few)
+comp-at-requires : tie.Need-comp-at-requires Inv-loop μ-loop Inv-each μ-each
+comp-at-requires c κs = omega (arith, c .each-test .taken, few (c .before .before .before))
 
 loop-holds : tie.Need-loop-holds Inv-loop μ-loop Inv-each μ-each
 loop-holds c = (refl, refl, omega arith, λ m h. absurd (omega arith))
 
 array-read-if2 : tie.Need-array-read-if2 Inv-loop μ-loop Inv-each μ-each
-array-read-if2 c =
-    let k = c .before .before .before .before .before .before .args in
-    omega (arith, c .loop-test .taken, valid-state (k .w .now) (k .t2) (c .before .before .before .before .before .before .pre .0) .few)
+array-read-if2 c = omega (arith, c .loop-test .taken, few (c .before .before .before .before .before .before))
 
-mul-d : tie.Need-mul-d Inv-loop μ-loop Inv-each μ-each
-mul-d c =
-    let k = c .before .before .before .before .before .before .before .args in
-    omega (arith, c .before .loop-test .taken, valid-state (k .w .now) (k .t2) (c .before .before .before .before .before .before .before .pre .0) .few)
-
-element-copy-out-d : tie.Need-element-copy-out-d Inv-loop μ-loop Inv-each μ-each
-element-copy-out-d c =
-    let k = c .before .before .before .before .before .before .before .args in
-    omega (arith, c .before .loop-test .taken, valid-state (k .w .now) (k .t2) (c .before .before .before .before .before .before .before .pre .0) .few)
+comp-at-requires-2 : tie.Need-comp-at-requires-2 Inv-loop μ-loop Inv-each μ-each
+comp-at-requires-2 c κs = omega (arith, c .before .loop-test .taken, few (c .before .before .before .before .before .before .before))
 
 same-comp-requires : tie.Need-same-comp-requires Inv-loop μ-loop Inv-each μ-each
 same-comp-requires c κs =
-    let k = c .before .before .before .before .before .before .before .before .args in
-    let ha : k .t2 .n ≤ length (k .t2 .c) = omega (arith, c .before .before .before .before .before .before .each .inv .2, valid-state (k .w .now) (k .t2) (c .before .before .before .before .before .before .before .before .pre .0) .few) in
-    let hb : k .t4 .n ≤ length (k .t4 .c) = omega (arith, c .before .before .before .before .before .before .each .inv .3, valid-state (k .v .now) (k .t4) (c .before .before .before .before .before .before .before .before .pre .1) .few) in (
-      valid-script (k .w .now) (k .t2) (c .before .before .before .before .before .before .before .before .pre .0),
-      comp-held (k .w .now) (k .t2) ha (c .before .before .before .before .before .before .before .before .pre .0) (c .before .before .before .before .before .before .each .k) (c .before .before .before .before .before .each-test .taken),
-      valid-script (k .v .now) (k .t4) (c .before .before .before .before .before .before .before .before .pre .1),
-      comp-held (k .v .now) (k .t4) hb (c .before .before .before .before .before .before .before .before .pre .1) (c .before .before .before .loop .p) (omega (arith, c .before .before .loop-test .taken, c .before .before .before .before .before .before .each .inv .1)),
+    let s = c .before .before .before .before .before .before .before .before in
+    let k = s .args in (
+      valid-script (k .w .now) (one s) (s .pre .0),
+      rw (c .before .before .before .before .comp-at .ensures) (comp-held (k .w .now) (one s) (s .pre .0) (c .before .before .before .before .before .before .each .k) (c .before .before .before .before .before .each-test .taken)),
+      valid-script (k .v .now) (two s) (s .pre .1),
+      rw (c .comp-at2 .ensures) (comp-held (k .v .now) (two s) (s .pre .1) (c .before .before .before .loop .p) (omega (arith, c .before .before .loop-test .taken, c .before .before .before .before .before .before .each .inv .1))),
     )
 
 array-write-used : tie.Need-array-write-used Inv-loop μ-loop Inv-each μ-each
-array-write-used c =
-    let k = c .before .before .before .before .before .before .before .before .before .before .args in
-    omega (arith, c .before .before .before .before .loop-test .taken, valid-state (k .w .now) (k .t2) (c .before .before .before .before .before .before .before .before .before .before .pre .0) .few)
+array-write-used c = omega (arith, c .before .before .before .before .loop-test .taken, few (c .before .before .before .before .before .before .before .before .before .before))
 
 add-k : tie.Need-add-k Inv-loop μ-loop Inv-each μ-each
-add-k c =
-    let k = c .before .before .before .before .before .before .before .before .before .before .args in
-    omega (arith, c .before .before .before .before .before .before .before .each-test .taken, c .before .before .before .before .before .loop .inv .1, valid-state (k .w .now) (k .t2) (c .before .before .before .before .before .before .before .before .before .before .pre .0) .few)
+add-k c = omega (arith, c .before .before .before .before .before .before .before .each-test .taken, c .before .before .before .before .before .loop .inv .1, few (c .before .before .before .before .before .before .before .before .before .before))
 
 each-less : tie.Need-each-less Inv-loop μ-loop Inv-each μ-each
 each-less c = omega (arith, c .before .before .before .before .before .before .before .each-test .taken, c .before .before .before .before .before .loop .inv .1)
 
 each-again : tie.Need-each-again Inv-loop μ-loop Inv-each μ-each
 each-again c =
-    let k = c .before .before .before .before .before .before .before .before .before .before .args in
-    let ha : k .t2 .n ≤ length (k .t2 .c) = omega (arith, c .before .before .before .before .before .before .before .before .each .inv .2, valid-state (k .w .now) (k .t2) (c .before .before .before .before .before .before .before .before .before .before .pre .0) .few) in
-    let hb : k .t4 .n ≤ length (k .t4 .c) = omega (arith, c .before .before .before .before .before .before .before .before .each .inv .3, valid-state (k .v .now) (k .t4) (c .before .before .before .before .before .before .before .before .before .before .pre .1) .few) in
-    let left : Left (k .w .now) (k .v .now) (k .t2) (k .t4) (c .before .before .before .before .before .loop .used) (c .before .before .before .before .before .loop .k) = rw (c .before .before .before .before .before .loop .inv .0, c .before .before .before .before .before .loop .inv .1) (c .before .before .before .before .before .before .before .before .each .inv .4) in
-    let found = sym (c .before .same-comp .ensures) ∙ c .if3 .taken in
-    (omega (arith, c .before .before .before .before .before .before .before .each-test .taken, c .before .before .before .before .before .loop .inv .1), c .before .before .before .before .before .before .before .before .each .inv .1, c .before .before .before .before .before .before .before .before .each .inv .2, c .before .before .before .before .before .before .before .before .each .inv .3, step (k .w .now) (k .v .now) (k .t2) (k .t4) ha hb (c .before .before .before .before .before .before .before .before .each .inv .1) (valid-state (k .v .now) (k .t4) (c .before .before .before .before .before .before .before .before .before .before .pre .1) .few) (c .before .before .before .before .before .loop .used) (c .before .before .before .before .before .loop .k) left (c .before .before .before .before .before .loop .p) (omega (arith, c .before .before .before .before .before .before .before .each-test .taken, c .before .before .before .before .before .loop .inv .1)) (c .before .before .before .before .loop-test .taken) (free (c .before .before .before .if2 .taken)) (rw (c .before .before .before .before .before .loop .inv .1) found) (rw (c .before .before .before .before .before .loop .inv .1) (c .before .before .before .before .before .loop .inv .3)))
+    let s = c .before .before .before .before .before .before .before .before .before .before in
+    let k = s .args in
+    let e = c .before .before .before .before .before .before .before .before .each in
+    let l = c .before .before .before .before .before .loop in
+    let left : Left (k .w .now) (k .v .now) (one s) (two s) (l .used) (l .k) = rw (l .inv .0, l .inv .1) (e .inv .2) in
+    let found = rw (c .before .before .before .before .before .before .comp-at .ensures, c .before .before .comp-at2 .ensures) at (sym (c .before .same-comp .ensures) ∙ c .if3 .taken) in
+    (omega (arith, c .before .before .before .before .before .before .before .each-test .taken, l .inv .1), e .inv .1, step (k .w .now) (k .v .now) (one s) (two s) (e .inv .1) (few-other s) (l .used) (l .k) left (l .p) (omega (arith, c .before .before .before .before .before .before .before .each-test .taken, l .inv .1)) (c .before .before .before .before .loop-test .taken) (free (c .before .before .before .if2 .taken)) (rw (l .inv .1) found) (rw (l .inv .1, ← c .before .before .before .before .before .before .comp-at .ensures) (l .inv .3)))
 
 add-p : tie.Need-add-p Inv-loop μ-loop Inv-each μ-each
-add-p c =
-    let k = c .before .before .before .before .before .before .before .args in
-    omega (arith, c .before .loop-test .taken, valid-state (k .w .now) (k .t2) (c .before .before .before .before .before .before .before .pre .0) .few)
+add-p c = omega (arith, c .before .loop-test .taken, few (c .before .before .before .before .before .before .before))
 
 loop-less : tie.Need-loop-less Inv-loop μ-loop Inv-each μ-each
 loop-less c = omega (arith, c .before .loop-test .taken)
 
 loop-again : tie.Need-loop-again Inv-loop μ-loop Inv-each μ-each
 loop-again c =
-    let k = c .before .before .before .before .before .before .before .args in
     let l = c .before .before .loop in
-    (l .inv .0, l .inv .1, omega (arith, c .before .loop-test .taken), below-more _ (l .p) (l .inv .3) (⊎-elim (λ z. λ e. sym (z .2 .ensures) ∙ z .3 .left) (λ z. λ e. absurd (taken e (z .left))) (c .if2 .came)))
+    (l .inv .0, l .inv .1, omega (arith, c .before .loop-test .taken), below-more _ (l .p) (l .inv .3) (⊎-elim (λ z. λ e. rw (z .1 .ensures) at (sym (z .2 .ensures) ∙ z .3 .left)) (λ z. λ e. absurd (taken e (z .left))) (c .if2 .came)))
 
 returns-2 : tie.Need-returns-2 Inv-loop μ-loop Inv-each μ-each
 returns-2 c =
-    let k = c .before .before .before .before .before .before .args in
-    let ha : k .t2 .n ≤ length (k .t2 .c) = omega (arith, c .before .before .before .before .each .inv .2, valid-state (k .w .now) (k .t2) (c .before .before .before .before .before .before .pre .0) .few) in
-    let hb : k .t4 .n ≤ length (k .t4 .c) = omega (arith, c .before .before .before .before .each .inv .3, valid-state (k .v .now) (k .t4) (c .before .before .before .before .before .before .pre .1) .few) in
-    let left : Left (k .w .now) (k .v .now) (k .t2) (k .t4) (c .before .loop .used) (c .before .loop .k) = rw (c .before .loop .inv .0, c .before .loop .inv .1) (c .before .before .before .before .each .inv .4) in
-    stuck (k .w .now) (k .v .now) (k .t2) (k .t4) ha hb (c .before .before .before .before .each .inv .1) (valid-state (k .v .now) (k .t4) (c .before .before .before .before .before .before .pre .1) .few) (c .before .loop .used) (c .before .loop .k) left (omega (arith, c .before .before .before .each-test .taken, c .before .loop .inv .1)) (rw (c .before .loop .inv .1) (λ m h e. c .before .loop .inv .3 m (omega (arith, h, c .loop-test .left)) e))
+    let s = c .before .before .before .before .before .before in
+    let k = s .args in
+    let e = c .before .before .before .before .each in
+    let l = c .before .loop in
+    let left : Left (k .w .now) (k .v .now) (one s) (two s) (l .used) (l .k) = rw (l .inv .0, l .inv .1) (e .inv .2) in
+    stuck (k .w .now) (k .v .now) (one s) (two s) (e .inv .1) (few-other s) (l .used) (l .k) left (omega (arith, c .before .before .before .each-test .taken, l .inv .1)) (rw (l .inv .1, ← c .before .before .comp-at .ensures) (λ m h e. l .inv .3 m (omega (arith, h, c .loop-test .left)) e))
 
 returns-3 : tie.Need-returns-3 Inv-loop μ-loop Inv-each μ-each
 returns-3 c =
-    let k = c .before .before .before .args in
-    let ha : k .t2 .n ≤ length (k .t2 .c) = omega (arith, c .before .each .inv .2, valid-state (k .w .now) (k .t2) (c .before .before .before .pre .0) .few) in
-    let hb : k .t4 .n ≤ length (k .t4 .c) = omega (arith, c .before .each .inv .3, valid-state (k .v .now) (k .t4) (c .before .before .before .pre .1) .few) in
-    ended (k .w .now) (k .v .now) (k .t2) (k .t4) ha hb (c .before .each .inv .1) (valid-state (k .v .now) (k .t4) (c .before .before .before .pre .1) .few) (c .before .each .used) (c .before .each .k) (c .before .each .inv .4) (c .each-test .left)
+    let s = c .before .before .before in
+    let k = s .args in
+    let e = c .before .each in
+    ended (k .w .now) (k .v .now) (one s) (two s) (e .inv .1) (few-other s) (e .used) (e .k) (e .inv .2) (c .each-test .left)
 
 pub same-comps-spec : {M : Type 1} → statement M
 same-comps-spec =
@@ -152,12 +137,10 @@ same-comps-spec =
     μ-each
     returns
     each-holds
-    mul-c
-    element-copy-out-c
+    comp-at-requires
     loop-holds
     array-read-if2
-    mul-d
-    element-copy-out-d
+    comp-at-requires-2
     same-comp-requires
     array-write-used
     add-k

@@ -23,43 +23,40 @@ returns c =
     rw (step-out (a .w .now) (a .st) (a .l) (length (a .records .now)) (omega (arith, c .before .before .word .ensures))) (c .refuse .ensures, refl)
 
 sweep-requires : tie.Need-sweep-requires
-sweep-requires c κs = (search needs, refl)
+sweep-requires c κs = (search needs, search needs, search needs)
 
 refuse-requires-2 : tie.Need-refuse-requires-2
 refuse-requires-2 c κs = search needs
 
 returns-2 : tie.Need-returns-2
 returns-2 c =
-    let a = c .before .before .before .before .before .before .args in
-    let v = c .before .before .before .before .before .before .pre in
-    let h : a .l < locsIn (a .w .now) = omega (arith, c .before .before .before .before .before .word .ensures) in
-    let l = c .before .before .sweep .ensures .slots in
-    rw (step-small (a .w .now) (a .st) (a .l) v l _ (c .before .before .sweep .result) (c .before .before .sweep .ensures) h (length (a .records .now)) (c .before .if2 .taken)) (c .refuse2 .ensures, refl)
+    let a = c .before .before .before .before .before .before .before .args in
+    let v = c .before .before .before .before .before .before .before .pre in
+    let h : a .l < locsIn (a .w .now) = omega (arith, c .before .before .before .before .before .before .word .ensures) in
+    rw (step-small (a .w .now) (a .st) (a .l) v _ _ _ (c .before .before .sweep .ensures) h (length (a .records .now)) (c .before .if2 .taken)) (c .refuse2 .ensures, refl)
 
 pass-all-requires : tie.Need-pass-all-requires
 pass-all-requires c κs =
-    let a = c .before .before .before .before .before .before .args in
-    let v = c .before .before .before .before .before .before .pre in
-    let h : a .l < locsIn (a .w .now) = omega (arith, c .before .before .before .before .before .word .ensures) in
-    let l = c .before .before .sweep .ensures .slots in
-    swept-good (a .w .now) (a .st) (a .l) v l _ (c .before .before .sweep .result) (c .before .before .sweep .ensures) h
+    let a = c .before .before .before .before .before .before .before .before .before .args in
+    let v = c .before .before .before .before .before .before .before .before .before .pre in
+    let h : a .l < locsIn (a .w .now) = omega (arith, c .before .before .before .before .before .before .before .before .word .ensures) in
+    (swept-good (a .w .now) (a .st) (a .l) v _ _ _ (c .before .before .before .before .sweep .ensures) h, c .before .before .before .before .sweep .ensures .slotted)
 
 refuse-requires-3 : tie.Need-refuse-requires-3
 refuse-requires-3 c κs = search needs
 
 returns-3 : tie.Need-returns-3
 returns-3 c =
-    let a = c .before .before .before .before .before .before .before .before .before .args in
-    let v = c .before .before .before .before .before .before .before .before .before .pre in
-    let h : a .l < locsIn (a .w .now) = omega (arith, c .before .before .before .before .before .before .before .before .word .ensures) in
-    let l = c .before .before .before .before .before .sweep .ensures .slots in
-    rw (step-full (a .w .now) (a .st) (a .l) v l _ (c .before .before .before .before .before .sweep .result) (c .before .before .before .before .before .sweep .ensures) h (length (a .records .now)) (omega arith) (c .before .before .pass-all .ensures .0 (c .before .if3 .taken))) (c .refuse3 .ensures, refl)
+    let a = c .before .before .before .before .before .before .before .before .before .before .before .before .args in
+    let v = c .before .before .before .before .before .before .before .before .before .before .before .before .pre in
+    let h : a .l < locsIn (a .w .now) = omega (arith, c .before .before .before .before .before .before .before .before .before .before .before .word .ensures) in
+    rw (step-full (a .w .now) (a .st) (a .l) v _ _ _ (c .before .before .before .before .before .before .before .sweep .ensures) h (length (a .records .now)) (omega arith) (c .before .before .pass-all .ensures .0 (c .before .if3 .taken))) (c .refuse3 .ensures, refl)
 
 put-records-requires : tie.Need-put-records-requires
 put-records-requires c κs =
-    let a = c .before .before .before .before .before .before .before .before .before .before .args in
-    let v = c .before .before .before .before .before .before .before .before .before .before .pre in
-    let s = c .before .before .before .before .before .before .sweep .ensures in
+    let a = c .before .before .before .before .before .before .before .before .before .before .before .before .before .args in
+    let v = c .before .before .before .before .before .before .before .before .before .before .before .before .before .pre in
+    let s = c .before .before .before .before .before .before .before .before .sweep .ensures in
     (s .room, omega (arith, s .few, few-comps (a .w .now) (a .st) v), omega arith)
 
 same-length : tie.Need-same-length
@@ -67,13 +64,11 @@ same-length c = search needs
 
 returns-4 : tie.Need-returns-4
 returns-4 c =
-    let a = c .before .before .before .before .before .before .before .before .before .before .before .before .before .args in
-    let v = c .before .before .before .before .before .before .before .before .before .before .before .before .before .pre in
-    let h : a .l < locsIn (a .w .now) = omega (arith, c .before .before .before .before .before .before .before .before .before .before .before .before .word .ensures) in
-    let l = c .before .before .before .before .before .before .before .before .before .sweep .ensures .slots in
-    let p = c .before .before .before .before .before .before .pass-all .ensures .1 (c .before .before .before .before .before .if3 .left) in
-    let z = c .before .before .before .before .before .before .before .before .before .sweep .ensures .slotted in
-    rw (step-done (a .w .now) (a .st) (a .l) v l _ (c .before .before .before .before .before .before .before .before .before .sweep .result) (c .before .before .before .before .before .before .before .before .before .sweep .ensures) h (length (a .records .now)) (omega arith) (p .2)) (step-took (a .w .now) (a .st) (a .l) v l _ (c .before .before .before .before .before .before .before .before .before .sweep .result) (c .before .before .before .before .before .before .before .before .before .sweep .ensures) h (c .before .before .before .before .before .before .pass-all .result .state) _ _ z (p .0) (p .1) (p .2) (c .before .before .put-records .ensures))
+    let a = c .before .before .before .before .before .before .before .before .before .before .before .before .before .before .before .args in
+    let v = c .before .before .before .before .before .before .before .before .before .before .before .before .before .before .before .pre in
+    let h : a .l < locsIn (a .w .now) = omega (arith, c .before .before .before .before .before .before .before .before .before .before .before .before .before .before .word .ensures) in
+    let p = c .before .before .before .before .before .pass-all .ensures .1 (omega arith) in
+    rw (step-done (a .w .now) (a .st) (a .l) v _ _ _ (c .before .before .before .before .before .before .before .before .before .before .sweep .ensures) h (length (a .records .now)) (omega arith) (omega (arith, p .1))) (step-took (a .w .now) (a .st) (a .l) v _ _ _ (c .before .before .before .before .before .before .before .before .before .before .sweep .ensures) h _ _ _ (p .0) (p .1) (omega (arith, p .1)) (c .before .put-records .ensures))
 
 pub step-valid-spec : {M : Type 1} → statement M
 step-valid-spec =

@@ -4,35 +4,35 @@ use native.Mathlib.Omega.{arith}
 use mathlib.Core.Logic.{⊎-elim}
 use mathlib.Core.Path.{_≡_, refl, sym, ap, subst, _∙_}
 use lib.ListN.{length, set, take, length-set}
+use lib.Seq.{take-all}
 use borrow.Author.Needs.{needs}
+use Rattle.table.specs.declared.State.{State}
 use Rattle.table.specs.Meaning.{compsOf, noComp}
-use Rattle.table.proofs.ValidWhole.{mapped}
+use Rattle.table.proofs.InUse.{comps-length, in-use}
 use Rattle.calls_act.proofs.Positions.{few-comps, valid-parts, comp-good}
-use Rattle.calls_tick.specs.Heard.{Heard}
+use Rattle.calls_tick.specs.Heard.{hearsAt, Heard}
 use Rattle.calls_tick.proofs.Hearing.{heard-none, heard-more, heard-past}
 use Rattle.calls_tick.proofs.forced.heard_at.Statement.{statement}
 use Rattle.calls_tick.proofs.forced.heard_at.Tie as tie
 
 abbrev Inv-loop : tie.InvT-loop
-Inv-loop w l st n out₀ j₀ out j = (j ≤ n) × (length out ≡ 64) × Heard w l (take j (st .c)) out
+Inv-loop w c n l out₀ j₀ out j = (j ≤ n) × (length out ≡ 64) × Heard w l (take j (compsOf (record { c = c; n = n }))) out
 
 abbrev μ-loop : tie.MeasureT-loop
-μ-loop w l st n out₀ j₀ out j = n - j
+μ-loop w c n l out₀ j₀ out j = n - j
 
 loop-holds : tie.Need-loop-holds Inv-loop μ-loop
 loop-holds c = (omega arith, refl, heard-none (c .args .w .now) (c .args .l))
 
-mul-c : tie.Need-mul-c Inv-loop μ-loop
-mul-c c = omega (arith, few-comps (c .before .before .args .w .now) (c .before .before .args .t2) (c .before .before .pre))
-
-element-copy-out-c : tie.Need-element-copy-out-c Inv-loop μ-loop
-element-copy-out-c c = omega (arith, few-comps (c .before .before .args .w .now) (c .before .before .args .t2) (c .before .before .pre))
+comp-at-requires : tie.Need-comp-at-requires Inv-loop μ-loop
+comp-at-requires c κs = let a = c .before .before .args in omega (arith, few-comps (a .w .now) (record { c = a .c .now; n = a .n }) (c .before .before .pre))
 
 hears-at-requires : tie.Need-hears-at-requires Inv-loop μ-loop
 hears-at-requires c κs =
     let a = c .before .before .before .args in
-    let l : length (a .t2 .c) ≡ 256 = search (needs, mapped) in
-    (valid-parts (a .w .now) (a .t2) (c .before .before .before .pre) .0, comp-good (a .w .now) (a .t2) (c .before .before .before .pre) l (c .before .before .loop .j) (c .before .loop-test .taken))
+    let v = c .before .before .before .pre in
+    let st : State = record { c = a .c .now; n = a .n } in
+    (valid-parts (a .w .now) st v .0, rw (c .comp-at .ensures) (comp-good (a .w .now) st v (c .before .before .loop .j) (c .before .loop-test .taken)))
 
 wide-requires : tie.Need-wide-requires Inv-loop μ-loop
 wide-requires c κs = search needs
@@ -52,24 +52,24 @@ loop-less c = omega arith
 loop-again : tie.Need-loop-again Inv-loop μ-loop
 loop-again c =
     let a = c .before .before .before .before .before .before .args in
-    let v = c .before .before .before .before .before .before .pre in
     let i = c .before .before .before .before .before .loop .inv in
     let j = c .before .before .before .before .before .loop .j in
     let ys = c .before .before .before .before .before .loop .out in
-    let l : length (a .t2 .c) ≡ 256 = search (needs, mapped) in
-    let b : j < length (a .t2 .c) = omega (arith, few-comps (a .w .now) (a .t2) v, l) in
-    let k = c .before .wide .ensures ∙ c .before .before .hears-at .ensures in
+    let st : State = record { c = a .c .now; n = a .n } in
+    let h : j < a .n = c .before .before .before .before .loop-test .taken in
+    let b : j < length (compsOf st) = omega (arith, comps-length st) in
+    let k = c .before .wide .ensures ∙ c .before .before .hears-at .ensures ∙ ap (hearsAt (a .w .now) (a .l)) (c .before .before .before .comp-at .ensures ∙ sym (in-use st noComp j h)) in
     ⊎-elim
-    (λ t. (omega arith, ap length (t .1) ∙ length-set ys (c .before .wide .result) 1 ∙ i .1, subst (Heard (a .w .now) (a .l) (take (j + 1) (a .t2 .c))) (sym (t .1 ∙ ap (λ z. set ys z 1) k)) (heard-more (a .w .now) (a .l) (a .t2 .c) j noComp ys b (i .1) (i .2) (omega (arith, k, t .0 .taken)))))
-    (λ t. (omega arith, ap length (t .1) ∙ i .1, subst (Heard (a .w .now) (a .l) (take (j + 1) (a .t2 .c))) (sym (t .1)) (heard-past (a .w .now) (a .l) (a .t2 .c) j noComp ys b (i .1) (i .2) (omega (arith, k, t .0 .left)))))
+    (λ t. (omega arith, ap length (t .1) ∙ length-set ys (c .before .wide .result) 1 ∙ i .1, subst (Heard (a .w .now) (a .l) (take (j + 1) (compsOf st))) (sym (t .1 ∙ ap (λ z. set ys z 1) k)) (heard-more (a .w .now) (a .l) (compsOf st) j noComp ys b (i .1) (i .2) (omega (arith, k, t .0 .taken)))))
+    (λ t. (omega arith, ap length (t .1) ∙ i .1, subst (Heard (a .w .now) (a .l) (take (j + 1) (compsOf st))) (sym (t .1)) (heard-past (a .w .now) (a .l) (compsOf st) j noComp ys b (i .1) (i .2) (omega (arith, k, t .0 .left)))))
     (c .if1 .came)
 
 returns : tie.Need-returns Inv-loop μ-loop
-unfolding compsOf
 returns c =
     let a = c .before .before .args in
-    let z : c .before .loop .j ≡ a .t2 .n = omega arith in
-    subst (λ j. Heard (a .w .now) (a .l) (take j (a .t2 .c)) (c .before .loop .out)) z (c .before .loop .inv .2)
+    let st : State = record { c = a .c .now; n = a .n } in
+    let z : c .before .loop .j ≡ length (compsOf st) = omega (arith, comps-length st) in
+    subst (λ cs. Heard (a .w .now) (a .l) cs (c .before .loop .out)) (take-all (c .before .loop .j) (compsOf st) (omega (arith, z))) (c .before .loop .inv .2)
 
 pub heard-at-spec : {M : Type 1} → statement M
 heard-at-spec =
@@ -78,8 +78,7 @@ heard-at-spec =
     Inv-loop
     μ-loop
     loop-holds
-    mul-c
-    element-copy-out-c
+    comp-at-requires
     hears-at-requires
     wide-requires
     mul-out

@@ -1,8 +1,8 @@
 -- By the fields.
 use borrow.Author.Needs.{needs}
 use Rattle.text_tree.specs.Asked.{compOf}
-use Rattle.text_read.proofs.state.comp_at.Statement.{statement}
-use Rattle.text_read.proofs.state.comp_at.Tie as tie
+use Rattle.text_read.proofs.state.comp_of.Statement.{statement}
+use Rattle.text_read.proofs.state.comp_of.Tie as tie
 
 wide-requires : tie.Need-wide-requires
 wide-requires c κs = search needs
@@ -23,6 +23,6 @@ returns : tie.Need-returns
 unfolding compOf
 returns c = rw (c .word .ensures, c .before .wide .ensures)
 
-pub comp-at-spec : {M : Type 1} → statement M
-comp-at-spec =
+pub comp-of-spec : {M : Type 1} → statement M
+comp-of-spec =
     tie.close (tie.spec wide-requires mul-word add-word add-word-2 word-requires returns)

@@ -1,0 +1,51 @@
+// A component among those of a state, which are lent: a state that goes into a function is copied.
+ghost use mathlib.Core.Path.{_≡_};
+ghost use Prim.Native.Nat.{_*_, _<_};
+ghost use lib.Seq.{sets};
+ghost use Rattle.table.specs.Meaning.{compIn, wordsIn};
+use super::Comp;
+
+// The component at position i.
+pub fn comp_at(c: &[u32; 3072], i: usize) -> Comp
+    requires { ⌜ i < 256 ⌝ }
+    ensures { λ r. ⌜ r ≡ compIn (now (c .entry)) i ⌝ }
+{
+    let o = i * 12;
+    Comp {
+        loc: c[o],
+        mark: c[o + 1],
+        place: c[o + 2],
+        timer: c[o + 3],
+        vals: [
+            c[o + 4],
+            c[o + 5],
+            c[o + 6],
+            c[o + 7],
+            c[o + 8],
+            c[o + 9],
+            c[o + 10],
+            c[o + 11],
+        ],
+    }
+}
+
+// x at position i.
+pub fn put_comp(c: &mut [u32; 3072], i: usize, x: Comp)
+    requires { ⌜ i < 256 ⌝ }
+    ensures { λ _. ⌜ now (c .exit) ≡ sets (now (c .entry)) (i * 12) (wordsIn x) ⌝ }
+{
+    let o = i * 12;
+    let v = x.vals;
+    c[o] = x.loc;
+    c[o + 1] = x.mark;
+    c[o + 2] = x.place;
+    c[o + 3] = x.timer;
+    c[o + 4] = v[0];
+    c[o + 5] = v[1];
+    c[o + 6] = v[2];
+    c[o + 7] = v[3];
+    c[o + 8] = v[4];
+    c[o + 9] = v[5];
+    c[o + 10] = v[6];
+    c[o + 11] = v[7];
+}
