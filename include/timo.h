@@ -5,7 +5,8 @@
  * any content and first asks question 17: does the table stand for a network? A
  * call that is refused answers the question's number as its code and returns
  * the state that it was given; what was lent to it is unchanged. Code 0 is no
- * refusal.
+ * refusal. Calls that only look at the components, and the step, are lent them
+ * with the number in use; action, tick and proposal take and return a state.
  *
  * The words of a script are set out in crates/table/specs/Words.antt, what
  * they stand for in Meaning.antt, the contract of each call in
@@ -66,7 +67,7 @@ struct timo_ticked {
 struct timo_stepped {
     uint32_t code;
     size_t count;             /* records written */
-    struct timo_state state;
+    size_t n;                 /* components in use from now on */
 };
 
 struct timo_report {
@@ -95,7 +96,7 @@ struct timo_compared {
 struct timo_reading timo_read(const uint8_t *text, size_t n, uint32_t script[TIMO_WORDS]);
 
 /* Question 17. */
-bool timo_valid(const uint32_t script[TIMO_WORDS], struct timo_state state);
+bool timo_valid(const uint32_t script[TIMO_WORDS], const struct timo_comp c[TIMO_COMPONENTS], size_t n);
 
 /* A single action of kind 1 (call at p), 2 (move at p) or 3 (output at p,
  * input at q). For kinds 1 and 2 q is not looked at. Refusals: 17, 8, 9, 10,
@@ -105,10 +106,11 @@ struct timo_acted timo_action(const uint32_t script[TIMO_WORDS], struct timo_sta
 /* The tick at location l. Refusals: 17, 8, 12, 13. */
 struct timo_ticked timo_tick(const uint32_t script[TIMO_WORDS], struct timo_state state, uint32_t l);
 
-/* The step at location l: its actions as records (kind, p, q) in the n records
- * lent, then the tick. Records past the count are unchanged. Refusals: 17, 8,
- * 15, 13. */
-struct timo_stepped timo_step(const uint32_t script[TIMO_WORDS], struct timo_state state, uint32_t l, uint32_t (*records)[3], size_t n);
+/* The step at location l: its actions as records (kind, p, q) in the records
+ * lent, then the tick, all in the components lent. Records past the count are
+ * unchanged; a refusal leaves components, n and records unchanged. Refusals: 17,
+ * 8, 15, 13. */
+struct timo_stepped timo_step(const uint32_t script[TIMO_WORDS], struct timo_comp c[TIMO_COMPONENTS], size_t n, uint32_t l, uint32_t (*records)[3], size_t lent);
 
 /* A proposal at location l: the n records in order, then the tick, all or
  * none. Refusals: 17, 8 for the location, for each record 8, 9, 10, 11, 16,
@@ -116,17 +118,17 @@ struct timo_stepped timo_step(const uint32_t script[TIMO_WORDS], struct timo_sta
 struct timo_ticked timo_propose(const uint32_t script[TIMO_WORDS], struct timo_state state, uint32_t l, const struct timo_record *records, size_t n);
 
 /* The locations where the tick is not allowed. Refusal: 17. */
-struct timo_report timo_forced(const uint32_t script[TIMO_WORDS], struct timo_state state);
+struct timo_report timo_forced(const uint32_t script[TIMO_WORDS], const struct timo_comp c[TIMO_COMPONENTS], size_t n);
 
-/* The network as text in the n bytes lent. Bytes past the length are
- * unchanged. Refusals: 17, 14, 15. */
-struct timo_written timo_write(const uint32_t script[TIMO_WORDS], struct timo_state state, uint8_t *bytes, size_t n);
+/* The network as text in the bytes lent. Bytes past the length are unchanged.
+ * Refusals: 17, 14, 15. */
+struct timo_written timo_write(const uint32_t script[TIMO_WORDS], const struct timo_comp c[TIMO_COMPONENTS], size_t n, uint8_t *bytes, size_t lent);
 
 /* Whether two networks are the same: the same definitions as a set and, in any
  * order, the same components, each as often, location and owner by name, parts
  * letter by letter with values put in. The numbers that names have do not count,
  * nor does a name that no longer occurs. yes is false where code is not 0.
  * Refusal: 17, for either network. */
-struct timo_compared timo_same(const uint32_t script_a[TIMO_WORDS], struct timo_state a, const uint32_t script_b[TIMO_WORDS], struct timo_state b);
+struct timo_compared timo_same(const uint32_t script_a[TIMO_WORDS], const struct timo_comp a[TIMO_COMPONENTS], size_t n, const uint32_t script_b[TIMO_WORDS], const struct timo_comp b[TIMO_COMPONENTS], size_t m);
 
 #endif

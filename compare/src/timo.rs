@@ -89,7 +89,7 @@ struct Ticked {
 struct Stepped {
     code: u32,
     count: usize,
-    state: State,
+    n: usize,
 }
 
 /// The forced report.
@@ -116,14 +116,28 @@ struct Compared {
 
 extern "C" {
     fn timo_read(text: *const u8, n: usize, w: *mut u32) -> Reading;
-    fn timo_same(w: *const u32, a: State, v: *const u32, b: State) -> Compared;
-    fn timo_valid(w: *const u32, st: State) -> bool;
+    fn timo_same(
+        w: *const u32,
+        a: *const Comp,
+        n: usize,
+        v: *const u32,
+        b: *const Comp,
+        m: usize,
+    ) -> Compared;
+    fn timo_valid(w: *const u32, c: *const Comp, n: usize) -> bool;
     fn timo_action(w: *const u32, st: State, kind: u32, p: usize, q: usize) -> Acted;
     fn timo_tick(w: *const u32, st: State, l: u32) -> Ticked;
-    fn timo_step(w: *const u32, st: State, l: u32, records: *mut [u32; 3], n: usize) -> Stepped;
+    fn timo_step(
+        w: *const u32,
+        c: *mut Comp,
+        n: usize,
+        l: u32,
+        records: *mut [u32; 3],
+        lent: usize,
+    ) -> Stepped;
     fn timo_propose(w: *const u32, st: State, l: u32, records: *const Record, n: usize) -> Ticked;
-    fn timo_forced(w: *const u32, st: State) -> Report;
-    fn timo_write(w: *const u32, st: State, buf: *mut u8, n: usize) -> Written;
+    fn timo_forced(w: *const u32, c: *const Comp, n: usize) -> Report;
+    fn timo_write(w: *const u32, c: *const Comp, n: usize, buf: *mut u8, lent: usize) -> Written;
 }
 
 /// Reading into lent words. A refusal leaves them unchanged.
@@ -156,15 +170,25 @@ impl Table {
 
     /// Whether two tables stand for the same network.
     pub fn same(&self, other: &Table) -> Result<bool, u32> {
-        let (w, v) = (self.words.as_ptr(), other.words.as_ptr());
+        let (a, b) = (&self.state, &other.state);
         // SAFETY: as for `is_valid`, for both.
-        let compared = unsafe { timo_same(w, self.state, v, other.state) };
+        let compared = unsafe {
+            timo_same(
+                self.words.as_ptr(),
+                a.c.as_ptr(),
+                a.n,
+                other.words.as_ptr(),
+                b.c.as_ptr(),
+                b.n,
+            )
+        };
         answer(compared.code, compared.yes)
     }
 
     pub fn is_valid(&self) -> bool {
-        // SAFETY: the pointer is to WORDS words, which the call only reads.
-        unsafe { timo_valid(self.words.as_ptr(), self.state) }
+        // SAFETY: the pointers are to WORDS words and to 256 components, which the
+        // call only reads.
+        unsafe { timo_valid(self.words.as_ptr(), self.state.c.as_ptr(), self.state.n) }
     }
 
     /// A single action; its label, or the number of its refusal.
@@ -184,17 +208,19 @@ impl Table {
 
     /// The step; the number of records written.
     pub fn step(&mut self, location: u32, lent: &mut [[u32; 3]]) -> Result<usize, u32> {
-        // SAFETY: as for `is_valid`; `lent` is not reached otherwise meanwhile.
+        // SAFETY: as for `is_valid`; the components and `lent` are not reached
+        // otherwise meanwhile.
         let stepped = unsafe {
             timo_step(
                 self.words.as_ptr(),
-                self.state,
+                self.state.c.as_mut_ptr(),
+                self.state.n,
                 location,
                 lent.as_mut_ptr(),
                 lent.len(),
             )
         };
-        self.state = stepped.state;
+        self.state.n = stepped.n;
         answer(stepped.code, stepped.count)
     }
 
@@ -216,7 +242,8 @@ impl Table {
 
     pub fn forced(&self) -> Result<Report, u32> {
         // SAFETY: as for `is_valid`.
-        let report = unsafe { timo_forced(self.words.as_ptr(), self.state) };
+        let report =
+            unsafe { timo_forced(self.words.as_ptr(), self.state.c.as_ptr(), self.state.n) };
         answer(report.code, report)
     }
 
@@ -226,7 +253,8 @@ impl Table {
         let written = unsafe {
             timo_write(
                 self.words.as_ptr(),
-                self.state,
+                self.state.c.as_ptr(),
+                self.state.n,
                 lent.as_mut_ptr(),
                 lent.len(),
             )

@@ -49,22 +49,29 @@ pub fn tick_at(w: &[u32; 99592], st: State, l: u32) -> Ticked
     tick::refuse(17, st)
 }
 
-// The step at the location numbered l: questions 17, 8, 15, 13. The records of its actions stand in front of what was in the buffer.
-pub fn step_at(w: &[u32; 99592], st: State, l: u32, records: &mut [[u32; 3]]) -> Stepped
-    ensures { λ r. ⌜ stepsAs (now (w .entry)) st (stepAnswer (now (w .entry)) st l (length (now (records .entry)))) r (now (records .entry)) (now (records .exit)) ⌝ }
+// The step at the location numbered l: questions 17, 8, 15, 13. The components are lent, n of them in use, and left as the step leaves them; the records
+// of its actions stand in front of what was in the buffer.
+pub fn step_at(
+    w: &[u32; 99592],
+    c: &mut [u32; 3072],
+    n: usize,
+    l: u32,
+    records: &mut [[u32; 3]],
+) -> Stepped
+    ensures { λ r. ⌜ stepsAs (now (w .entry)) (record { c = now (c .entry); n = n }) (stepAnswer (now (w .entry)) (record { c = now (c .entry); n = n }) l (length (now (records .entry)))) r (now (c .exit)) (now (records .entry)) (now (records .exit)) ⌝ }
 {
-    if valid::is_valid(w, &st.c, st.n) {
-        return step::step_valid(w, st, l, records);
+    if valid::is_valid(w, c, n) {
+        return step::step_valid(w, c, n, l, records);
     }
-    step::refuse(17, st)
+    step::refuse(17, n)
 }
 
 // The locations where the tick is not allowed: question 17 first.
-pub fn forced_report(w: &[u32; 99592], st: State) -> Report
-    ensures { λ r. ⌜ r ≡ forcedReport (now (w .entry)) st ⌝ }
+pub fn forced_report(w: &[u32; 99592], c: &[u32; 3072], n: usize) -> Report
+    ensures { λ r. ⌜ r ≡ forcedReport (now (w .entry)) (record { c = now (c .entry); n = n }) ⌝ }
 {
-    if valid::is_valid(w, &st.c, st.n) {
-        return forced::forced_valid(w, st);
+    if valid::is_valid(w, c, n) {
+        return forced::forced_valid(w, c, n);
     }
     Report {
         code: 17,

@@ -7,7 +7,6 @@ ghost use Rattle.calls_forced.specs.Report.{mask, forcedTest, reportOf};
 use super::Report;
 use super::ears;
 use super::press;
-use table::State;
 
 fn set_of(marks: &[u32; 64]) -> u64
     ensures { λ r. ⌜ r ≡ mask (isMarked (now (marks .entry))) 0 64 ⌝ }
@@ -23,12 +22,12 @@ fn set_of(marks: &[u32; 64]) -> u64
     x
 }
 
-pub fn forced_valid(w: &[u32; 99592], st: State) -> Report
-    requires { ⌜ valid (now w) st ≡ true ⌝ }
-    ensures { λ r. ⌜ r ≡ reportOf (forcedTest (now (w .entry)) st) ⌝ }
+pub fn forced_valid(w: &[u32; 99592], c: &[u32; 3072], n: usize) -> Report
+    requires { ⌜ valid (now w) (record { c = now c; n = n }) ≡ true ⌝ }
+    ensures { λ r. ⌜ r ≡ reportOf (forcedTest (now (w .entry)) (record { c = now (c .entry); n = n })) ⌝ }
 {
-    let heard = ears::ears_in(w, &st.c, st.n);
-    let marks = press::pressed_in(w, &st.c, st.n, &heard);
+    let heard = ears::ears_in(w, c, n);
+    let marks = press::pressed_in(w, c, n, &heard);
     let set = set_of(&marks);
     Report {
         code: 0,

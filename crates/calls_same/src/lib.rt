@@ -18,7 +18,6 @@ ghost use Rattle.table.specs.Valid.{valid};
 ghost use Rattle.calls_same.specs.Answer.{sameAnswer, compared};
 use network::defs_within;
 use network::same_comps;
-use table::State;
 use table::valid::is_valid;
 
 // What the call returns: 0 or the number of the question answered by no, and whether the networks are the same.
@@ -29,16 +28,23 @@ pub struct Compared {
 }
 
 // The call `same`, on the networks of two scripts or of one script twice: 17 of both, then the comparison.
-pub fn same(w: &[u32; 99592], a: State, v: &[u32; 99592], b: State) -> Compared
-    ensures { λ r. ⌜ r ≡ compared (sameAnswer (now (w .entry)) a (now (v .entry)) b) ⌝ }
+pub fn same(
+    w: &[u32; 99592],
+    a: &[u32; 3072],
+    n: usize,
+    v: &[u32; 99592],
+    b: &[u32; 3072],
+    m: usize,
+) -> Compared
+    ensures { λ r. ⌜ r ≡ compared (sameAnswer (now (w .entry)) (record { c = now (a .entry); n = n }) (now (v .entry)) (record { c = now (b .entry); n = m })) ⌝ }
 {
-    if !is_valid(w, &a.c, a.n) {
+    if !is_valid(w, a, n) {
         return Compared {
             code: 17,
             yes: false,
         };
     }
-    if !is_valid(v, &b.c, b.n) {
+    if !is_valid(v, b, m) {
         return Compared {
             code: 17,
             yes: false,
@@ -46,7 +52,7 @@ pub fn same(w: &[u32; 99592], a: State, v: &[u32; 99592], b: State) -> Compared
     }
     Compared {
         code: 0,
-        yes: same_networks(w, &a.c, a.n, v, &b.c, b.n),
+        yes: same_networks(w, a, n, v, b, m),
     }
 }
 

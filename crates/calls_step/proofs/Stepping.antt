@@ -72,11 +72,11 @@ module _ (w : List ℕ) (st : State) (l : ℕ) (v : valid w st ≡ true) (after 
     unfolding room
     step-done size h n = ruled size ∙ rw (le-leb count size h, length-map (passedAll w l (compsOf left)) (means w), le-leb (length (passedAll w l (compsOf left))) 256 (omega arith))
 
-    pub step-took : (next : State) (before now : List (List ℕ)) → compsOf next ≡ passedAll w l (compsOf left) → next .n ≡ length (passedAll w l (compsOf left)) → length (passedAll w l (compsOf left)) < 257
+    pub step-took : (cs : List ℕ) (k : ℕ) (before now : List (List ℕ)) → compsOf (record { c = cs; n = k }) ≡ passedAll w l (compsOf left) → k ≡ length (passedAll w l (compsOf left)) → length (passedAll w l (compsOf left)) < 257
         → now ≡ take count acts ++ drop count before
-        → Took w (stepOf (swept .actions) (map (means w) (passedAll w l (compsOf left)))) (record { code = 0; count = count; state = next }) before now
-    step-took next before now e n b a =
-        let t = tick-took w left next l swept-good e n b in
+        → Took w (stepOf (swept .actions) (map (means w) (passedAll w l (compsOf left)))) (record { code = 0; count = count; n = k }) cs before now
+    step-took cs k before now e n b a =
+        let t = tick-took w left (record { c = cs; n = k }) l swept-good e n b in
         record { code = refl; count = s .number; comps = t .comps; good = t .good; records = a ∙ ap (λ xs. xs ++ drop count before) (s .records) ∙ ap (λ k. map recOf (swept .actions) ++ drop k before) (s .number) }
 
 -- question 8

@@ -37,18 +37,22 @@ stepRule w st l size =
 unfoldable pub stepAnswer : List ℕ → State → ℕ → ℕ → Answer Step
 stepAnswer w st l size = asked 17 (valid w st) (stepRule w st l size)
 
-abbrev pub refusal : ℕ → State → Stepped
-refusal n st = record { code = n; count = 0; state = st }
+abbrev pub refusal : ℕ → ℕ → Stepped
+refusal code n = record { code = code; count = 0; n = n }
+
+-- the lent components afterwards, of which the answer says how many are in use
+abbrev pub left : Stepped → List ℕ → State
+left r cs = record { c = cs; n = r .n }
 
 -- an accepted step: the code 0, the number of actions, the next components, question 17 still answered by yes, and the records in front of what was there
-pub record Took (w : List ℕ) (s : Step) (r : Stepped) (before after : List (List ℕ)) : Type 0 where
+pub record Took (w : List ℕ) (s : Step) (r : Stepped) (cs : List ℕ) (before after : List (List ℕ)) : Type 0 where
   pub code : r .code ≡ 0
   pub count : r .count ≡ length (s .actions)
-  pub comps : netOf w (r .state) ≡ s .comps
-  pub good : valid w (r .state) ≡ true
+  pub comps : netOf w (left r cs) ≡ s .comps
+  pub good : valid w (left r cs) ≡ true
   pub records : after ≡ map recOf (s .actions) ++ drop (length (s .actions)) before
 
--- the code's answer r, and the lent records before and after, stand for the answer of the rules
-abbrev pub stepsAs : List ℕ → State → Answer Step → Stepped → List (List ℕ) → List (List ℕ) → Type 0
-stepsAs w st (refused n) r before after = (r ≡ refusal n st) × (after ≡ before)
-stepsAs w st (accepted s) r before after = Took w s r before after
+-- the code's answer r, the lent components cs afterwards, and the lent records before and after, stand for the answer of the rules
+abbrev pub stepsAs : List ℕ → State → Answer Step → Stepped → List ℕ → List (List ℕ) → List (List ℕ) → Type 0
+stepsAs w st (refused k) r cs before after = (r ≡ refusal k (st .n)) × (cs ≡ st .c) × (after ≡ before)
+stepsAs w st (accepted s) r cs before after = Took w s r cs before after

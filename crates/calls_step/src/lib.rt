@@ -9,7 +9,6 @@ pub mod step;
 mod sweep;
 
 use table::Comp;
-use table::State;
 
 // For each channel the link to the lowest position that hears it, and from each position the link to the next. A link is 0, or a position and one.
 pub struct Queue {
@@ -23,10 +22,11 @@ pub struct Visit {
     pub y: Comp,
 }
 
-// The answer of a step: code 0 with the number of actions and the next state, or the number of the question answered by no with the state as it was.
+// The answer of a step: code 0 with the number of actions and the number of components after it, or the number of the question answered by no, 0 and the
+// number of components as it was.
 #[repr(C)]
 pub struct Stepped {
     pub code: u32,
     pub count: usize,
-    pub state: State,
+    pub n: usize,
 }

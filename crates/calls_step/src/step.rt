@@ -1,4 +1,4 @@
-// The step at a location of a table that passes question 17: questions 8, 15 and 13. Nothing is written before the last of them is answered.
+// The step at a location of a table that passes question 17: questions 8, 15 and 13. A refusal puts the components back.
 ghost use mathlib.Core.Path.{_≡_};
 ghost use mathlib.Core.Bool.{true};
 ghost use mathlib.Core.List.{_++_};
@@ -9,17 +9,25 @@ ghost use Rattle.calls_step.specs.Stepped.{stepRule, stepsAs, refusal};
 use super::Stepped;
 use super::sweep;
 use calls_tick::pass;
-use table::State;
+use table::comps::sized;
 use table::words;
 
-pub fn refuse(code: u32, st: State) -> Stepped
-    ensures { λ r. ⌜ r ≡ refusal code st ⌝ }
+pub fn refuse(code: u32, n: usize) -> Stepped
+    ensures { λ r. ⌜ r ≡ refusal code n ⌝ }
 {
     Stepped {
         code: code,
         count: 0,
-        state: st,
+        n: n,
     }
+}
+
+// A refusal, with the components as they were.
+fn put_back(code: u32, n: usize, held: &[u32; 3072], c: &mut [u32; 3072]) -> Stepped
+    ensures { λ r. ⌜ (r ≡ refusal code n) × (now (c .exit) ≡ now (held .entry)) ⌝ }
+{
+    *c = *held;
+    refuse(code, n)
 }
 
 // The first records of acts, in front of what is there.
@@ -35,29 +43,35 @@ fn put_records(acts: &[[u32; 3]; 256], count: usize, records: &mut [[u32; 3]])
     }
 }
 
-pub fn step_valid(w: &[u32; 99592], st: State, l: u32, records: &mut [[u32; 3]]) -> Stepped
-    requires { ⌜ valid (now w) st ≡ true ⌝ }
-    ensures { λ r. ⌜ stepsAs (now (w .entry)) st (stepRule (now (w .entry)) st l (length (now (records .entry)))) r (now (records .entry)) (now (records .exit)) ⌝ }
+pub fn step_valid(
+    w: &[u32; 99592],
+    c: &mut [u32; 3072],
+    n: usize,
+    l: u32,
+    records: &mut [[u32; 3]],
+) -> Stepped
+    requires { ⌜ valid (now w) (record { c = now c; n = n }) ≡ true ⌝ }
+    ensures { λ r. ⌜ stepsAs (now (w .entry)) (record { c = now (c .entry); n = n }) (stepRule (now (w .entry)) (record { c = now (c .entry); n = n }) l (length (now (records .entry)))) r (now (c .exit)) (now (records .entry)) (now (records .exit)) ⌝ }
 {
     if words::word(w, 1) <= l {
-        return refuse(8, st);
+        return refuse(8, n);
     }
+    sized(*c);
     let mut acts = [[0; 3]; 256];
-    let mut swept = st;
-    let count = sweep::sweep(w, &mut swept.c, st.n, l, &mut acts);
+    let held = *c;
+    let count = sweep::sweep(w, c, n, l, &mut acts);
     if records.len() < count {
-        return refuse(15, st);
+        return put_back(15, n, &held, c);
     }
-    let mut out = swept;
-    let k = pass::pass_all(w, &swept.c, st.n, l, &mut out.c);
+    let swept = *c;
+    let k = pass::pass_all(w, &swept, n, l, c);
     if 256 < k {
-        return refuse(13, st);
+        return put_back(13, n, &held, c);
     }
     put_records(&acts, count, records);
-    out.n = k;
     Stepped {
         code: 0,
         count: count,
-        state: out,
+        n: k,
     }
 }

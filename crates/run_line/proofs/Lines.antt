@@ -118,11 +118,11 @@ module _ (w : List ℕ) (st : State) (l : ℕ) (records : List (List ℕ)) (n : 
 
 -- ── for the caller of a step ──
 -- the first records that an accepted step gave back are those of its actions
-module _ (w : List ℕ) (st : State) (l size : ℕ) (r : Stepped) (before after : List (List ℕ)) where
+module _ (w : List ℕ) (st : State) (l size : ℕ) (r : Stepped) (ds : List ℕ) (before after : List (List ℕ)) where
   abbrev xs : List Action
   xs = fires (defsOf w) (locName w l) (netOf w st) .actions
 
-  took-holds : (cs : List Component) → valid w st ≡ true → Took w (stepOf (fires (defsOf w) (locName w l) (netOf w st) .actions) cs) r before after → Holds w st l after (r .count)
+  took-holds : (cs : List Component) → valid w st ≡ true → Took w (stepOf (fires (defsOf w) (locName w l) (netOf w st) .actions) cs) r ds before after → Holds w st l after (r .count)
   took-holds cs v t =
       let n : length (map recOf xs) ≡ r .count = length-map xs recOf ∙ sym (t .count) in
       record {
@@ -133,7 +133,7 @@ module _ (w : List ℕ) (st : State) (l size : ℕ) (r : Stepped) (before after 
 
   -- a refusal has its number, which is not 0
   by-questions : (v a b c : Bool) (cs : List Component) → valid w st ≡ v
-      → stepsAs w st (asked 17 v (asked 8 a (asked 15 b (asked 13 c (accepted cs) >>= λ cs. accepted (stepOf (fires (defsOf w) (locName w l) (netOf w st) .actions) cs))))) r before after
+      → stepsAs w st (asked 17 v (asked 8 a (asked 15 b (asked 13 c (accepted cs) >>= λ cs. accepted (stepOf (fires (defsOf w) (locName w l) (netOf w st) .actions) cs))))) r ds before after
       → r .code ≡ 0 → Holds w st l after (r .count)
   by-questions true true true true cs v t z = took-holds cs v t
   by-questions false a b c cs v t z = absurd (omega (arith, z, ap (λ r. r .code) (t .0)))
@@ -141,7 +141,7 @@ module _ (w : List ℕ) (st : State) (l size : ℕ) (r : Stepped) (before after 
   by-questions true true false c cs v t z = absurd (omega (arith, z, ap (λ r. r .code) (t .0)))
   by-questions true true true false cs v t z = absurd (omega (arith, z, ap (λ r. r .code) (t .0)))
 
-  pub step-holds : stepsAs w st (stepAnswer w st l size) r before after → r .code ≡ 0 → Holds w st l after (r .count)
+  pub step-holds : stepsAs w st (stepAnswer w st l size) r ds before after → r .code ≡ 0 → Holds w st l after (r .count)
   unfolding stepAnswer stepRule room
   step-holds s z =
       let cs = flatMap (pass (λ m. sameName m (locName w l)) (locName w l)) (fires (defsOf w) (locName w l) (netOf w st) .comps) in

@@ -45,17 +45,18 @@ fn turn(w: &[u32; 99592], st: State, l: u32, buf: &mut [u8], at: usize) -> Turne
     ensures { λ r. ⌜ TurnIs (now (w .entry)) (turnOf (defsOf (now (w .entry))) (locName (now (w .entry)) l) (netOf (now (w .entry)) st)) (now (buf .entry)) at (now (buf .exit)) r ⌝ }
 {
     let mut records = [[0; 3]; 256];
-    let s = calls::step_at(w, st, l, &mut records);
-    let next = s.state;
+    let mut next = st;
+    let s = calls::step_at(w, &mut next.c, st.n, l, &mut records);
     if s.code != 0 {
         let a = put_refused(s.code, buf, at);
         return Turned {
             code: s.code,
             at: a,
-            state: next,
+            state: st,
         };
     }
     let b = put_line(w, st, l, &records, s.count, buf, at);
+    next.n = s.n;
     Turned {
         code: 0,
         at: b,
@@ -77,7 +78,7 @@ fn put_network(w: &[u32; 99592], st: State, buf: &mut [u8], at: usize) -> usize
     ensures { λ r. ⌜ Wrote (now (buf .entry)) at (ending (defsOf (now (w .entry))) (netOf (now (w .entry)) st)) (now (buf .exit)) r ⌝ }
 {
     let mut text = [0; 65536];
-    let r = text_write::write(w, st, &mut text);
+    let r = text_write::write(w, &st.c, st.n, &mut text);
     if r.code != 0 {
         return put_refused(r.code, buf, at);
     }

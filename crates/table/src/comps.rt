@@ -1,9 +1,15 @@
 // A component among those of a state, which are lent: a state that goes into a function is copied.
 ghost use mathlib.Core.Path.{_≡_};
 ghost use Prim.Native.Nat.{_*_, _<_};
+ghost use lib.ListN.{length};
 ghost use lib.Seq.{sets};
 ghost use Rattle.table.specs.Meaning.{compIn, wordsIn};
 use super::Comp;
+
+// Nothing to run: of an array by value the number of words is known, and of one behind a reference it is not. `sized(*c)` says it of a lent one.
+pub fn sized(c: [u32; 3072])
+    ensures { λ _. ⌜ length c ≡ 3072 ⌝ }
+{}
 
 // The component at position i.
 pub fn comp_at(c: &[u32; 3072], i: usize) -> Comp

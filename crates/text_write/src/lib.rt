@@ -18,11 +18,11 @@ ghost use mathlib.Core.List.{_++_};
 ghost use Prim.Native.Nat.{_≤_};
 ghost use lib.ListN.{length, take, drop};
 ghost use Rattle.table.specs.Valid.{valid};
-ghost use Rattle.text_write.specs.Answer.{writeAnswer, Answers};
+ghost use Rattle.text_write.specs.Answer.{noMark, writeAnswer, Answers};
 use network::all_unmarked;
 use network::write_text;
-use table::State;
 use table::valid::is_valid;
+use table::words::word;
 
 // What the write call returns: 0 or the number of the question answered by no, and the text's length.
 #[repr(C)]
@@ -32,13 +32,13 @@ pub struct Written {
 }
 
 // The write call: 17, then the others.
-pub fn write(w: &[u32; 99592], st: State, buf: &mut [u8]) -> Written
-    ensures { λ r. ⌜ Answers (writeAnswer (now (w .entry)) st (length (now (buf .entry)))) (now (buf .entry)) r (now (buf .exit)) ⌝ }
+pub fn write(w: &[u32; 99592], c: &[u32; 3072], n: usize, buf: &mut [u8]) -> Written
+    ensures { λ r. ⌜ Answers (writeAnswer (now (w .entry)) (record { c = now (c .entry); n = n }) (length (now (buf .entry)))) (now (buf .entry)) r (now (buf .exit)) ⌝ }
 {
-    if !is_valid(w, &st.c, st.n) {
+    if !is_valid(w, c, n) {
         return Written { code: 17, len: 0 };
     }
-    write_valid(w, &st.c, st.n, buf)
+    write_valid(w, c, n, buf)
 }
 
 // The first n bytes of s to the front of the buffer.
@@ -53,8 +53,31 @@ fn copy_front(s: &[u8], n: usize, buf: &mut [u8])
     }
 }
 
-// The same on a network that passes question 17: 14, then 15, for which the text is written beside the buffer, then the text. Only a text that is longer than
-// any that can be read is written a second time.
+// The text of an unmarked network, or 15: it is written beside the buffer first, into bytes whose content does not matter. Only a text that is longer than
+// these is written a second time.
+fn write_beside(
+    w: &[u32; 99592],
+    c: &[u32; 3072],
+    n: usize,
+    text: &mut [u8],
+    buf: &mut [u8],
+) -> Written
+    requires { ⌜ (valid (now w) (record { c = now c; n = n }) ≡ true) × (noMark (now w) (record { c = now c; n = n }) ≡ true) ⌝ }
+    ensures { λ r. ⌜ Answers (writeAnswer (now (w .entry)) (record { c = now (c .entry); n = n }) (length (now (buf .entry)))) (now (buf .entry)) r (now (buf .exit)) ⌝ }
+{
+    let k = write_text(w, c, n, text);
+    if buf.len() < k {
+        return Written { code: 15, len: 0 };
+    }
+    if text.len() < k {
+        write_text(w, c, n, buf);
+        return Written { code: 0, len: k };
+    }
+    copy_front(text, k, buf);
+    Written { code: 0, len: k }
+}
+
+// The same on a network that passes question 17: 14, then 15 and the text. Few parts mostly have a short text.
 fn write_valid(w: &[u32; 99592], c: &[u32; 3072], n: usize, buf: &mut [u8]) -> Written
     requires { ⌜ valid (now w) (record { c = now c; n = n }) ≡ true ⌝ }
     ensures { λ r. ⌜ Answers (writeAnswer (now (w .entry)) (record { c = now (c .entry); n = n }) (length (now (buf .entry)))) (now (buf .entry)) r (now (buf .exit)) ⌝ }
@@ -62,15 +85,10 @@ fn write_valid(w: &[u32; 99592], c: &[u32; 3072], n: usize, buf: &mut [u8]) -> W
     if !all_unmarked(c, n) {
         return Written { code: 14, len: 0 };
     }
+    if word(w, 0) <= 128 {
+        let mut short = [0; 4096];
+        return write_beside(w, c, n, &mut short, buf);
+    }
     let mut text = [0; 65536];
-    let k = write_text(w, c, n, &mut text);
-    if buf.len() < k {
-        return Written { code: 15, len: 0 };
-    }
-    if 65536 < k {
-        write_text(w, c, n, buf);
-        return Written { code: 0, len: k };
-    }
-    copy_front(&text, k, buf);
-    Written { code: 0, len: k }
+    write_beside(w, c, n, &mut text, buf)
 }

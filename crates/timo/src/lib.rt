@@ -39,10 +39,10 @@ pub extern "C" fn timo_read(text: &[u8], w: &mut [u32; 99592]) -> Reading
 
 // Question 17: does the table stand for a network?
 #[no_mangle]
-pub extern "C" fn timo_valid(w: &[u32; 99592], st: State) -> bool
-    ensures { λ r. ⌜ r ≡ valid (now (w .entry)) st ⌝ }
+pub extern "C" fn timo_valid(w: &[u32; 99592], c: &[u32; 3072], n: usize) -> bool
+    ensures { λ r. ⌜ r ≡ valid (now (w .entry)) (record { c = now (c .entry); n = n }) ⌝ }
 {
-    is_valid(w, &st.c, st.n)
+    is_valid(w, c, n)
 }
 
 // A single action: questions 17, 8, 9, 10, 11.
@@ -61,17 +61,18 @@ pub extern "C" fn timo_tick(w: &[u32; 99592], st: State, l: u32) -> Ticked
     tick_at(w, st, l)
 }
 
-// The step at a location: questions 17, 8, 15, 13.
+// The step at a location: questions 17, 8, 15, 13. A refusal leaves the lent components and records as they were.
 #[no_mangle]
 pub extern "C" fn timo_step(
     w: &[u32; 99592],
-    st: State,
+    c: &mut [u32; 3072],
+    n: usize,
     l: u32,
     records: &mut [[u32; 3]],
 ) -> Stepped
-    ensures { λ r. ⌜ stepsAs (now (w .entry)) st (stepAnswer (now (w .entry)) st l (length (now (records .entry)))) r (now (records .entry)) (now (records .exit)) ⌝ }
+    ensures { λ r. ⌜ stepsAs (now (w .entry)) (record { c = now (c .entry); n = n }) (stepAnswer (now (w .entry)) (record { c = now (c .entry); n = n }) l (length (now (records .entry)))) r (now (c .exit)) (now (records .entry)) (now (records .exit)) ⌝ }
 {
-    step_at(w, st, l, records)
+    step_at(w, c, n, l, records)
 }
 
 // A proposal: questions 17, 8 for the location, 8 to 11 and 16 for each record, 12, 13.
@@ -84,24 +85,31 @@ pub extern "C" fn timo_propose(w: &[u32; 99592], st: State, l: u32, records: &[R
 
 // The forced report: question 17.
 #[no_mangle]
-pub extern "C" fn timo_forced(w: &[u32; 99592], st: State) -> Report
-    ensures { λ r. ⌜ r ≡ forcedReport (now (w .entry)) st ⌝ }
+pub extern "C" fn timo_forced(w: &[u32; 99592], c: &[u32; 3072], n: usize) -> Report
+    ensures { λ r. ⌜ r ≡ forcedReport (now (w .entry)) (record { c = now (c .entry); n = n }) ⌝ }
 {
-    forced_report(w, st)
+    forced_report(w, c, n)
 }
 
 // Writing: questions 17, 14, 15.
 #[no_mangle]
-pub extern "C" fn timo_write(w: &[u32; 99592], st: State, buf: &mut [u8]) -> Written
-    ensures { λ r. ⌜ Answers (writeAnswer (now (w .entry)) st (length (now (buf .entry)))) (now (buf .entry)) r (now (buf .exit)) ⌝ }
+pub extern "C" fn timo_write(w: &[u32; 99592], c: &[u32; 3072], n: usize, buf: &mut [u8]) -> Written
+    ensures { λ r. ⌜ Answers (writeAnswer (now (w .entry)) (record { c = now (c .entry); n = n }) (length (now (buf .entry)))) (now (buf .entry)) r (now (buf .exit)) ⌝ }
 {
-    write(w, st, buf)
+    write(w, c, n, buf)
 }
 
 // Comparing: question 17 of both networks.
 #[no_mangle]
-pub extern "C" fn timo_same(w: &[u32; 99592], a: State, v: &[u32; 99592], b: State) -> Compared
-    ensures { λ r. ⌜ r ≡ compared (sameAnswer (now (w .entry)) a (now (v .entry)) b) ⌝ }
+pub extern "C" fn timo_same(
+    w: &[u32; 99592],
+    a: &[u32; 3072],
+    n: usize,
+    v: &[u32; 99592],
+    b: &[u32; 3072],
+    m: usize,
+) -> Compared
+    ensures { λ r. ⌜ r ≡ compared (sameAnswer (now (w .entry)) (record { c = now (a .entry); n = n }) (now (v .entry)) (record { c = now (b .entry); n = m })) ⌝ }
 {
-    same(w, a, v, b)
+    same(w, a, n, v, b, m)
 }

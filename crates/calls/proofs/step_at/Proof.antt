@@ -9,7 +9,7 @@ is-valid-requires : tie.Need-is-valid-requires
 is-valid-requires c κs = search needs
 
 step-valid-requires : tie.Need-step-valid-requires
-step-valid-requires c κs = sym (c .before .before .is-valid .ensures) ∙ c .before .if1 .taken
+step-valid-requires c κs = sym (c .before .before .before .is-valid .ensures) ∙ c .before .before .if1 .taken
 
 same-length : tie.Need-same-length
 same-length c = search needs
@@ -17,7 +17,7 @@ same-length c = search needs
 returns : tie.Need-returns
 unfolding stepAnswer
 returns c =
-    let v = sym (c .before .before .before .before .is-valid .ensures) ∙ c .before .before .before .if1 .taken in
+    let v = sym (c .before .before .before .before .before .is-valid .ensures) ∙ c .before .before .before .before .if1 .taken in
     rw v (c .before .step-valid .ensures)
 
 refuse-requires : tie.Need-refuse-requires
@@ -27,7 +27,7 @@ returns-2 : tie.Need-returns-2
 unfolding stepAnswer
 returns-2 c =
     let v = sym (c .before .before .is-valid .ensures) ∙ c .before .if1 .left in
-    rw v (c .refuse .ensures, refl)
+    rw v (c .refuse .ensures, refl, refl)
 
 pub step-at-spec : {M : Type 1} → statement M
 step-at-spec =

@@ -20,21 +20,21 @@ same-length : tie.Need-same-length
 same-length c = search needs
 
 returns : tie.Need-returns
-returns c = same (ending-refused _ _ (c .before .before .before .before .before .before .before .before .before .before .pre) refl _ (c .before .before .before .before .before .before .before .write .ensures) (c .before .before .before .before .if1 .taken)) (c .before .before .put-refused .ensures)
+returns c = same (ending-refused _ _ (c .before .before .before .before .before .before .before .before .before .before .before .before .pre) refl _ (c .before .before .before .before .before .before .before .write .ensures) (c .before .before .before .before .if1 .taken)) (c .before .before .put-refused .ensures)
 
 slice-aggregate-put-first : tie.Need-slice-aggregate-put-first
 slice-aggregate-put-first c = search needs
 
 put-first-requires : tie.Need-put-first-requires
 put-first-requires c κs =
-    let h = ending-short _ _ (c .before .before .before .before .before .before .before .before .pre) refl _ (c .before .before .before .before .before .write .ensures) (omega (arith, c .before .before .if1 .left)) in
+    let h = ending-short _ _ (c .before .before .before .before .before .before .before .before .before .before .pre) refl _ (c .before .before .before .before .before .write .ensures) (omega (arith, c .before .before .if1 .left)) in
     search needs
 
 same-length-2 : tie.Need-same-length-2
 same-length-2 c = search needs
 
 returns-2 : tie.Need-returns-2
-returns-2 c = same (ending-text _ _ (c .before .before .before .before .before .before .before .before .before .before .before .pre) refl _ (c .before .before .before .before .before .before .before .before .write .ensures) (omega (arith, c .before .before .before .before .before .if1 .left))) (c .before .before .put-first .ensures)
+returns-2 c = same (ending-text _ _ (c .before .before .before .before .before .before .before .before .before .before .before .before .before .pre) refl _ (c .before .before .before .before .before .before .before .before .write .ensures) (omega (arith, c .before .before .before .before .before .if1 .left))) (c .before .before .put-first .ensures)
 
 pub put-network-spec : {M : Type 1} → statement M
 put-network-spec =

@@ -20,19 +20,19 @@ same-length : tie.Need-same-length
 same-length c = search needs
 
 returns : tie.Need-returns
-returns c = turn-stopped _ _ _ (c .before .before .before .before .before .before .before .before .before .before .before .pre .0) (c .before .before .before .before .before .before .before .before .before .before .before .pre .1) (few _ _ (c .before .before .before .before .before .before .before .before .before .before .before .pre .0)) _ _ _ (c .before .before .before .before .before .before .before .before .step-at .ensures) (c .before .before .before .before .if1 .taken) (c .before .before .put-refused .ensures)
+returns c = turn-stopped _ _ _ (c .before .before .before .before .before .before .before .before .before .before .before .pre .0) (c .before .before .before .before .before .before .before .before .before .before .before .pre .1) (few _ _ (c .before .before .before .before .before .before .before .before .before .before .before .pre .0)) _ _ _ _ (c .before .before .before .before .before .before .before .step-at .ensures) _ (c .before .before .before .before .if1 .taken) (c .before .before .put-refused .ensures)
 
 slice-aggregate-put-line : tie.Need-slice-aggregate-put-line
 slice-aggregate-put-line c = search needs
 
 put-line-requires : tie.Need-put-line-requires
-put-line-requires c κs = step-holds _ _ _ _ _ _ _ (c .before .before .before .before .before .before .step-at .ensures) (omega (arith, c .before .before .if1 .left))
+put-line-requires c κs = step-holds _ _ _ _ _ _ _ _ (c .before .before .before .before .before .step-at .ensures) (omega (arith, c .before .before .if1 .left))
 
 same-length-2 : tie.Need-same-length-2
 same-length-2 c = search needs
 
 returns-2 : tie.Need-returns-2
-returns-2 c = turn-went _ _ _ (c .before .before .before .before .before .before .before .before .before .before .before .before .pre .0) (c .before .before .before .before .before .before .before .before .before .before .before .before .pre .1) (few _ _ (c .before .before .before .before .before .before .before .before .before .before .before .before .pre .0)) _ _ _ (c .before .before .before .before .before .before .before .before .before .step-at .ensures) (omega (arith, c .before .before .before .before .before .if1 .left)) (c .before .before .put-line .ensures)
+returns-2 c = turn-went _ _ _ (c .before .before .before .before .before .before .before .before .before .before .before .before .pre .0) (c .before .before .before .before .before .before .before .before .before .before .before .before .pre .1) (few _ _ (c .before .before .before .before .before .before .before .before .before .before .before .before .pre .0)) _ _ _ _ (c .before .before .before .before .before .before .before .before .step-at .ensures) (omega (arith, c .before .before .before .before .before .if1 .left)) (c .before .before .put-line .ensures)
 
 pub turn-spec : {M : Type 1} → statement M
 turn-spec =

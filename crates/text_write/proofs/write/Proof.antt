@@ -12,11 +12,11 @@ is-valid-requires c κs = search needs
 
 returns : tie.Need-returns
 returns c =
-    let a = c .before .before .before .before .before .args in
-    says-17 (a .w .now) (a .t2) (a .buf .now) (sym (c .before .is-valid .ensures) ∙ not-true _ (c .if1 .taken))
+    let a = c .before .before .before .args in
+    says-17 (a .w .now) (record { c = a .c .now; n = a .n }) (a .buf .now) (sym (c .before .is-valid .ensures) ∙ not-true _ (c .if1 .taken))
 
 write-valid-requires : tie.Need-write-valid-requires
-write-valid-requires c κs = sym (c .before .before .before .before .is-valid .ensures) ∙ not-false _ (c .before .before .before .if1 .left)
+write-valid-requires c κs = sym (c .before .before .is-valid .ensures) ∙ not-false _ (c .before .if1 .left)
 
 same-length : tie.Need-same-length
 same-length c = search needs

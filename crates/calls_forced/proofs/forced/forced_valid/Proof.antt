@@ -18,10 +18,9 @@ set-of-requires c κs = search needs
 
 returns : tie.Need-returns
 returns c =
-    let a = c .before .before .before .before .before .before .before .before .before .args in
-    let hs = c .before .before .pressed-in .result in
-    let e = set-is (a .w .now) (a .t2) (c .before .before .before .before .before .before .ears-in .result) hs (c .before .before .before .before .before .before .before .before .before .pre) (c .before .before .before .before .before .before .ears-in .ensures) (c .before .before .pressed-in .ensures) in
-    report-is (forcedTest (a .w .now) (a .t2)) (c .set-of .result) (c .set-of .ensures ∙ e)
+    let a = c .before .before .before .before .before .args in
+    let e = set-is (a .w .now) (record { c = a .c .now; n = a .n }) (c .before .before .before .before .ears-in .result) (c .before .before .pressed-in .result) (c .before .before .before .before .before .pre) (c .before .before .before .before .ears-in .ensures) (c .before .before .pressed-in .ensures) in
+    report-is (forcedTest (a .w .now) (record { c = a .c .now; n = a .n })) (c .set-of .result) (c .set-of .ensures ∙ e)
 
 pub forced-valid-spec : {M : Type 1} → statement M
 forced-valid-spec =

@@ -19,56 +19,59 @@ refuse-requires c κs = search needs
 returns : tie.Need-returns
 returns c =
     let a = c .before .before .before .args in
-    let v = c .before .before .before .pre in
-    rw (step-out (a .w .now) (a .st) (a .l) (length (a .records .now)) (omega (arith, c .before .before .word .ensures))) (c .refuse .ensures, refl)
+    rw (step-out (a .w .now) (record { c = a .c .now; n = a .n }) (a .l) (length (a .records .now)) (omega (arith, c .before .before .word .ensures))) (c .refuse .ensures, refl, refl)
+
+sized-requires : tie.Need-sized-requires
+sized-requires c κs = search needs
 
 sweep-requires : tie.Need-sweep-requires
-sweep-requires c κs = (search needs, search needs, search needs)
+sweep-requires c κs = (c .before .before .before .before .before .before .before .pre, c .before .before .before .sized .ensures, search needs)
 
-refuse-requires-2 : tie.Need-refuse-requires-2
-refuse-requires-2 c κs = search needs
+put-back-requires : tie.Need-put-back-requires
+put-back-requires c κs = search needs
 
 returns-2 : tie.Need-returns-2
 returns-2 c =
-    let a = c .before .before .before .before .before .before .before .args in
-    let v = c .before .before .before .before .before .before .before .pre in
-    let h : a .l < locsIn (a .w .now) = omega (arith, c .before .before .before .before .before .before .word .ensures) in
-    rw (step-small (a .w .now) (a .st) (a .l) v _ _ _ (c .before .before .sweep .ensures) h (length (a .records .now)) (c .before .if2 .taken)) (c .refuse2 .ensures, refl)
-
-pass-all-requires : tie.Need-pass-all-requires
-pass-all-requires c κs =
-    let a = c .before .before .before .before .before .before .before .before .before .args in
-    let v = c .before .before .before .before .before .before .before .before .before .pre in
-    let h : a .l < locsIn (a .w .now) = omega (arith, c .before .before .before .before .before .before .before .before .word .ensures) in
-    (swept-good (a .w .now) (a .st) (a .l) v _ _ _ (c .before .before .before .before .sweep .ensures) h, c .before .before .before .before .sweep .ensures .slotted)
-
-refuse-requires-3 : tie.Need-refuse-requires-3
-refuse-requires-3 c κs = search needs
-
-returns-3 : tie.Need-returns-3
-returns-3 c =
     let a = c .before .before .before .before .before .before .before .before .before .before .before .before .args in
     let v = c .before .before .before .before .before .before .before .before .before .before .before .before .pre in
     let h : a .l < locsIn (a .w .now) = omega (arith, c .before .before .before .before .before .before .before .before .before .before .before .word .ensures) in
-    rw (step-full (a .w .now) (a .st) (a .l) v _ _ _ (c .before .before .before .before .before .before .before .sweep .ensures) h (length (a .records .now)) (omega arith) (c .before .before .pass-all .ensures .0 (c .before .if3 .taken))) (c .refuse3 .ensures, refl)
+    rw (step-small (a .w .now) (record { c = a .c .now; n = a .n }) (a .l) v _ _ _ (c .before .before .before .before .sweep .ensures) h (length (a .records .now)) (c .before .before .before .if2 .taken)) (c .put-back .ensures .0, c .put-back .ensures .1, refl)
+
+pass-all-requires : tie.Need-pass-all-requires
+pass-all-requires c κs =
+    let a = c .before .before .before .before .before .before .before .before .before .before .before .before .args in
+    let v = c .before .before .before .before .before .before .before .before .before .before .before .before .pre in
+    let h : a .l < locsIn (a .w .now) = omega (arith, c .before .before .before .before .before .before .before .before .before .before .before .word .ensures) in
+    (swept-good (a .w .now) (record { c = a .c .now; n = a .n }) (a .l) v _ _ _ (c .before .before .before .before .sweep .ensures) h, c .before .before .before .before .sweep .ensures .slotted)
+
+put-back-requires-2 : tie.Need-put-back-requires-2
+put-back-requires-2 c κs = search needs
+
+returns-3 : tie.Need-returns-3
+returns-3 c =
+    let a = c .before .before .before .before .before .before .before .before .before .before .before .before .before .before .before .before .before .args in
+    let v = c .before .before .before .before .before .before .before .before .before .before .before .before .before .before .before .before .before .pre in
+    let h : a .l < locsIn (a .w .now) = omega (arith, c .before .before .before .before .before .before .before .before .before .before .before .before .before .before .before .before .word .ensures) in
+    rw (step-full (a .w .now) (record { c = a .c .now; n = a .n }) (a .l) v _ _ _ (c .before .before .before .before .before .before .before .before .before .sweep .ensures) h (length (a .records .now)) (omega arith) (c .before .before .before .before .pass-all .ensures .0 (c .before .before .before .if3 .taken))) (c .put-back2 .ensures .0, c .put-back2 .ensures .1, refl)
 
 put-records-requires : tie.Need-put-records-requires
 put-records-requires c κs =
-    let a = c .before .before .before .before .before .before .before .before .before .before .before .before .before .args in
-    let v = c .before .before .before .before .before .before .before .before .before .before .before .before .before .pre in
+    let a = c .before .before .before .before .before .before .before .before .before .before .before .before .before .before .before .before .args in
+    let v = c .before .before .before .before .before .before .before .before .before .before .before .before .before .before .before .before .pre in
     let s = c .before .before .before .before .before .before .before .before .sweep .ensures in
-    (s .room, omega (arith, s .few, few-comps (a .w .now) (a .st) v), omega arith)
+    (s .room, omega (arith, s .few, few-comps (a .w .now) (record { c = a .c .now; n = a .n }) v), omega arith)
 
 same-length : tie.Need-same-length
 same-length c = search needs
 
 returns-4 : tie.Need-returns-4
 returns-4 c =
-    let a = c .before .before .before .before .before .before .before .before .before .before .before .before .before .before .before .args in
-    let v = c .before .before .before .before .before .before .before .before .before .before .before .before .before .before .before .pre in
-    let h : a .l < locsIn (a .w .now) = omega (arith, c .before .before .before .before .before .before .before .before .before .before .before .before .before .before .word .ensures) in
+    let a = c .before .before .before .before .before .before .before .before .before .before .before .before .before .before .before .before .before .before .args in
+    let v = c .before .before .before .before .before .before .before .before .before .before .before .before .before .before .before .before .before .before .pre in
+    let h : a .l < locsIn (a .w .now) = omega (arith, c .before .before .before .before .before .before .before .before .before .before .before .before .before .before .before .before .before .word .ensures) in
+    let s = c .before .before .before .before .before .before .before .before .before .before .sweep .ensures in
     let p = c .before .before .before .before .before .pass-all .ensures .1 (omega arith) in
-    rw (step-done (a .w .now) (a .st) (a .l) v _ _ _ (c .before .before .before .before .before .before .before .before .before .before .sweep .ensures) h (length (a .records .now)) (omega arith) (omega (arith, p .1))) (step-took (a .w .now) (a .st) (a .l) v _ _ _ (c .before .before .before .before .before .before .before .before .before .before .sweep .ensures) h _ _ _ (p .0) (p .1) (omega (arith, p .1)) (c .before .put-records .ensures))
+    rw (step-done (a .w .now) (record { c = a .c .now; n = a .n }) (a .l) v _ _ _ s h (length (a .records .now)) (omega arith) (omega (arith, p .1))) (step-took (a .w .now) (record { c = a .c .now; n = a .n }) (a .l) v _ _ _ s h _ _ _ _ (p .0) (p .1) (omega (arith, p .1)) (c .before .put-records .ensures))
 
 pub step-valid-spec : {M : Type 1} → statement M
 step-valid-spec =
@@ -77,11 +80,12 @@ step-valid-spec =
     word-requires
     refuse-requires
     returns
+    sized-requires
     sweep-requires
-    refuse-requires-2
+    put-back-requires
     returns-2
     pass-all-requires
-    refuse-requires-3
+    put-back-requires-2
     returns-3
     put-records-requires
     same-length
