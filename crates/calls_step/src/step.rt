@@ -63,8 +63,7 @@ pub fn step_valid(
     if records.len() < count {
         return put_back(15, n, &held, c);
     }
-    let swept = *c;
-    let k = pass::pass_all(w, &swept, n, l, c);
+    let k = pass::pass_all(w, c, n, l);
     if 256 < k {
         return put_back(13, n, &held, c);
     }

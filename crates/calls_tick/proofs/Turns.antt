@@ -3,7 +3,7 @@
 use Prim.Native.Nat.{ℕ, zero, suc, _+_, _-_, _<_, _≤_}
 use native.Mathlib.Omega.{arith}
 use mathlib.Core.List.{List, [], _∷_, _++_, flatMap}
-use mathlib.Core.Bool.{Bool, true, false, cond}
+use mathlib.Core.Bool.{Bool, true, false, cond, false≢true}
 use mathlib.Core.Path.{_≡_, refl, sym, ap, _∙_}
 use lib.Dec.{eqb, ltb}
 use lib.ListN.{length, drop, length-append}
@@ -19,7 +19,7 @@ use Rattle.table.proofs.Tests.{inner, part-fine, comp-fine}
 use Rattle.table.proofs.Places.{out-fine, in-fine}
 use Rattle.table.proofs.Kept.{pass-some}
 use Rattle.calls_tick.specs.declared.Turn.{Turn}
-use Rattle.calls_tick.specs.Turn.{whole, stepOf, partOf, elseTurn, waitTurn, firstTurn, turnOf, restOf, remaining}
+use Rattle.calls_tick.specs.Turn.{whole, stepOf, partOf, elseTurn, waitTurn, firstTurn, turnOf, touches, restOf, remaining}
 
 -- ── a split, part by part ──
 next-small : (w : List ℕ) (i n : ℕ) → nextOk w i n ≡ true → n ≤ i
@@ -194,3 +194,14 @@ turn-vals w l c zero = first (ltb (c .mark) 64) (eqb (c .mark) l) (eqb (c .loc) 
     first true false y h = refl
     first false x true h = wait h
     first false x false h = refl
+
+-- what the tick does not touch stays as it is
+pub untouched : (w : List ℕ) (l : ℕ) (c : Comp) → touches l c ≡ false → passed w l c ≡ c ∷ []
+unfolding touches passed
+untouched w l c e = go (ltb (c .mark) 64) (eqb (c .mark) l) (eqb (c .loc) l) _ _ e
+  where
+    go : (a b d : Bool) (xs ys : List Comp) → cond a b d ≡ false → cond a (cond b xs (c ∷ [])) (cond d ys (c ∷ [])) ≡ c ∷ []
+    go true true d xs ys e = absurd (false≢true (sym e))
+    go true false d xs ys e = refl
+    go false b true xs ys e = absurd (false≢true (sym e))
+    go false b false xs ys e = refl

@@ -1,18 +1,19 @@
 -- What the answer of a tick stands for: document 01, *The tick at l* and *Questions, asked downward*.
 use Prim.Native.Nat.{ℕ, _<_, _≤_}
-use mathlib.Core.List.{List}
+use mathlib.Core.List.{List, _++_}
 use mathlib.Core.Bool.{true}
 use mathlib.Core.Path.{_≡_}
 use lib.Dec.{leb, ltb}
-use lib.ListN.{length}
+use lib.ListN.{length, drop}
 use Rattle.terms.specs.Terms.{Component}
 use Rattle.terms.specs.Rules.{Answer, _>>=_, tick}
 use Rattle.terms.specs.Rules.Answer.{refused, accepted}
 use Rattle.table.specs.declared.Comp.{Comp}
 use Rattle.table.specs.declared.State.{State}
 use Rattle.table.specs.Words.{locsIn, locName}
-use Rattle.table.specs.Meaning.{defsOf, compsOf, netOf}
+use Rattle.table.specs.Meaning.{listFrom, compIn, defsOf, compsOf, netOf}
 use Rattle.table.specs.Valid.{valid}
+use Rattle.table.specs.Fire.{passedAll}
 use Rattle.calls_act.specs.Acted.{asked}
 use Rattle.calls_tick.specs.declared.Ticked.{Ticked}
 
@@ -45,3 +46,14 @@ ticksAs w st (accepted cs) r = Took w cs r
 -- what the tick's pass over all components gives: it is full if there is no room, else the components are these
 abbrev pub passes : List Comp → List ℕ → ℕ → Type 0
 passes cs out k = (256 < k → 256 < length cs) × (k ≤ 256 → (compsOf (record { c = out; n = k }) ≡ cs) × (k ≡ length cs))
+
+-- what out holds up to j, and then what the tick leaves of the components from j on
+abbrev pub passedFrom : List ℕ → ℕ → State → ℕ → List ℕ → List Comp
+passedFrom w l st j out = listFrom 0 j (compIn out) ++ passedAll w l (drop j (compsOf st))
+
+-- the first i components have passed in place, one for each, and the others are as they were
+pub record PassedHere (w : List ℕ) (l : ℕ) (st : State) (out : List ℕ) (i : ℕ) : Type 0 where
+  pub few : i ≤ st .n
+  pub size : length out ≡ 3_072
+  pub front : passedFrom w l st i out ≡ passedAll w l (compsOf st)
+  pub rest : (m : ℕ) → i ≤ m → compIn out m ≡ compIn (st .c) m

@@ -1,7 +1,7 @@
 -- The tick, one component written at a time: what the contracts of `pass` cite.
 use Prim.Native.Nat.{ℕ, zero, suc, _+_}
 use mathlib.Core.List.{List, [], _∷_, _++_}
-use mathlib.Core.Bool.{cond}
+use mathlib.Core.Bool.{Bool, cond}
 use lib.Dec.{eqb, ltb}
 use Rattle.terms.specs.Clock.{lessRaw}
 use Rattle.table.specs.declared.Comp.{Comp}
@@ -48,6 +48,10 @@ firstTurn w l c =
 unfoldable pub turnOf : List ℕ → ℕ → Comp → ℕ → Turn
 turnOf w l c zero = firstTurn w l c
 turnOf w l c (suc j) = partOf w c j
+
+-- has the tick at l anything to do with c?
+unfoldable pub touches : ℕ → Comp → Bool
+touches l c = cond (ltb (c .mark) 64) (eqb (c .mark) l) (eqb (c .loc) l)
 
 -- what is left to be written of c
 unfoldable pub restOf : List ℕ → ℕ → Comp → ℕ → List Comp

@@ -1,4 +1,5 @@
-// Every component in the tick at l, one written at a time. A component that splits has a turn for each of its parts.
+// Every component in the tick at l, one written at a time: in place as long as none splits, then out of a copy. A component that splits has a turn for each
+// of its parts.
 ghost use mathlib.Core.Path.{_≡_};
 ghost use mathlib.Core.Bool.{true};
 ghost use Prim.Native.Nat.{_<_, _≤_};
@@ -9,8 +10,8 @@ ghost use Rattle.table.specs.Valid.{scriptOk, compOk, valid, headOk};
 ghost use Rattle.table.specs.Split.{timerIn, fresh, timed};
 ghost use Rattle.table.specs.Fire.{passedAll};
 ghost use Rattle.terms.specs.Clock.{lessRaw};
-ghost use Rattle.calls_tick.specs.Turn.{whole, partOf, elseTurn, waitTurn, firstTurn, turnOf};
-ghost use Rattle.calls_tick.specs.Ticked.{passes};
+ghost use Rattle.calls_tick.specs.Turn.{whole, partOf, elseTurn, waitTurn, firstTurn, turnOf, touches};
+ghost use Rattle.calls_tick.specs.Ticked.{passes, passedFrom, PassedHere};
 use super::Turn;
 use table::Comp;
 use table::Head;
@@ -144,13 +145,53 @@ fn turn(w: &[u32; 99592], l: u32, c: Comp, next: u32) -> Turn
     part_turn(w, c, next - 1)
 }
 
-// Every component in the tick at l, written to out: how many they are, or 257 if there is no room for all.
-pub fn pass_all(w: &[u32; 99592], c: &[u32; 3072], n: usize, l: u32, out: &mut [u32; 3072]) -> usize
-    requires { ⌜ (valid (now w) (record { c = now c; n = n }) ≡ true) × (length (now out) ≡ 3072) ⌝ }
-    ensures { λ r. ⌜ passes (passedAll (now (w .entry)) l (compsOf (record { c = now (c .entry); n = n }))) (now (out .exit)) r ⌝ }
+// Has the tick at l anything to do with c?
+fn touched(l: u32, c: Comp) -> bool
+    ensures { λ r. ⌜ r ≡ touches l c ⌝ }
 {
-    let mut k: usize = 0;
+    if 64 <= c.mark {
+        return c.loc == l;
+    }
+    c.mark == l
+}
+
+// The components in place, up to the first that splits: its position, or n. One that the tick does not touch is left alone.
+fn pass_here(w: &[u32; 99592], c: &mut [u32; 3072], n: usize, l: u32) -> usize
+    requires { ⌜ (valid (now w) (record { c = now c; n = n }) ≡ true) × (length (now c) ≡ 3072) ⌝ }
+    ensures { λ r. ⌜ PassedHere (now (w .entry)) l (record { c = now (c .entry); n = n }) (now (c .exit)) r ⌝ }
+{
     let mut i: usize = 0;
+    while i < n {
+        let x = comp_at(c, i);
+        if !touched(l, x) {
+            i += 1;
+            continue;
+        }
+        let t = turn(w, l, x, 0);
+        if t.next != 0 {
+            return i;
+        }
+        let d = t.comp;
+        put_comp(c, i, d);
+        i += 1;
+    }
+    i
+}
+
+// The components from position j on, written to out behind those that are there: how many they are with these, or 257 if there is no room for all.
+fn pass_rest(
+    w: &[u32; 99592],
+    c: &[u32; 3072],
+    n: usize,
+    l: u32,
+    j: usize,
+    out: &mut [u32; 3072],
+) -> usize
+    requires { ⌜ (valid (now w) (record { c = now c; n = n }) ≡ true) × (length (now out) ≡ 3072) × (j ≤ n) ⌝ }
+    ensures { λ r. ⌜ passes (passedFrom (now (w .entry)) l (record { c = now (c .entry); n = n }) j (now (out .entry))) (now (out .exit)) r ⌝ }
+{
+    let mut k = j;
+    let mut i = j;
     let mut next: u32 = 0;
     while i < n {
         if 256 <= k {
@@ -165,4 +206,17 @@ pub fn pass_all(w: &[u32; 99592], c: &[u32; 3072], n: usize, l: u32, out: &mut [
         i += t.step;
     }
     k
+}
+
+// Every component in the tick at l, in the lent ones: how many they are, or 257 if there is no room for all, and then what the lent ones hold is of no use.
+pub fn pass_all(w: &[u32; 99592], c: &mut [u32; 3072], n: usize, l: u32) -> usize
+    requires { ⌜ (valid (now w) (record { c = now c; n = n }) ≡ true) × (length (now c) ≡ 3072) ⌝ }
+    ensures { λ r. ⌜ passes (passedAll (now (w .entry)) l (compsOf (record { c = now (c .entry); n = n }))) (now (c .exit)) r ⌝ }
+{
+    let j = pass_here(w, c, n, l);
+    if n <= j {
+        return n;
+    }
+    let rest = *c;
+    pass_rest(w, &rest, n, l, j, c)
 }

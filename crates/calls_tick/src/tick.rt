@@ -29,7 +29,7 @@ pub fn tick_valid(w: &[u32; 99592], st: State, l: u32) -> Ticked
         return refuse(12, st);
     }
     let mut out = st;
-    let k = pass::pass_all(w, &st.c, st.n, l, &mut out.c);
+    let k = pass::pass_all(w, &mut out.c, st.n, l);
     if 256 < k {
         return refuse(13, st);
     }

@@ -1,22 +1,23 @@
 -- Names that stand at equal distances: what has been shown of each of them, or of a pair, is shown of their list.
 -- By the laws of loops, at the list of f of each number below n.
-use Prim.Native.Nat.{ℕ, suc, _+_, _*_, _-_, _≤_, _<_}
+use Prim.Native.Nat.{ℕ, suc, _+_, _*_, _-_, _%_, _≤_, _<_}
 use native.Mathlib.Nat.{mul-le-mul}
 use native.Mathlib.Omega.{arith}
 use native.Mathlib.Numerals.{add-one}
 use mathlib.Core.List.{List, []}
 use mathlib.Core.Bool.{Bool, true, false}
-use mathlib.Core.Path.{_≡_, refl, ap, sym, subst, _∙_}
+use mathlib.Core.Path.{_≡_, refl, ap, sym, _∙_}
 use lib.Bits.{bitXor}
+use lib.Dec.{eqb}
 use lib.ListN.{length, getD, set, drop, length-drop}
 use lib.Seq.{getD-drop, getD-set-same, getD-set-other}
-use borrow.Author.Count.{below-more}
+use borrow.Author.Tests.{eqb-true, eqb-false}
 use Rattle.terms.specs.Names.{Name, sameName}
 use Rattle.terms.specs.Same.{every}
 use Rattle.terms.proofs.Names.{name-eq}
 use Rattle.terms.specs.Letters.{member, distinct}
 use Rattle.table.specs.Meaning.{listFrom}
-use Rattle.table.specs.Tests.{Mixed}
+use Rattle.table.specs.Tests.{Mixed, Noted}
 use Rattle.table.proofs.Names.{Words, key-injective}
 use Rattle.table.proofs.ValidLists.{every-all, every-miss, member-hit, member-none, distinct-all, distinct-miss, listFrom-length, listFrom-at}
 
@@ -66,7 +67,7 @@ module _ (n : ℕ) (f : ℕ → Name) where
   pub apart-miss : (k : ℕ) → k < n → member (f k) (drop (k + 1) (listFrom 0 n f)) ≡ true → distinct (listFrom 0 n f) ≡ false
   apart-miss k b e = distinct-miss (listFrom 0 n f) k (omega (arith, listFrom-length 0 n f)) (apart-at k b true e)
 
--- ── the words of each name as one ──
+-- ── a number for each name ──
 pub mixed-apart : {x y : Name} {m n : ℕ} → Mixed x m → Mixed y n → (n ≡ m → ⊥) → sameName x y ≡ false
 mixed-apart {x} {y} {m} {n} p q d = go (sameName x y) refl
   where
@@ -76,12 +77,17 @@ mixed-apart {x} {y} {m} {n} p q d = go (sameName x y) refl
     go : (t : Bool) → sameName x y ≡ t → t ≡ false
     go true e =
         let z : p .key ≡ q .key = key-injective (p .key) (q .key) (words p) (words q) (p .name ∙ name-eq x y e ∙ sym (q .name)) in
-        absurd (d (q .mix ∙ ap (λ k. bitXor (bitXor (bitXor (k .a) (k .b)) (k .c)) (k .d)) (sym z) ∙ sym (p .mix)))
+        absurd (d (q .mix ∙ ap (λ k. bitXor (bitXor (bitXor (k .a) (k .b)) (k .c)) (k .d) % 1_013) (sym z) ∙ sym (p .mix)))
     go false e = refl
 
-pub stored-more : {A : Type 0} (P : ℕ → A → Type 0) (l : List A) (j : ℕ) (v d : A) → j < length l → ((k : ℕ) → k < j → P k (getD l k d)) → P j v
-    → (k : ℕ) → k < j + 1 → P k (getD (set l j v) k d)
-stored-more P l j v d b h p =
-    below-more (λ k. P k (getD (set l j v) k d)) j
-    (λ k c. subst (P k) (sym (getD-set-other l j k v d (λ e. omega arith))) (h k c))
-    (subst (P j) (sym (getD-set-same l j v d b)) p)
+pub noted-here : (seen : List ℕ) (x : Name) (h : ℕ) → length seen ≡ 1_013 → Mixed x h → Noted (set seen h 1) x
+noted-here seen x h n m = record { at = h; mixed = m; one = getD-set-same seen h 1 0 (omega (arith, m .below)) }
+
+pub noted-still : (seen : List ℕ) (x : Name) (h : ℕ) → length seen ≡ 1_013 → Noted seen x → Noted (set seen h 1) x
+noted-still seen x h n m = record { at = m .at; mixed = m .mixed; one = go (eqb (m .at) h) refl }
+  where
+    go : (t : Bool) → eqb (m .at) h ≡ t → getD (set seen h 1) (m .at) 0 ≡ 1
+    go true e =
+        let f = eqb-true (m .at) h e in
+        ap (λ k. getD (set seen h 1) k 0) f ∙ getD-set-same seen h 1 0 (omega (arith, m .mixed .below))
+    go false e = getD-set-other seen h (m .at) 1 0 (eqb-false (m .at) h e) ∙ m .one

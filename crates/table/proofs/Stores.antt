@@ -1,12 +1,12 @@
 -- Words after a run of stores: those stored, and the others as they were. By induction on the run.
-use Prim.Native.Nat.{ℕ, zero, suc, _+_, _*_, _≤_, _<_}
+use Prim.Native.Nat.{ℕ, zero, suc, _+_, _-_, _*_, _≤_, _<_}
 use native.Mathlib.Omega.{arith}
 use native.Mathlib.Numerals.{add-one}
 use mathlib.Core.Bool.{Bool, true, false}
 use mathlib.Core.List.{List, [], _∷_, _++_}
 use mathlib.Core.Path.{_≡_, refl, ap, ap₂, sym, _∙_}
 use lib.Dec.{ltb}
-use lib.ListN.{length, getD, set, length-set}
+use lib.ListN.{length, getD, set, drop, length-set}
 use borrow.Author.Tests.{ltb-true, ltb-false}
 use lib.Seq.{sets, getD-set-same, getD-set-other}
 use Rattle.terms.specs.Rules as R
@@ -72,7 +72,7 @@ module _ (c : List ℕ) (p : ℕ) (x : Comp) where
     first : word after (k * 12) ≡ word c (k * 12)
     first = let e : k * 12 ≡ k * 12 + 0 = omega arith in ap (word after) e ∙ same 0 (omega arith) ∙ ap (word c) (sym e)
 
-    put-other : compIn after k ≡ compIn c k
+    pub put-other : compIn after k ≡ compIn c k
     unfolding compIn
     put-other =
         rw
@@ -105,7 +105,7 @@ module _ (c : List ℕ) (p : ℕ) (x : Comp) where
         (ap (λ v. record { loc = x .loc; mark = x .mark; place = x .place; timer = x .timer; vals = v }) (eight (x .vals) e))
 
 -- ── a list by numbers, of which one is another ──
-listFrom-same : {A : Type 0} (k n : ℕ) (f g : ℕ → A) → ((j : ℕ) → k ≤ j → g j ≡ f j) → listFrom k n g ≡ listFrom k n f
+pub listFrom-same : {A : Type 0} (k n : ℕ) (f g : ℕ → A) → ((j : ℕ) → k ≤ j → g j ≡ f j) → listFrom k n g ≡ listFrom k n f
 unfolding listFrom
 listFrom-same k zero f g h = refl
 listFrom-same k (suc n) f g h = rw (h k (omega arith), listFrom-same (suc k) n f g (λ j b. h j (omega arith)))
@@ -135,10 +135,22 @@ unfolding listFrom
 listFrom-until i zero f g h = refl
 listFrom-until i (suc n) f g h = rw (h i (omega arith), listFrom-until (suc i) n f g (λ j b. h j (omega arith)))
 
-listFrom-end : {A : Type 0} (i n : ℕ) (f : ℕ → A) → listFrom i (suc n) f ≡ listFrom i n f ++ (f (i + n) ∷ [])
+pub listFrom-end : {A : Type 0} (i n : ℕ) (f : ℕ → A) → listFrom i (suc n) f ≡ listFrom i n f ++ (f (i + n) ∷ [])
 unfolding listFrom
 listFrom-end i zero f = let e : i + 0 ≡ i = omega arith in rw e
 listFrom-end i (suc n) f = let e : i + suc n ≡ suc i + n = omega arith in rw e (ap (λ z. f i ∷ z) (listFrom-end (suc i) n f))
+
+pub drop-from : {A : Type 0} (k n j : ℕ) (f : ℕ → A) → drop j (listFrom k n f) ≡ listFrom (k + j) (n - j) f
+unfolding listFrom
+drop-from k n zero f =
+    let a : k + 0 ≡ k = omega arith in
+    let b : n - 0 ≡ n = omega arith in
+    rw (a, b)
+drop-from k zero (suc j) f = let b : 0 - suc j ≡ 0 = omega arith in rw b
+drop-from k (suc n) (suc j) f =
+    let a : k + suc j ≡ suc k + j = omega arith in
+    let b : suc n - suc j ≡ n - j = omega arith in
+    rw (a, b) (drop-from (suc k) n j f)
 
 pub comps-more : (c : List ℕ) (k : ℕ) (x : Comp) → k < 256 → length c ≡ 3_072 → length (x .vals) ≡ 8
     → listFrom 0 (k + 1) (compIn (sets c (k * 12) (wordsIn x))) ≡ listFrom 0 k (compIn c) ++ (x ∷ [])

@@ -1,10 +1,11 @@
 -- What the contracts of internal functions cite: a name by its four words, names at equal distances, and the parts of a part's test.
-use Prim.Native.Nat.{ℕ, suc, _+_, _*_, _≤_, _<_}
+use Prim.Native.Nat.{ℕ, suc, _+_, _*_, _%_, _≤_, _<_}
 use mathlib.Core.List.{List, [], _∷_}
 use mathlib.Core.Bool.{Bool, _&&_}
 use mathlib.Core.Path.{_≡_}
 use lib.Bits.{bitXor}
 use lib.Dec.{eqb, leb, ltb}
+use lib.ListN.{getD}
 use Rattle.terms.specs.Names.{Name}
 use Rattle.terms.specs.Characters.{Class, isCapital, isLower, isLetter}
 use Rattle.table.specs.declared.Head.{Head}
@@ -29,12 +30,19 @@ firstOf Identifier c = isLetter c
 unfoldable pub rowName : List ℕ → ℕ → ℕ → ℕ → Name
 rowName w o s j = nameAt w (o + j * s)
 
--- m is the four words of the name x as one
+-- m is a number below 1,013 from the four words of the name x
 pub record Mixed (x : Name) (m : ℕ) : Type 0 where
   pub key : Key
   pub small : (key .a < 4_294_967_296) × (key .b < 4_294_967_296) × (key .c < 4_294_967_296) × (key .d < 4_294_967_296)
   pub name : keyName key ≡ x
-  pub mix : m ≡ bitXor (bitXor (bitXor (key .a) (key .b)) (key .c)) (key .d)
+  pub mix : m ≡ bitXor (bitXor (bitXor (key .a) (key .b)) (key .c)) (key .d) % 1_013
+  pub below : m < 1_013
+
+-- a 1 stands at the number of the name x
+pub record Noted (seen : List ℕ) (x : Name) : Type 0 where
+  pub at : ℕ
+  pub mixed : Mixed x at
+  pub one : getD seen at 0 ≡ 1
 
 -- ── counts ──
 unfoldable pub countsOk : List ℕ → Bool

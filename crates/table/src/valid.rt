@@ -10,7 +10,7 @@ ghost use Rattle.terms.specs.Letters.{member, isName, distinct};
 ghost use Rattle.table.specs.Words.{partsIn, defsIn, field, scopeAt, nameAt, namesAt, paramsAt, arityOf, atMost8};
 ghost use Rattle.table.specs.Meaning.{listFrom};
 ghost use Rattle.table.specs.Valid.{alike, index, below, timerOk, slotOk, refOk, innerOk, entered, partOk, defOk, scriptOk, compOk, stateOk, valid};
-ghost use Rattle.table.specs.Tests.{keyName, firstOf, rowName, Mixed, Scoped, slots, restOk, endOk, sendOk, countsOk};
+ghost use Rattle.table.specs.Tests.{keyName, firstOf, rowName, Mixed, Noted, Scoped, slots, restOk, endOk, sendOk, countsOk};
 ghost use Rattle.table.specs.declared.Head.the-variants.{Go, Out, In, Call};
 use super::Comp;
 use super::Key;
@@ -341,43 +341,12 @@ fn names_ok(w: &[u32; 99592], f: Sort, o: usize, s: usize, n: usize) -> bool
     true
 }
 
-// The words of the name at o as one: names of which these differ are different.
-fn mixed(w: &[u32; 99592], o: usize) -> u32
+// A number below 1,013 from the words of the name at o: names of which these differ are different.
+fn mixed(w: &[u32; 99592], o: usize) -> usize
     ensures { λ r. ⌜ Mixed (nameAt (now (w .entry)) o) r ⌝ }
 {
     let x = key_at(w, o);
-    x.a ^ x.b ^ x.c ^ x.d
-}
-
-// The same of each of these names.
-fn mixes(w: &[u32; 99592], o: usize, s: usize, n: usize) -> [u32; 64]
-    requires { ⌜ (o ≤ 2000) × (s ≤ 24) × (n ≤ 64) ⌝ }
-    ensures { λ r. ⌜ ((k : ℕ) → k < n → Mixed (rowName (now (w .entry)) o s k) (getD r k 0)) ⌝ }
-{
-    let mut out = [0u32; 64];
-    let mut j = 0;
-    while j < n {
-        out[j] = mixed(w, o + j * s);
-        j += 1;
-    }
-    out
-}
-
-// Does the number at i stand among the first n after it? One pass with no way out of it, which the compiler makes several comparisons at once.
-fn mixed_again(m: &[u32; 64], n: usize, i: usize) -> bool
-    requires { ⌜ (n ≤ 64) × (i < n) ⌝ }
-    ensures { λ r. ⌜ (r ≡ false → (k : ℕ) → k < n → i < k → getD (now (m .entry)) k 0 ≡ getD (now (m .entry)) i 0 → ⊥) ⌝ }
-{
-    let x = m[i];
-    let mut again = false;
-    let mut k = i + 1;
-    while k < n {
-        if m[k] == x {
-            again = true;
-        }
-        k += 1;
-    }
-    again
+    wide((x.a ^ x.b ^ x.c ^ x.d) % 1013)
 }
 
 // Does name i of these stand among those after it?
@@ -396,29 +365,40 @@ fn named_again(w: &[u32; 99592], o: usize, s: usize, n: usize, i: usize) -> bool
     false
 }
 
-// The same, where m has the words of each name as one: only a name that may stand again is compared with the others.
-fn held_again(w: &[u32; 99592], m: &[u32; 64], o: usize, s: usize, n: usize, i: usize) -> bool
-    requires { ⌜ (o ≤ 2000) × (s ≤ 24) × (n ≤ 64) × (i < n) × ((k : ℕ) → k < n → Mixed (rowName (now w) o s k) (getD (now m) k 0)) ⌝ }
+// The same, where the numbers of those after it were noted, and h is its own: only a name whose number was noted is compared with the others.
+fn held_again(
+    w: &[u32; 99592],
+    seen: &[u8; 1013],
+    h: usize,
+    o: usize,
+    s: usize,
+    n: usize,
+    i: usize,
+) -> bool
+    requires { ⌜ (o ≤ 2000) × (s ≤ 24) × (n ≤ 64) × (i < n) × Mixed (rowName (now w) o s i) h × ((k : ℕ) → i + 1 ≤ k → k < n → Noted (now seen) (rowName (now w) o s k)) ⌝ }
     ensures { λ r. ⌜ r ≡ member (rowName (now (w .entry)) o s i) (drop (i + 1) (listFrom 0 n (rowName (now (w .entry)) o s))) ⌝ }
 {
-    if mixed_again(m, n, i) {
-        return named_again(w, o, s, n, i);
+    if seen[h] == 0 {
+        return false;
     }
-    false
+    named_again(w, o, s, n, i)
 }
 
-// Is each of these names held once?
+// Is each of these names held once? From the last on, each is looked for among those after it.
 pub fn all_apart(w: &[u32; 99592], o: usize, s: usize, n: usize) -> bool
     requires { ⌜ (o ≤ 2000) × (s ≤ 24) × (n ≤ 64) ⌝ }
     ensures { λ r. ⌜ r ≡ distinct (listFrom 0 n (rowName (now (w .entry)) o s)) ⌝ }
 {
-    let m = mixes(w, o, s, n);
-    let mut i = 0;
-    while i < n {
-        if held_again(w, &m, o, s, n, i) {
+    let mut seen = [0u8; 1013];
+    let mut i = n;
+    while 0 < i {
+        let j = i - 1;
+        let h = mixed(w, o + j * s);
+        if held_again(w, &seen, h, o, s, n, j) {
             return false;
         }
-        i += 1;
+        seen[h] = 1;
+        i = j;
     }
     true
 }

@@ -39,26 +39,26 @@ returns-2 c =
 
 pass-all-requires : tie.Need-pass-all-requires
 pass-all-requires c κs =
-    let a = c .before .before .before .before .before .before .before .before .before .before .before .before .args in
-    let v = c .before .before .before .before .before .before .before .before .before .before .before .before .pre in
-    let h : a .l < locsIn (a .w .now) = omega (arith, c .before .before .before .before .before .before .before .before .before .before .before .word .ensures) in
-    (swept-good (a .w .now) (record { c = a .c .now; n = a .n }) (a .l) v _ _ _ (c .before .before .before .before .sweep .ensures) h, c .before .before .before .before .sweep .ensures .slotted)
+    let a = c .before .before .before .before .before .before .before .before .before .before .args in
+    let v = c .before .before .before .before .before .before .before .before .before .before .pre in
+    let h : a .l < locsIn (a .w .now) = omega (arith, c .before .before .before .before .before .before .before .before .before .word .ensures) in
+    (swept-good (a .w .now) (record { c = a .c .now; n = a .n }) (a .l) v _ _ _ (c .before .before .sweep .ensures) h, c .before .before .sweep .ensures .slotted)
 
 put-back-requires-2 : tie.Need-put-back-requires-2
 put-back-requires-2 c κs = search needs
 
 returns-3 : tie.Need-returns-3
 returns-3 c =
-    let a = c .before .before .before .before .before .before .before .before .before .before .before .before .before .before .before .before .before .args in
-    let v = c .before .before .before .before .before .before .before .before .before .before .before .before .before .before .before .before .before .pre in
-    let h : a .l < locsIn (a .w .now) = omega (arith, c .before .before .before .before .before .before .before .before .before .before .before .before .before .before .before .before .word .ensures) in
-    rw (step-full (a .w .now) (record { c = a .c .now; n = a .n }) (a .l) v _ _ _ (c .before .before .before .before .before .before .before .before .before .sweep .ensures) h (length (a .records .now)) (omega arith) (c .before .before .before .before .pass-all .ensures .0 (c .before .before .before .if3 .taken))) (c .put-back2 .ensures .0, c .put-back2 .ensures .1, refl)
+    let a = c .before .before .before .before .before .before .before .before .before .before .before .before .before .before .before .args in
+    let v = c .before .before .before .before .before .before .before .before .before .before .before .before .before .before .before .pre in
+    let h : a .l < locsIn (a .w .now) = omega (arith, c .before .before .before .before .before .before .before .before .before .before .before .before .before .before .word .ensures) in
+    rw (step-full (a .w .now) (record { c = a .c .now; n = a .n }) (a .l) v _ _ _ (c .before .before .before .before .before .before .before .sweep .ensures) h (length (a .records .now)) (omega arith) (c .before .before .before .before .pass-all .ensures .0 (c .before .before .before .if3 .taken))) (c .put-back2 .ensures .0, c .put-back2 .ensures .1, refl)
 
 put-records-requires : tie.Need-put-records-requires
 put-records-requires c κs =
-    let a = c .before .before .before .before .before .before .before .before .before .before .before .before .before .before .before .before .args in
-    let v = c .before .before .before .before .before .before .before .before .before .before .before .before .before .before .before .before .pre in
-    let s = c .before .before .before .before .before .before .before .before .sweep .ensures in
+    let a = c .before .before .before .before .before .before .before .before .before .before .before .before .before .before .args in
+    let v = c .before .before .before .before .before .before .before .before .before .before .before .before .before .before .pre in
+    let s = c .before .before .before .before .before .before .sweep .ensures in
     (s .room, omega (arith, s .few, few-comps (a .w .now) (record { c = a .c .now; n = a .n }) v), omega arith)
 
 same-length : tie.Need-same-length
@@ -66,10 +66,10 @@ same-length c = search needs
 
 returns-4 : tie.Need-returns-4
 returns-4 c =
-    let a = c .before .before .before .before .before .before .before .before .before .before .before .before .before .before .before .before .before .before .args in
-    let v = c .before .before .before .before .before .before .before .before .before .before .before .before .before .before .before .before .before .before .pre in
-    let h : a .l < locsIn (a .w .now) = omega (arith, c .before .before .before .before .before .before .before .before .before .before .before .before .before .before .before .before .before .word .ensures) in
-    let s = c .before .before .before .before .before .before .before .before .before .before .sweep .ensures in
+    let a = c .before .before .before .before .before .before .before .before .before .before .before .before .before .before .before .before .args in
+    let v = c .before .before .before .before .before .before .before .before .before .before .before .before .before .before .before .before .pre in
+    let h : a .l < locsIn (a .w .now) = omega (arith, c .before .before .before .before .before .before .before .before .before .before .before .before .before .before .before .word .ensures) in
+    let s = c .before .before .before .before .before .before .before .before .sweep .ensures in
     let p = c .before .before .before .before .before .pass-all .ensures .1 (omega arith) in
     rw (step-done (a .w .now) (record { c = a .c .now; n = a .n }) (a .l) v _ _ _ s h (length (a .records .now)) (omega arith) (omega (arith, p .1))) (step-took (a .w .now) (record { c = a .c .now; n = a .n }) (a .l) v _ _ _ s h _ _ _ _ (p .0) (p .1) (omega (arith, p .1)) (c .before .put-records .ensures))
 

@@ -1,95 +1,33 @@
--- `pass_all` meets its contract. The loop's invariant: what was written and what remains are what the tick leaves (Passing).
+-- `pass_all` meets its contract: in place, or in place up to the first component that splits and then out of a copy (Passing).
 use native.Mathlib.Omega.{arith}
-use mathlib.Core.Path.{ap, _∙_}
-use Rattle.table.specs.declared.State.{State}
-use Rattle.table.specs.Meaning.{compsOf}
-use Rattle.calls_act.proofs.Positions.{few-comps, valid-parts, comp-good}
-use Rattle.calls_tick.specs.Turn.{turnOf}
-use Rattle.calls_tick.proofs.Passing.{Passing, passing-begin, passing-turn, passing-full, passing-done, left-over, turn-less, step-fits}
+use Rattle.calls_act.proofs.Positions.{few-comps}
+use Rattle.calls_tick.proofs.Passing.{goal-same, here-done, copy-good}
 use Rattle.calls_tick.proofs.pass.pass_all.Statement.{statement}
 use Rattle.calls_tick.proofs.pass.pass_all.Tie as tie
 
-abbrev Inv-loop : tie.InvT-loop
-Inv-loop w c n l out₀ k₀ i₀ next₀ out k i next = Passing w l (record { c = c; n = n }) out k i next
+pass-here-requires : tie.Need-pass-here-requires
+pass-here-requires c κs = c .before .pre
 
-abbrev μ-loop : tie.MeasureT-loop
-μ-loop w c n l out₀ k₀ i₀ next₀ out k i next = left-over n i next
-
-loop-holds : tie.Need-loop-holds Inv-loop μ-loop
-loop-holds c = passing-begin (c .args .w .now) (c .args .l) (record { c = c .args .c .now; n = c .args .n }) (c .args .out .now) (c .pre .1)
-
-returns : tie.Need-returns Inv-loop μ-loop
+returns : tie.Need-returns
 returns c =
     let a = c .before .before .before .args in
-    (λ q. passing-full (a .w .now) (a .l) (record { c = a .c .now; n = a .n }) _ _ _ _ (c .before .before .before .pre .0) (c .before .before .loop .inv) (c .before .loop-test .taken) (c .if1 .taken), λ q. absurd (omega arith))
+    let p = c .before .before .before .pre in
+    let b = few-comps (a .w .now) (record { c = a .c .now; n = a .n }) (p .0) in
+    (λ q. absurd (omega (arith, b, q)), λ q. here-done (a .w .now) (a .l) (record { c = a .c .now; n = a .n }) _ _ (c .before .pass-here .ensures) (c .if1 .taken))
 
-comp-at-requires : tie.Need-comp-at-requires Inv-loop μ-loop
-comp-at-requires c κs = let a = c .before .before .before .args in omega (arith, few-comps (a .w .now) (record { c = a .c .now; n = a .n }) (c .before .before .before .pre .0))
+pass-rest-requires : tie.Need-pass-rest-requires
+pass-rest-requires c κs =
+    let a = c .before .before .before .before .before .before .args in
+    let p = c .before .before .before .before .before .before .pre in
+    let e = c .before .before .before .before .pass-here .ensures in
+    (copy-good (a .w .now) (a .l) (record { c = a .c .now; n = a .n }) _ _ e (p .0), e .size, e .few)
 
-turn-requires : tie.Need-turn-requires Inv-loop μ-loop
-turn-requires c κs =
-    let a = c .before .before .before .before .args in
-    let v = c .before .before .before .before .pre .0 in
-    let st : State = record { c = a .c .now; n = a .n } in
-    (valid-parts (a .w .now) st v .0, rw (c .comp-at .ensures) (comp-good (a .w .now) st v (c .before .before .before .loop .i) (c .before .before .loop-test .taken)), c .before .before .before .loop .inv .part)
-
-put-comp-requires : tie.Need-put-comp-requires Inv-loop μ-loop
-put-comp-requires c κs = omega arith
-
-add-k : tie.Need-add-k Inv-loop μ-loop
-add-k c = omega arith
-
-add-i : tie.Need-add-i Inv-loop μ-loop
-add-i c =
-    let a = c .before .before .before .before .before .before .before .before .before .args in
-    let v = c .before .before .before .before .before .before .before .before .before .pre .0 in
-    let l = c .before .before .before .before .before .before .before .before .loop in
-    let h = c .before .before .before .before .before .before .before .loop-test .taken in
-    let st : State = record { c = a .c .now; n = a .n } in
-    let q = c .before .before .before .before .turn .ensures ∙ ap (λ x. turnOf (a .w .now) (a .l) x (l .next)) (c .before .before .before .before .before .comp-at .ensures) in
-    omega (arith, few-comps (a .w .now) st v, ap (λ t. t .step) q, step-fits (a .w .now) (a .l) st (l .out) (l .k) (l .i) (l .next) v (l .inv) h)
-
-loop-less : tie.Need-loop-less Inv-loop μ-loop
-loop-less c =
-    let a = c .before .before .before .before .before .before .before .before .before .args in
-    let v = c .before .before .before .before .before .before .before .before .before .pre .0 in
-    let l = c .before .before .before .before .before .before .before .before .loop in
-    let h = c .before .before .before .before .before .before .before .loop-test .taken in
-    let st : State = record { c = a .c .now; n = a .n } in
-    let q = c .before .before .before .before .turn .ensures ∙ ap (λ x. turnOf (a .w .now) (a .l) x (l .next)) (c .before .before .before .before .before .comp-at .ensures) in
-    rw q (turn-less (a .w .now) (a .l) st (l .out) (l .k) (l .i) (l .next) v (l .inv) h)
-
-loop-again : tie.Need-loop-again Inv-loop μ-loop
-loop-again c =
-    let a = c .before .before .before .before .before .before .before .before .before .args in
-    let v = c .before .before .before .before .before .before .before .before .before .pre .0 in
-    let l = c .before .before .before .before .before .before .before .before .loop in
-    let h = c .before .before .before .before .before .before .before .loop-test .taken in
-    let st : State = record { c = a .c .now; n = a .n } in
-    let q = c .before .before .before .before .turn .ensures ∙ ap (λ x. turnOf (a .w .now) (a .l) x (l .next)) (c .before .before .before .before .before .comp-at .ensures) in
-    rw (c .before .put-comp .ensures, q) (passing-turn (a .w .now) (a .l) st (l .out) (l .k) (l .i) (l .next) v (l .inv) h (omega arith))
-
-returns-2 : tie.Need-returns-2 Inv-loop μ-loop
-unfolding compsOf
+returns-2 : tie.Need-returns-2
 returns-2 c =
-    let a = c .before .before .args in
-    let i = c .before .loop .inv in
-    let d = passing-done (a .w .now) (a .l) (record { c = a .c .now; n = a .n }) _ _ _ _ i (omega arith) in
-    (λ q. absurd (omega (arith, i .few-k)), λ q. d)
+    let a = c .before .before .before .before .before .before .before .args in
+    let p = c .before .before .before .before .before .before .before .pre in
+    rw (goal-same (a .w .now) (a .l) (record { c = a .c .now; n = a .n }) _ _ (c .before .before .before .before .before .pass-here .ensures)) at (c .pass-rest .ensures)
 
 pub pass-all-spec : {M : Type 1} → statement M
 pass-all-spec =
-    tie.close
-    (tie.spec
-    Inv-loop
-    μ-loop
-    loop-holds
-    returns
-    comp-at-requires
-    turn-requires
-    put-comp-requires
-    add-k
-    add-i
-    loop-less
-    loop-again
-    returns-2)
+    tie.close (tie.spec pass-here-requires returns pass-rest-requires returns-2)

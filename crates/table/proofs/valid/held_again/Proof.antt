@@ -1,28 +1,30 @@
--- Names are compared where the numbers leave it open; where no number stands again, no name does.
+-- Names are compared where the numbers leave it open; where a number was not noted, no name after it is the same.
 -- By the law that names whose numbers differ are different.
-use mathlib.Core.Path.{sym}
+use native.Mathlib.Omega.{arith}
+use mathlib.Core.Path.{sym, ap, _∙_}
+use lib.ListN.{getD}
 use borrow.Author.Needs.{needs}
 use Rattle.table.specs.Tests.{rowName}
 use Rattle.table.proofs.NamesRows.{again-none, mixed-apart}
 use Rattle.table.proofs.valid.held_again.Statement.{statement}
 use Rattle.table.proofs.valid.held_again.Tie as tie
 
-mixed-again-requires : tie.Need-mixed-again-requires
-mixed-again-requires c κs = search needs
+element-copy-out-if1 : tie.Need-element-copy-out-if1
+element-copy-out-if1 c = c .pre .4 .below
+
+returns : tie.Need-returns
+returns c =
+    let a = c .before .before .args in
+    let p = c .before .before .pre in
+    let f = rowName (a .w .now) (a .o) (a .s) in
+    sym (again-none (a .n) f (f (a .i)) (a .i) (λ k b d. let m = p .5 k (omega arith) b in mixed-apart (p .4) (m .mixed) (λ e. let z = sym (m .one) ∙ ap (λ x. getD (a .seen .now) x 0) e ∙ c .if1 .taken in omega (arith, z))))
 
 named-again-requires : tie.Need-named-again-requires
 named-again-requires c κs = search needs
 
-returns : tie.Need-returns
-returns c = c .named-again .ensures
-
 returns-2 : tie.Need-returns-2
-returns-2 c =
-    let a = c .before .before .args in
-    let p = c .before .before .pre in
-    let f = rowName (a .w .now) (a .o) (a .s) in
-    sym (again-none (a .n) f (f (a .i)) (a .i) (λ k b d. mixed-apart (p .4 (a .i) (p .3)) (p .4 k b) (c .before .mixed-again .ensures (c .if1 .left) k b d)))
+returns-2 c = c .named-again .ensures
 
 pub held-again-spec : {M : Type 1} → statement M
 held-again-spec =
-    tie.close (tie.spec mixed-again-requires named-again-requires returns returns-2)
+    tie.close (tie.spec element-copy-out-if1 returns named-again-requires returns-2)
