@@ -4,7 +4,7 @@ ghost use mathlib.Core.Bool.{false, _&&_, _||_};
 ghost use mathlib.Core.List.{[], _∷_};
 ghost use Prim.Native.Nat.{ℕ, _+_, _*_, _<_, _≤_};
 ghost use lib.Dec.{eqb, ltb};
-ghost use lib.ListN.{take, drop, getD};
+ghost use lib.ListN.{take, drop};
 ghost use Rattle.terms.specs.Same.{every};
 ghost use Rattle.terms.specs.Letters.{member, isName, distinct};
 ghost use Rattle.table.specs.Words.{partsIn, defsIn, field, scopeAt, nameAt, namesAt, paramsAt, arityOf, atMost8};
