@@ -1,6 +1,6 @@
 -- The answer of `read` from the scan, the script and the questions asked of it.
 -- Question by question: the first that is answered by no gives the definition's refusal, and if none is, script and components stand for the network.
-use Prim.Native.Nat.{ℕ, _-_, _≤_, _<_}
+use Prim.Native.Nat.{ℕ, _+_, _-_, _*_, _≤_, _<_}
 use native.Mathlib.Omega.{arith}
 use mathlib.Core.Bool.{Bool, true, false, cond, _&&_, false≢true}
 use mathlib.Core.List.{List, [], _∷_, map}
@@ -30,11 +30,11 @@ use Rattle.table.specs.Words.{word}
 use Rattle.table.specs.Size.{sizeP}
 use Rattle.table.specs.Meaning.{compsOf}
 use Rattle.text_build.specs.Rows.{placeKnown}
-use Rattle.text_tree.specs.Pass.{Within, heads, afterBodies, brackets, spots, started, top, defined, behind, scriptOf, spotsOf}
+use Rattle.text_tree.specs.Pass.{Within, Blank, heads, afterBodies, brackets, spots, started, top, defined, behind, scriptOf, spotsOf}
 use Rattle.text_tree.specs.Asked.{roomy, apart, callsHeld, allBound, compOf}
 use Rattle.text_tree.proofs.Whole.{Whole}
 use Rattle.text_tree.proofs.Heads.{heads-under, heads-stand}
-use Rattle.text_tree.proofs.Reading.{few-params, started-long, whole as stands}
+use Rattle.text_tree.proofs.Reading.{few-params, started-long, started-parts, started-defs, whole as stands}
 use Rattle.text_tree.proofs.Fitting.{roomy-is}
 use Rattle.text_tree.proofs.Network.{network-is, valid-is, count-is}
 use Rattle.text_tree.proofs.AskedApart.{apart-is}
@@ -49,6 +49,9 @@ use Rattle.text_read.specs.Spread.{Spread}
 use Rattle.text_read.specs.Answer.{StateIs, limits, asked, refusal, locationsIn, channelsIn, Took, readsAs}
 use Rattle.text_read.proofs.Spreading.{spread-all}
 use Rattle.text_read.proofs.Quiet.{Quiet, quiet-then, bodies-quiet, brackets-quiet, bodies-same}
+use Rattle.text_read.specs.Front.{Front}
+use Rattle.text_read.proofs.Beyond.{Beyond, filled-beyond}
+use Rattle.text_read.proofs.Kept.{zeros-blank, front-blank}
 
 -- ── 1 to 4 by the scan ──
 -- the text has the form of a tree and keeps the limits that the scan knows
@@ -166,63 +169,61 @@ filled parts defs i e x g r b p = record {
 }
 
 -- ── the script and the places that were written ──
-module _ {s : List ℕ} (x : Ready s) {w v : List ℕ} {parts n : ℕ} (zeros : w ≡ replicate 99_592 0) (p : parts ≡ partCount (x .tree)) (d : n ≡ definitionCount (x .tree)) {out after : List (List ℕ)} {r : ℕ} (f : Filled w v parts n out after r (x .tree)) where
-  started-is : set (set w 0 parts) 3 n ≡ started (x .tree)
+module _ {s : List ℕ} (x : Ready s) {w v : List ℕ} {parts n : ℕ} (blank : Blank w (partCount (x .tree))) (p : parts ≡ partCount (x .tree)) (d : n ≡ definitionCount (x .tree)) {out after : List (List ℕ)} {r : ℕ} (f : Filled w v parts n out after r (x .tree)) where
+  started-is : set (set w 0 parts) 3 n ≡ started w (x .tree)
   unfolding started
-  started-is = ap (λ q. set (set q 0 parts) 3 n) zeros ∙ ap (λ q. set (set (replicate 99_592 0) 0 q) 3 n) p ∙ ap (λ q. set (set (replicate 99_592 0) 0 (partCount (x .tree))) 3 q) d
+  started-is = ap (λ q. set (set w 0 q) 3 n) p ∙ ap (λ q. set (set w 0 (partCount (x .tree))) 3 q) d
 
-  defined-is : definedBy w parts n (x .tree) ≡ defined (x .tree)
+  defined-is : definedBy w parts n (x .tree) ≡ defined w (x .tree)
   unfolding defined definitionCount parameterCount
   defined-is =
       let t = x .tree in
       let few = few-params (t .defs) (x .within .parameters) in
       let m = x .within .definitions in
       ap (λ q. bodiesBy (t .defs) 0 (parts - 1) (heads (t .defs) 0 (parts - 1) q)) started-is
-      ∙ ap (λ q. bodiesBy (t .defs) 0 (q - 1) (heads (t .defs) 0 (q - 1) (started t))) p
-      ∙ bodies-same (t .defs) 0 (top t) (heads (t .defs) 0 (top t) (started t)) few (omega arith) (heads-stand (t .defs) (started t) 0 (top t) (started-long t) (omega arith) few (x .well .defs-well))
+      ∙ ap (λ q. bodiesBy (t .defs) 0 (q - 1) (heads (t .defs) 0 (q - 1) (started w t))) p
+      ∙ bodies-same (t .defs) 0 (top t) (heads (t .defs) 0 (top t) (started w t)) few (omega arith) (heads-stand (t .defs) (started w t) 0 (top t) (started-long w t blank) (omega arith) few (x .well .defs-well))
 
-  pub script-is : v ≡ scriptOf (x .tree)
+  pub script-is : v ≡ scriptOf w (x .tree)
   unfolding scriptOf
   script-is = f .script ∙ ap (λ q. brackets (x .tree .located) (afterBodies (x .tree .defs) (q - 1)) (definedBy w parts n (x .tree))) p ∙ ap (brackets (x .tree .located) (behind (x .tree))) defined-is
 
-  spots-are : Spread out after 0 r (spotsOf (x .tree))
+  spots-are : Spread out after 0 r (spotsOf w (x .tree))
   unfolding spotsOf
   spots-are = rw (ap (λ q. spots (x .tree .located) (afterBodies (x .tree .defs) (q - 1)) (definedBy w parts n (x .tree))) p ∙ ap (spots (x .tree .located) (behind (x .tree))) defined-is) at (f .gathered)
 
   -- all places have space
   module _ (wide : length out ≡ 256) where
-    all : (take r after ≡ spotsOf (x .tree)) × (r ≡ length (spotsOf (x .tree)))
-    all = let k = count-is (x .tree) in let m = x .within .components in spread-all (omega arith) spots-are
+    all : (take r after ≡ spotsOf w (x .tree)) × (r ≡ length (spotsOf w (x .tree)))
+    all = let k = count-is w (x .tree) in let m = x .within .components in spread-all (omega arith) spots-are
 
-    pub places-are : take r after ≡ spotsOf (x .tree)
+    pub places-are : take r after ≡ spotsOf w (x .tree)
     places-are = all .0
 
     pub places-few : r ≤ 256
-    places-few = let k = count-is (x .tree) in let m = x .within .components in let e = all .1 in omega arith
+    places-few = let k = count-is w (x .tree) in let m = x .within .components in let e = all .1 in omega arith
 
-    pub state-is : (st : State) → StateIs v (take r after) st → (st .n ≡ length (spotsOf (x .tree))) × (compsOf st ≡ map (compOf (scriptOf (x .tree))) (spotsOf (x .tree)))
-    state-is st g = (g .count ∙ ap length places-are, g .comps ∙ ap (map (compOf v)) places-are ∙ ap (λ q. map (compOf q) (spotsOf (x .tree))) script-is)
+    pub state-is : (st : State) → StateIs v (take r after) st → (st .n ≡ length (spotsOf w (x .tree))) × (compsOf st ≡ map (compOf (scriptOf w (x .tree))) (spotsOf w (x .tree)))
+    state-is st g = (g .count ∙ ap length places-are, g .comps ∙ ap (map (compOf v)) places-are ∙ ap (λ q. map (compOf q) (spotsOf w (x .tree))) script-is)
 
 -- the numbers of parts and definitions stay as they are
-script-quiet : (t : Tree) → Quiet (heads (t .defs) 0 (top t) (started t)) (scriptOf t)
+script-quiet : (z : List ℕ) (t : Tree) → Quiet (heads (t .defs) 0 (top t) (started z t)) (scriptOf z t)
 unfolding scriptOf defined
-script-quiet t = quiet-then (bodies-quiet (t .defs) 0 (top t) _) (brackets-quiet (t .located) (behind t) _)
+script-quiet z t = quiet-then (bodies-quiet (t .defs) 0 (top t) _) (brackets-quiet (t .located) (behind t) _)
 
-pub parts-kept : (t : Tree) → word (scriptOf t) 0 ≡ partCount t
-unfolding started
-parts-kept t = script-quiet t .same 0 (omega arith) (λ e. omega arith) (λ e. omega arith) (λ e. omega arith) ∙ heads-under (t .defs) (started t) 0 (top t) 0 (omega arith)
+pub parts-kept : (z : List ℕ) (t : Tree) → Blank z (partCount t) → word (scriptOf z t) 0 ≡ partCount t
+parts-kept z t b = script-quiet z t .same 0 (omega arith) (λ e. omega arith) (λ e. omega arith) (λ e. omega arith) ∙ heads-under (t .defs) (started z t) 0 (top t) 0 (omega arith) ∙ started-parts z t b
 
-pub defs-kept : (t : Tree) → word (scriptOf t) 3 ≡ definitionCount t
-unfolding started
-defs-kept t = script-quiet t .same 3 (omega arith) (λ e. omega arith) (λ e. omega arith) (λ e. omega arith) ∙ heads-under (t .defs) (started t) 0 (top t) 3 (omega arith)
+pub defs-kept : (z : List ℕ) (t : Tree) → Blank z (partCount t) → word (scriptOf z t) 3 ≡ definitionCount t
+defs-kept z t b = script-quiet z t .same 3 (omega arith) (λ e. omega arith) (λ e. omega arith) (λ e. omega arith) ∙ heads-under (t .defs) (started z t) 0 (top t) 3 (omega arith) ∙ started-defs z t b
 
 -- ── 4 to 7 by the script ──
-module _ {s : List ℕ} (x : Passing s) where
+module _ {s : List ℕ} (x : Passing s) (base : List ℕ) (blank : Blank base (partCount (x .ready .tree))) where
   abbrev T : Tree
   T = x .ready .tree
 
   abbrev S : List ℕ
-  S = scriptOf T
+  S = scriptOf base T
 
   read-is : read s ≡ (ask 4 (fits T) >> (ask 5 (definedOnce (T .defs)) >> (ask 6 (callsMet T) >> (ask 7 (bound T) >> accepted (networkOf T)))))
   unfolding read
@@ -234,10 +235,10 @@ module _ {s : List ℕ} (x : Passing s) where
     flag = eqb-true _ _ e
 
     abbrev W : Whole T S
-    W = stands T (x .ready .within) (x .ready .well) flag
+    W = stands base T blank (x .ready .within) (x .ready .well) flag
 
     fits-yes : fits T ≡ true
-    fits-yes = roomy-is T (x .ready .within) (x .ready .well) ∙ e
+    fits-yes = roomy-is base T blank (x .ready .within) (x .ready .well) ∙ e
 
     read-4 : read s ≡ (ask 5 (apart S) >> (ask 6 (callsMet T) >> (ask 7 (bound T) >> accepted (networkOf T))))
     read-4 = read-is ∙ rw (fits-yes, apart-is T S W)
@@ -266,11 +267,11 @@ module _ {s : List ℕ} (x : Passing s) where
           known-yes : every (placeKnown S) (places T) ≡ true
           known-yes = known T S W (x .ready .within .parameters) distinct-yes (x .ready .well) calls-yes bound-yes
 
-          took : (st : State) → st .n ≡ length (spotsOf T) → compsOf st ≡ map (compOf S) (spotsOf T) → Took s S (networkOf T) (record { code = 0; state = st })
+          took : (st : State) → st .n ≡ length (spotsOf base T) → compsOf st ≡ map (compOf S) (spotsOf base T) → Took s S (networkOf T) (record { code = 0; state = st })
           took st n c = record {
             code = refl;
-            network = network-is T (x .ready .within) (x .ready .well) flag distinct-yes known-yes st n c;
-            good = valid-is T (x .ready .within) (x .ready .well) flag distinct-yes known-yes st n c;
+            network = network-is base T blank (x .ready .within) (x .ready .well) flag distinct-yes known-yes st n c;
+            good = valid-is base T blank (x .ready .within) (x .ready .well) flag distinct-yes known-yes st n c;
             locs = W .locs ∙ sym (ap locationsIn (x .form-is));
             chans = W .chans ∙ sym (ap channelsIn (x .form-is));
           }
@@ -279,13 +280,13 @@ module _ {s : List ℕ} (x : Passing s) where
   asked-no n = go₁ (roomy S) (apart S) (callsHeld S) (allBound S) refl refl refl refl n
     where
       go₁ : (a b c d : Bool) → roomy S ≡ a → apart S ≡ b → callsHeld S ≡ c → allBound S ≡ d → (_≡_ {A = ℕ} (cond a (cond b (cond c (cond d 0 7) 6) 5) 4) 0 → ⊥) → read s ≡ refused (cond a (cond b (cond c (cond d 0 7) 6) 5) 4)
-      go₁ false b c d e f g h n = read-is ∙ rw (roomy-is T (x .ready .within) (x .ready .well) ∙ e)
+      go₁ false b c d e f g h n = read-is ∙ rw (roomy-is base T blank (x .ready .within) (x .ready .well) ∙ e)
       go₁ true false c d e f g h n = read-4 e ∙ rw f
       go₁ true true false d e f g h n = read-5 e f ∙ rw g
       go₁ true true true false e f g h n = read-6 e f g ∙ rw h
       go₁ true true true true e f g h n = absurd (n refl)
 
-  pub asked-yes : asked S ≡ 0 → (st : State) → st .n ≡ length (spotsOf T) → compsOf st ≡ map (compOf S) (spotsOf T) → (w : List ℕ) → readsAs s (read s) w S (record { code = 0; state = st })
+  pub asked-yes : asked S ≡ 0 → (st : State) → st .n ≡ length (spotsOf base T) → compsOf st ≡ map (compOf S) (spotsOf base T) → (w : List ℕ) → readsAs s (read s) w S (record { code = 0; state = st })
   asked-yes z st n c w = go₁ (roomy S) (apart S) (callsHeld S) (allBound S) refl refl refl refl z
     where
       go₁ : (a b c d : Bool) → roomy S ≡ a → apart S ≡ b → callsHeld S ≡ c → allBound S ≡ d → _≡_ {A = ℕ} (cond a (cond b (cond c (cond d 0 7) 6) 5) 4) 0 → readsAs s (read s) w S (record { code = 0; state = st })
@@ -324,30 +325,44 @@ module _ (s : List ℕ) (c : Scanned) (e : c ≡ scanOf s) (q : ℕ) (l : q ≡ 
         let g = pass .ready .within .definitions in
         (omega arith, omega arith, pass .ready)
 
-    module _ {w₀ v : List ℕ} (zeros : w₀ ≡ replicate 99_592 0) {out after : List (List ℕ)} {n : ℕ} (h : (x : Ready s) → Filled w₀ v (c .parts) (c .definitions) out after n (x .tree)) where
-      now-script : v ≡ scriptOf (pass .ready .tree)
-      now-script = script-is (pass .ready) zeros parts-now defs-now (h (pass .ready))
+    -- what lies behind the rows stays
+    pub beyond-now : {w₀ v : List ℕ} {out after : List (List ℕ)} {n : ℕ} → ((x : Ready s) → Filled w₀ v (c .parts) (c .definitions) out after n (x .tree)) → Beyond (c .parts - 1) w₀ v
+    unfolding parameterCount definitionCount
+    beyond-now {w₀} h =
+        let t = pass .ready .tree in
+        rw (h (pass .ready) .script) (filled-beyond t w₀ (c .parts) (c .definitions) (few-params (t .defs) (pass .ready .within .parameters)) (pass .ready .within .definitions))
+
+    -- a script of zeros, or with zeros in front
+    pub zeros-now : {w : List ℕ} → w ≡ replicate 99_592 0 → Blank w (partCount (pass .ready .tree))
+    zeros-now e = zeros-blank _ _ e (pass .ready .within .parts)
+
+    pub front-now : (m : ℕ) {w v : List ℕ} → length w ≡ 99_592 → m ≡ 1_312 + (c .parts - 1) * 24 → Front m (λ o. 0) w v → Blank v (partCount (pass .ready .tree))
+    front-now m e d p = let n = parts-now in front-blank m _ _ _ e (omega arith) p
+
+    module _ {w₀ v : List ℕ} (blank : Blank w₀ (partCount (pass .ready .tree))) {out after : List (List ℕ)} {n : ℕ} (h : (x : Ready s) → Filled w₀ v (c .parts) (c .definitions) out after n (x .tree)) where
+      now-script : v ≡ scriptOf w₀ (pass .ready .tree)
+      now-script = script-is (pass .ready) blank parts-now defs-now (h (pass .ready))
 
       pub may-ask : (word v 0 ≤ 4_096) × (word v 3 ≤ 32)
       may-ask =
-          let a = ap (λ x. word x 0) now-script ∙ parts-kept (pass .ready .tree) in
-          let b = ap (λ x. word x 3) now-script ∙ defs-kept (pass .ready .tree) in
+          let a = ap (λ x. word x 0) now-script ∙ parts-kept w₀ (pass .ready .tree) blank in
+          let b = ap (λ x. word x 3) now-script ∙ defs-kept w₀ (pass .ready .tree) blank in
           let f = pass .ready .within .parts in
           let g = pass .ready .within .definitions in
           (omega arith, omega arith)
 
       module _ (a : ℕ) (f : a ≡ asked v) where
-        asked-is : a ≡ asked (scriptOf (pass .ready .tree))
+        asked-is : a ≡ asked (scriptOf w₀ (pass .ready .tree))
         asked-is = f ∙ ap asked now-script
 
         pub way-2 : (a ≡ 0 → ⊥) → (w : List ℕ) (r : Reading) → r ≡ refusal a → readsAs s (read s) w w r
-        way-2 m w r g = refused-is (asked (scriptOf (pass .ready .tree))) w r (asked-no pass (λ y. m (asked-is ∙ y))) (g ∙ ap refusal asked-is)
+        way-2 m w r g = refused-is (asked (scriptOf w₀ (pass .ready .tree))) w r (asked-no pass w₀ blank (λ y. m (asked-is ∙ y))) (g ∙ ap refusal asked-is)
 
         module _ (wide : length out ≡ 256) where
           pub may-make : n ≤ 256
-          may-make = places-few (pass .ready) zeros parts-now defs-now (h (pass .ready)) wide
+          may-make = places-few (pass .ready) blank parts-now defs-now (h (pass .ready)) wide
 
           pub way-3 : a ≡ 0 → (w u : List ℕ) → u ≡ v → (st : State) → StateIs v (take n after) st → readsAs s (read s) w u (record { code = 0; state = st })
           way-3 y w u g st k =
-              let p = state-is (pass .ready) zeros parts-now defs-now (h (pass .ready)) wide st k in
-              rw (g ∙ now-script) (asked-yes pass (sym asked-is ∙ y) st (p .0) (p .1) w)
+              let p = state-is (pass .ready) blank parts-now defs-now (h (pass .ready)) wide st k in
+              rw (g ∙ now-script) (asked-yes pass w₀ blank (sym asked-is ∙ y) st (p .0) (p .1) w)

@@ -1,33 +1,43 @@
-// Layer 2, reading and writing: the call `read`. A text is scanned (questions 1 to 4), then written into a script of its own in three passes, which is asked
-// questions 4 to 7; only a text that is accepted reaches the script that was lent.
+// Layer 2, reading and writing: the call `read`. A text is scanned (questions 1 to 4), then written into a script in three passes, which is asked questions
+// 4 to 7; a text that is refused leaves the script that was lent as it was.
 //
 // specs/Ready    a text that has the form and keeps the limits that the scan knows
 // specs/Spread   the places of components, gathered in an array
+// specs/Front    the first words of a list, written
 // specs/Answer   what the call answers
 //
 // definitions  heads and bodies of definitions
 // network      located processes, and where their components stand
 // state        the components of the network
+// front        the first words of a script, kept aside and put back
 //
 // proofs/Defs       definitions, one after the other
 // proofs/Spreading  places gathered in an array
 // proofs/Bracketed  located processes, one after the other
 // proofs/States     components made from their places
-// proofs/Quiet      what the passes leave as it was
+// proofs/Quiet      what the passes leave as it was below the rows
+// proofs/Beyond     and behind the last row
+// proofs/Kept       a script written and put back
 // proofs/Answering  the answer from the scan, the script and the questions asked of it
 ghost use mathlib.Core.Path.{_≡_};
 ghost use Prim.Native.Nat.{_≤_};
 ghost use Rattle.table.specs.Words.{partsIn, defsIn};
+ghost use Rattle.text_scan.specs.Answers.{scanOf};
 ghost use Rattle.text_read.specs.Ready.{Ready, Filled};
 ghost use Rattle.text_read.specs.Answer.{limits, asked, refusal, ReadsAs};
 use definitions::less;
 use definitions::put_bodies;
 use definitions::put_heads;
+use front::clear;
+use front::keep;
+use front::put_back;
+use front::script_sized;
 use network::put_network;
 use state::no_state;
 use state::state_of;
 
 mod definitions;
+mod front;
 mod network;
 mod state;
 
@@ -127,15 +137,33 @@ fn refuse(n: u32) -> Reading
     Reading { code: n, state: st }
 }
 
-// The call `read`: questions 1 to 7, and the network in the lent script and the answer's components.
-pub fn read(text: &[u8], w: &mut [u32; 99592]) -> Reading
+// A text of few parts is written into the lent script itself, with the words in front kept aside: a refusal puts them back.
+fn read_few(text: &[u8], c: text_scan::Scanned, w: &mut [u32; 99592]) -> Reading
+    requires { ⌜ (c ≡ scanOf (now text)) × (limits c ≡ 0) × (c .parts ≤ 128) ⌝ }
     ensures { λ r. ⌜ ReadsAs (now (text .entry)) (now (w .entry)) (now (w .exit)) r ⌝ }
 {
-    let c = text_scan::scan(text);
-    let q = limits(c);
-    if q != 0 {
-        return refuse(q);
+    script_sized(*w);
+    let parts = c.parts as usize;
+    let m = 1312 + less(parts, 1) * 24;
+    let mut kept = [0u32; 4360];
+    keep(w, m, &mut kept);
+    clear(w, m);
+    let mut out = [[0; 2]; 256];
+    let n = fill(text, parts, c.definitions as usize, w, &mut out);
+    let a = asked(w);
+    if a != 0 {
+        put_back(&kept, m, w);
+        return refuse(a);
     }
+    let st = state_of(w, &out, n);
+    Reading { code: 0, state: st }
+}
+
+// Another is written into a script of read's own, which is copied to the lent one when all questions are answered by yes.
+fn read_many(text: &[u8], c: text_scan::Scanned, w: &mut [u32; 99592]) -> Reading
+    requires { ⌜ (c ≡ scanOf (now text)) × (limits c ≡ 0) ⌝ }
+    ensures { λ r. ⌜ ReadsAs (now (text .entry)) (now (w .entry)) (now (w .exit)) r ⌝ }
+{
     let mut v = [0; 99592];
     let mut out = [[0; 2]; 256];
     let n = fill(
@@ -152,4 +180,19 @@ pub fn read(text: &[u8], w: &mut [u32; 99592]) -> Reading
     copy(&v, w);
     let st = state_of(&v, &out, n);
     Reading { code: 0, state: st }
+}
+
+// The call `read`: questions 1 to 7, and the network in the lent script and the answer's components.
+pub fn read(text: &[u8], w: &mut [u32; 99592]) -> Reading
+    ensures { λ r. ⌜ ReadsAs (now (text .entry)) (now (w .entry)) (now (w .exit)) r ⌝ }
+{
+    let c = text_scan::scan(text);
+    let q = limits(c);
+    if q != 0 {
+        return refuse(q);
+    }
+    if c.parts <= 128 {
+        return read_few(text, c, w);
+    }
+    read_many(text, c, w)
 }

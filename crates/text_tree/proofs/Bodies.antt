@@ -76,7 +76,7 @@ pub record Bodies (w v : List ℕ) (ds : List Def) (k i n : ℕ) : Type 0 where
   pub went : Went w v n
   pub stand : DefsStand v ds k i
   pub numbered : NumberedAt w v (flatMap defPlaces ds)
-  pub timely : Timely w → Timely v
+  pub timely : {m : ℕ} → Timely m w → Timely m v
 
 pub bodies-are : (ds : List Def) (k i n : ℕ) (w : List ℕ) → Making w → i ≡ n - 1 → sizeDefs ds ≤ n → n ≤ 4_096 → k + length ds ≤ 32 → FewParams ds → Each WellDef ds → HeadsStand w ds k i
     → word (bodies ds k i w) 4 ≡ 0

@@ -30,7 +30,7 @@ use Rattle.text_build.proofs.Numbers.{names-entered}
 use Rattle.text_build.proofs.Places.{PartFit, Fit, every-split, sizeP-some}
 use Rattle.text_build.proofs.Numbering.{flat-append}
 use Rattle.text_build.proofs.Puts.{leaf-fit, go-fit, out-fit, in-fit, par-fit}
-use Rattle.text_tree.specs.Pass.{Within, noScope, paramScope, bodies, putLocated, brackets, top, defined, behind, scriptOf}
+use Rattle.text_tree.specs.Pass.{Within, Blank, noScope, paramScope, bodies, putLocated, brackets, top, defined, behind, scriptOf}
 use Rattle.text_tree.specs.Asked.{roomy}
 use Rattle.text_tree.proofs.Whole.{DefsStand, AllStand}
 use Rattle.text_tree.proofs.Sizes.{sizeDefs, sizeLocated, parts-are, behind-is}
@@ -144,49 +144,49 @@ brackets-roomy (at l p ∷ ls) i n w m e s t f z r q =
     (fits-rest w _ (locatedNames (at l p)) (flatMap locatedNames ls) _ (flatMap channelsAt (flatMap locatedPlaces ls)) (located-numbered l p i w m (f .0) (omega arith) (omega arith) zp) h)
 
 -- ── a whole text ──
-module _ (t : Tree) (l : Within t) (f : WellTree t) where
+module _ (base : List ℕ) (t : Tree) (blank : Blank base (partCount t)) (l : Within t) (f : WellTree t) where
   -- within the limits
-  room-clear : length (channels t) ≤ 64 → length (locations t) ≤ 64 → scopeSize t ≤ 8 → word (scriptOf t) 4 ≡ 0
+  room-clear : length (channels t) ≤ 64 → length (locations t) ≤ 64 → scopeSize t ≤ 8 → word (scriptOf base t) 4 ≡ 0
   unfolding channels locations scopeSize places scriptOf defined
   room-clear a b c =
       let s = parts-are t in
       let p = l .parts in
-      let d = headed-few t l in
+      let d = headed-few base t blank l in
       let ds : List Place = flatMap defPlaces (t .defs) in
       let ls : List Place = flatMap locatedPlaces (t .located) in
       let r = every-split few8 ds ls (few-most (ds ++ ls) c) in
-      let q : Fits (headed t l) (flatMap locationsAt ds ++ flatMap locatedNames (t .located)) (flatMap channelsAt ds ++ flatMap channelsAt ls) = record {
-        locs = rw (headed-locs t l) b;
-        chans = rw (headed-chans t l, ← flat-append channelsAt ds ls) a;
+      let q : Fits (headed base t blank l) (flatMap locationsAt ds ++ flatMap locatedNames (t .located)) (flatMap channelsAt ds ++ flatMap channelsAt ls) = record {
+        locs = rw (headed-locs base t blank l) b;
+        chans = rw (headed-chans base t blank l, ← flat-append channelsAt ds ls) a;
       } in
-      let z = bodies-roomy (t .defs) 0 (top t) (partCount t) (headed t l) (headed-making t l) refl (omega arith) p (omega arith) (few t l) (f .defs-well) (headed-stand t l f) (headed-clear t l) (r .0)
-      (fits-front (headed t l) (flatMap locationsAt ds) (flatMap locatedNames (t .located)) (flatMap channelsAt ds) (flatMap channelsAt ls) q) in
-      let h = bodies-after t l f z in
-      brackets-roomy (t .located) (behind t) (partCount t - sizeDefs (t .defs)) (defined t) (h .went .making) (behind-is (t .defs) (top t) (partCount t) refl) (omega arith) (omega arith) (f .located-well) z (r .1)
-      (fits-rest (headed t l) (defined t) (flatMap locationsAt ds) (flatMap locatedNames (t .located)) (flatMap channelsAt ds) (flatMap channelsAt ls) (h .numbered) q)
+      let z = bodies-roomy (t .defs) 0 (top t) (partCount t) (headed base t blank l) (headed-making base t blank l) refl (omega arith) p (omega arith) (few base t blank l) (f .defs-well) (headed-stand base t blank l f) (headed-clear base t blank l) (r .0)
+      (fits-front (headed base t blank l) (flatMap locationsAt ds) (flatMap locatedNames (t .located)) (flatMap channelsAt ds) (flatMap channelsAt ls) q) in
+      let h = bodies-after base t blank l f z in
+      brackets-roomy (t .located) (behind t) (partCount t - sizeDefs (t .defs)) (defined base t) (h .went .making) (behind-is (t .defs) (top t) (partCount t) refl) (omega arith) (omega arith) (f .located-well) z (r .1)
+      (fits-rest (headed base t blank l) (defined base t) (flatMap locationsAt ds) (flatMap locatedNames (t .located)) (flatMap channelsAt ds) (flatMap channelsAt ls) (h .numbered) q)
 
   -- the word 4 unset
-  clear-channels : word (scriptOf t) 4 ≡ 0 → length (channels t) ≤ 64
+  clear-channels : word (scriptOf base t) 4 ≡ 0 → length (channels t) ≤ 64
   unfolding chansOf
   clear-channels z =
-      let h = whole t l f z in
+      let h = whole base t blank l f z in
       let m = h .making .chans in
-      omega (arith, ap length (sym (h .chans)), length-listFrom (chanName (scriptOf t)) 0 (word (scriptOf t) 2))
+      omega (arith, ap length (sym (h .chans)), length-listFrom (chanName (scriptOf base t)) 0 (word (scriptOf base t) 2))
 
-  clear-locations : word (scriptOf t) 4 ≡ 0 → length (locations t) ≤ 64
+  clear-locations : word (scriptOf base t) 4 ≡ 0 → length (locations t) ≤ 64
   unfolding locsOf
   clear-locations z =
-      let h = whole t l f z in
+      let h = whole base t blank l f z in
       let m = h .making .locs in
-      omega (arith, ap length (sym (h .locs)), length-listFrom (locName (scriptOf t)) 0 (word (scriptOf t) 1))
+      omega (arith, ap length (sym (h .locs)), length-listFrom (locName (scriptOf base t)) 0 (word (scriptOf base t) 1))
 
-  clear-scopes : word (scriptOf t) 4 ≡ 0 → scopeSize t ≤ 8
+  clear-scopes : word (scriptOf base t) 4 ≡ 0 → scopeSize t ≤ 8
   unfolding scopeSize places
   clear-scopes z =
-      let h = whole t l f z in
-      most-few _ (every-append few8 (flatMap defPlaces (t .defs)) (flatMap locatedPlaces (t .located)) (defs-few (scriptOf t) (t .defs) 0 (top t) (h .bodies)) (located-few (scriptOf t) (t .located) (behind t) (h .located)))
+      let h = whole base t blank l f z in
+      most-few _ (every-append few8 (flatMap defPlaces (t .defs)) (flatMap locatedPlaces (t .located)) (defs-few (scriptOf base t) (t .defs) 0 (top t) (h .bodies)) (located-few (scriptOf base t) (t .located) (behind t) (h .located)))
 
-  fits-clear : fits t ≡ true → word (scriptOf t) 4 ≡ 0
+  fits-clear : fits t ≡ true → word (scriptOf base t) 4 ≡ 0
   unfolding fits
   fits-clear e =
       let first : Bool = leb (definitionCount t) 32 && leb (parameterCount t) 4 && leb (partCount t) 4_096 in
@@ -196,19 +196,19 @@ module _ (t : Tree) (l : Within t) (f : WellTree t) where
       let c = and-inv first (leb (length (channels t)) 64) (b .0) in
       room-clear (leb-true _ 64 (c .1)) (leb-true _ 64 (b .1)) (leb-true _ 8 (s .1))
 
-  clear-fits : word (scriptOf t) 4 ≡ 0 → fits t ≡ true
+  clear-fits : word (scriptOf base t) 4 ≡ 0 → fits t ≡ true
   unfolding fits
   clear-fits z =
       and-in _ _ (and-in _ _ (and-in _ _ (and-in _ _ (and-in _ _ (and-in _ _ (le-leb _ 32 (l .definitions)) (le-leb _ 4 (l .parameters))) (le-leb _ 4_096 (l .parts)))
       (le-leb _ 64 (clear-channels z))) (le-leb _ 64 (clear-locations z))) (le-leb _ 256 (l .components))) (le-leb _ 8 (clear-scopes z))
 
   -- question 4
-  pub roomy-is : fits t ≡ roomy (scriptOf t)
+  pub roomy-is : fits t ≡ roomy (scriptOf base t)
   unfolding roomy
-  roomy-is = go (fits t) refl (eqb (word (scriptOf t) 4) 0) refl
+  roomy-is = go (fits t) refl (eqb (word (scriptOf base t) 4) 0) refl
     where
-      go : (a : Bool) → fits t ≡ a → (b : Bool) → eqb (word (scriptOf t) 4) 0 ≡ b → a ≡ b
+      go : (a : Bool) → fits t ≡ a → (b : Bool) → eqb (word (scriptOf base t) 4) 0 ≡ b → a ≡ b
       go true p true q = refl
       go false p false q = refl
-      go true p false q = sym (eq-eqb (word (scriptOf t) 4) 0 (fits-clear p)) ∙ q
-      go false p true q = sym p ∙ clear-fits (eqb-true (word (scriptOf t) 4) 0 q)
+      go true p false q = sym (eq-eqb (word (scriptOf base t) 4) 0 (fits-clear p)) ∙ q
+      go false p true q = sym p ∙ clear-fits (eqb-true (word (scriptOf base t) 4) 0 q)

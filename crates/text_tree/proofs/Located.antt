@@ -67,7 +67,7 @@ spotsIn u (at l p ∷ ls) i = partSpots (index (locsOf u) l) p i ++ spotsIn u ls
 pub none-eight : Eight noScope
 none-eight = record { few = omega arith; slots = refl }
 
-located-timely : (l : Name) (p : Process) (i : ℕ) (w : List ℕ) → WellLocated (at l p) → Timely w → Timely (putLocated w i l p)
+located-timely : {m : ℕ} → (l : Name) (p : Process) (i : ℕ) (w : List ℕ) → WellLocated (at l p) → Timely m w → Timely m (putLocated w i l p)
 unfolding putLocated
 located-timely l p i w f t = put-timely p i noScope (enterLoc w l) none-eight (f .1) (timely-high w (enterLoc w l) (loc-high w l) t)
 
@@ -101,7 +101,7 @@ pub record Brackets (w v : List ℕ) (ls : List Located) (i n : ℕ) : Type 0 wh
   pub went : Went w v n
   pub stand : AllStand v ls i
   pub numbered : Numbered w v (flatMap locatedNames ls) (flatMap channelsAt (flatMap locatedPlaces ls))
-  pub timely : Timely w → Timely v
+  pub timely : {m : ℕ} → Timely m w → Timely m v
   pub spots-are : (u : List ℕ) → Grown v u → spots ls i w ≡ spotsIn u ls i
 
 pub brackets-are : (ls : List Located) (i n : ℕ) (w : List ℕ) → Making w → i ≡ n - 1 → sizeLocated ls ≤ n → n ≤ 4_096 → Each WellLocated ls → word (brackets ls i w) 4 ≡ 0

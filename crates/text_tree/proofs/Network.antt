@@ -41,7 +41,7 @@ use Rattle.text_build.specs.Growth.{locListed}
 use Rattle.text_build.proofs.Numbers.{timer-is, loc-number}
 use Rattle.text_build.proofs.Places.{Fit, size-some, sizeP-some, every-split, fit-par}
 use Rattle.text_build.proofs.Stands.{known-first, process-means}
-use Rattle.text_tree.specs.Pass.{Within, partSpots, spots, top, behind, putLocated, scriptOf, spotsOf}
+use Rattle.text_tree.specs.Pass.{Within, Blank, partSpots, spots, top, behind, putLocated, scriptOf, spotsOf}
 use Rattle.text_tree.specs.Asked.{compOf}
 use Rattle.text_tree.proofs.Whole.{AllStand}
 use Rattle.text_tree.proofs.Sizes.{sizeDefs, sizeLocated, parts-are, behind-is}
@@ -90,7 +90,7 @@ timer-kept w (inp c t y p q) i d ys e = let r = and-inv _ _ (and-inv (chanKnown 
 timer-kept w (call x vs) i d ys e = refl
 
 -- ── one component ──
-module _ (w : List ℕ) (few : locsIn w ≤ 64) (good : scriptOk w ≡ true) (timely : Timely w) where
+module _ (w : List ℕ) (few : locsIn w ≤ 64) (good : scriptOk w ≡ true) (timely : Timely (partsIn w) w) where
   part-is : (p : Process) (i : ℕ) → Stands w p i [] → sizeP p ≤ suc i → i < partsIn w → Fit (placeKnown w) p 1 [] → partAt w i ≡ first-of p
   part-is p i s n h k =
       sym (first-joined (processAt w) (partAt w i) (nextAt w i)) ∙ ap first-of (sym (process-is w good i h)) ∙ ap first-of (process-means w few p i 1 [] s n k)
@@ -119,7 +119,7 @@ module _ (w : List ℕ) (few : locsIn w ≤ 64) (good : scriptOk w ≡ true) (ti
     unfolding compOk compOf markOk timerOk every
     comp-ok i j a b =
         let z = lt-ltb 0 (locsIn w) some in
-        rw (lt-ltb j (locsIn w) a, lt-ltb i (partsIn w) b, le-leb (field w i 2) 1_000_001 (timely i), z)
+        rw (lt-ltb j (locsIn w) a, lt-ltb i (partsIn w) b, le-leb (field w i 2) 1_000_001 (timely i b), z)
 
     spots-ok : (p : Process) (i j : ℕ) → j < locsIn w → i < partsIn w → every (compOk w) (map (compOf w) (partSpots j p i)) ≡ true
     unfolding partSpots every
@@ -171,43 +171,43 @@ spots-count (at l p ∷ ls) i w =
     length-append (partSpots _ p i) (spots ls (i - sizeP p) (putLocated w i l p))
     ∙ rw (part-count p l i _, spots-count ls (i - sizeP p) (putLocated w i l p)) (sym (length-append (split l p) (flatMap components ls)))
 
-pub count-is : (t : Tree) → length (spotsOf t) ≡ componentCount t
+pub count-is : (base : List ℕ) (t : Tree) → length (spotsOf base t) ≡ componentCount t
 unfolding spotsOf componentCount T.networkOf
-count-is t = spots-count (t .located) (behind t) _
+count-is base t = spots-count (t .located) (behind t) _
 
 -- ── the network ──
-module _ (t : Tree) (l : Within t) (f : WellTree t) (z : word (scriptOf t) 4 ≡ 0) (e : Q.definedOnce (t .defs) ≡ true) (k : every (placeKnown (scriptOf t)) (places t) ≡ true)
-    (st : State) (n : st .n ≡ length (spotsOf t)) (c : compsOf st ≡ map (compOf (scriptOf t)) (spotsOf t)) where
-  good : scriptOk (scriptOf t) ≡ true
-  good = script-ok t (scriptOf t) (whole t l f z) f l e k
+module _ (base : List ℕ) (t : Tree) (blank : Blank base (partCount t)) (l : Within t) (f : WellTree t) (z : word (scriptOf base t) 4 ≡ 0) (e : Q.definedOnce (t .defs) ≡ true) (k : every (placeKnown (scriptOf base t)) (places t) ≡ true)
+    (st : State) (n : st .n ≡ length (spotsOf base t)) (c : compsOf st ≡ map (compOf (scriptOf base t)) (spotsOf base t)) where
+  good : scriptOk (scriptOf base t) ≡ true
+  good = script-ok t (scriptOf base t) (whole base t blank l f z) f l e k
 
-  comps-are : compsOf st ≡ map (compOf (scriptOf t)) (spotsIn (scriptOf t) (t .located) (behind t))
+  comps-are : compsOf st ≡ map (compOf (scriptOf base t)) (spotsIn (scriptOf base t) (t .located) (behind t))
   unfolding compsOf
-  comps-are = c ∙ ap (map (compOf (scriptOf t))) (spots-are t l f z)
+  comps-are = c ∙ ap (map (compOf (scriptOf base t))) (spots-are base t blank l f z)
 
   -- reading gives the network of the text
-  pub network-is : networkOf (scriptOf t) st ≡ T.networkOf t
+  pub network-is : networkOf (scriptOf base t) st ≡ T.networkOf t
   unfolding networkOf T.networkOf netOf
   network-is =
-      let h = whole t l f z in
+      let h = whole base t blank l f z in
       let s = parts-are t in
       let p = h .parts in
-      let m : map (means (scriptOf t)) (compsOf st) ≡ flatMap components (t .located) =
-      ap (map (means (scriptOf t))) comps-are
-      ∙ all-mean (scriptOf t) (h .making .locs) good (timers-small t l f z) (t .located) (behind t) (partCount t - sizeDefs (t .defs)) (behind-is (t .defs) (top t) (partCount t) refl) (omega arith) (omega arith)
-      (h .located) (known-located t (scriptOf t) h f l e k) in
-      rw (defs-are t (scriptOf t) h f l e k, m)
+      let m : map (means (scriptOf base t)) (compsOf st) ≡ flatMap components (t .located) =
+      ap (map (means (scriptOf base t))) comps-are
+      ∙ all-mean (scriptOf base t) (h .making .locs) good (λ j b. timers-small base t blank l f z j (omega (arith, h .parts, b))) (t .located) (behind t) (partCount t - sizeDefs (t .defs)) (behind-is (t .defs) (top t) (partCount t) refl) (omega arith) (omega arith)
+      (h .located) (known-located t (scriptOf base t) h f l e k) in
+      rw (defs-are t (scriptOf base t) h f l e k, m)
 
   -- and it passes question 17
-  pub valid-is : valid (scriptOf t) st ≡ true
+  pub valid-is : valid (scriptOf base t) st ≡ true
   unfolding valid stateOk
   valid-is =
-      let h = whole t l f z in
+      let h = whole base t blank l f z in
       let s = parts-are t in
       let p = h .parts in
-      let r = count-is t in
+      let r = count-is base t in
       let few = l .components in
       let some : 0 < componentCount t = unfold componentCount T.networkOf in filled (flatMap components (t .located)) (some-comps (t .located) (f .some-located)) in
       and-in _ _ good
       (and-in _ _ (lt-ltb 0 (st .n) (omega arith)) (and-in _ _ (le-leb (st .n) 256 (omega arith))
-      (rw comps-are (all-ok (scriptOf t) (h .making .locs) good (timers-small t l f z) (t .located) (behind t) (partCount t - sizeDefs (t .defs)) (behind-is (t .defs) (top t) (partCount t) refl) (omega arith) (omega arith) (h .located)))))
+      (rw comps-are (all-ok (scriptOf base t) (h .making .locs) good (λ j b. timers-small base t blank l f z j (omega (arith, h .parts, b))) (t .located) (behind t) (partCount t - sizeDefs (t .defs)) (behind-is (t .defs) (top t) (partCount t) refl) (omega arith) (omega arith) (h .located)))))

@@ -7,7 +7,7 @@ use mathlib.Core.Bool.{Bool, true, false}
 use mathlib.Core.Path.{_≡_, refl, ap, sym, _∙_}
 use borrow.Author.Tests.{ltb-true, ltb-false}
 use lib.Dec.{ltb}
-use lib.ListN.{length, set, replicate, length-set, length-replicate, getD-replicate, List·getD-eq-default}
+use lib.ListN.{length, set, length-set}
 use lib.Seq.{getD-set-same}
 use Rattle.terms.specs.Terms.{Def}
 use Rattle.terms.specs.Terms.Def.{define}
@@ -21,7 +21,7 @@ use Rattle.text_build.specs.Growth.{Making}
 use Rattle.table.proofs.Stores.{set-out}
 use Rattle.text_build.proofs.Grows.{grown-none}
 use Rattle.text_build.proofs.Numbering.{flat-append, Numbered, numbered-then}
-use Rattle.text_tree.specs.Pass.{Within, heads, bodies, started, top, defined, behind, scriptOf, spotsOf}
+use Rattle.text_tree.specs.Pass.{Within, Blank, heads, bodies, started, top, defined, behind, scriptOf, spotsOf}
 use Rattle.text_tree.proofs.Whole.{Whole}
 use Rattle.text_tree.proofs.Sizes.{sizeDefs, parts-are, behind-is}
 use Rattle.text_tree.proofs.Heads.{FewParams, HeadsStand, heads-long, heads-under, heads-past, heads-stand}
@@ -36,37 +36,27 @@ few-params [] h = tt
 few-params (define x us p ∷ ds) h = (omega arith, few-params ds (omega arith))
 
 -- ── the start ──
-module _ (t : Tree) where
-  abbrev empty : List ℕ
-  empty = replicate 99_592 0
-
-  pub started-long : length (started t) ≡ 99_592
+module _ (z : List ℕ) (t : Tree) (blank : Blank z (partCount t)) where
+  pub started-long : length (started z t) ≡ 99_592
   unfolding started
-  started-long = length-set (set empty 0 (partCount t)) 3 (definitionCount t) ∙ length-set empty 0 (partCount t) ∙ length-replicate {A = ℕ} 99_592 0
+  started-long = length-set (set z 0 (partCount t)) 3 (definitionCount t) ∙ length-set z 0 (partCount t) ∙ blank .long
 
-  started-zero : (o : ℕ) → (o ≡ 0 → ⊥) → (o ≡ 3 → ⊥) → o < 99_592 → word (started t) o ≡ 0
+  started-zero : (o : ℕ) → (o ≡ 0 → ⊥) → (o ≡ 3 → ⊥) → o < 1_288 + partCount t * 24 → word (started z t) o ≡ 0
   unfolding started
-  started-zero o a b h = set-out (set empty 0 (partCount t)) 3 o (definitionCount t) b ∙ set-out empty 0 o (partCount t) a ∙ getD-replicate 99_592 o 0 0 h
+  started-zero o a b h = set-out (set z 0 (partCount t)) 3 o (definitionCount t) b ∙ set-out z 0 o (partCount t) a ∙ blank .none o h
 
-  started-rest : (o : ℕ) → 4 ≤ o → word (started t) o ≡ 0
-  started-rest o h = go (ltb o 99_592) refl
-    where
-      go : (b : Bool) → ltb o 99_592 ≡ b → word (started t) o ≡ 0
-      go true e = started-zero o (λ q. omega arith) (λ q. omega arith) (ltb-true o 99_592 e)
-      go false e = let l = started-long in List·getD-eq-default (started t) 0 (omega (arith, ltb-false o 99_592 e))
-
-  started-parts : word (started t) 0 ≡ partCount t
+  pub started-parts : word (started z t) 0 ≡ partCount t
   unfolding started
-  started-parts = set-out (set empty 0 (partCount t)) 3 0 (definitionCount t) (λ e. omega arith) ∙ getD-set-same empty 0 (partCount t) 0 (rw (length-replicate {A = ℕ} 99_592 0) (omega arith))
+  started-parts = set-out (set z 0 (partCount t)) 3 0 (definitionCount t) (λ e. omega arith) ∙ getD-set-same z 0 (partCount t) 0 (rw (blank .long) (omega arith))
 
-  started-defs : word (started t) 3 ≡ definitionCount t
+  pub started-defs : word (started z t) 3 ≡ definitionCount t
   unfolding started
-  started-defs = getD-set-same (set empty 0 (partCount t)) 3 (definitionCount t) 0 (rw (length-set empty 0 (partCount t), length-replicate {A = ℕ} 99_592 0) (omega arith))
+  started-defs = getD-set-same (set z 0 (partCount t)) 3 (definitionCount t) 0 (rw (length-set z 0 (partCount t), blank .long) (omega arith))
 
 -- ── after the heads ──
-module _ (t : Tree) (l : Within t) where
+module _ (z : List ℕ) (t : Tree) (blank : Blank z (partCount t)) (l : Within t) where
   abbrev pub headed : List ℕ
-  headed = heads (t .defs) 0 (top t) (started t)
+  headed = heads (t .defs) 0 (top t) (started z t)
 
   pub few : FewParams (t .defs)
   unfolding parameterCount
@@ -76,67 +66,67 @@ module _ (t : Tree) (l : Within t) where
   unfolding definitionCount
   headed-few = l .definitions
 
-  headed-count : (o : ℕ) → o < 8 → word headed o ≡ word (started t) o
-  headed-count o h = heads-under (t .defs) (started t) 0 (top t) o (omega arith)
+  headed-count : (o : ℕ) → o < 8 → word headed o ≡ word (started z t) o
+  headed-count o h = heads-under (t .defs) (started z t) 0 (top t) o (omega arith)
 
   pub headed-making : Making headed
   headed-making =
-      let a = headed-count 1 (omega arith) ∙ started-zero t 1 (λ e. omega arith) (λ e. omega arith) (omega arith) in
-      let b = headed-count 2 (omega arith) ∙ started-zero t 2 (λ e. omega arith) (λ e. omega arith) (omega arith) in
-      let c = headed-count 3 (omega arith) ∙ started-defs t in
+      let a = headed-count 1 (omega arith) ∙ started-zero z t blank 1 (λ e. omega arith) (λ e. omega arith) (omega arith) in
+      let b = headed-count 2 (omega arith) ∙ started-zero z t blank 2 (λ e. omega arith) (λ e. omega arith) (omega arith) in
+      let c = headed-count 3 (omega arith) ∙ started-defs z t blank in
       let d = l .definitions in
-      record { long = heads-long (t .defs) (started t) 0 (top t) ∙ started-long t; locs = omega arith; chans = omega arith; defs = omega arith }
+      record { long = heads-long (t .defs) (started z t) 0 (top t) ∙ started-long z t blank; locs = omega arith; chans = omega arith; defs = omega arith }
 
   pub headed-clear : word headed 4 ≡ 0
-  headed-clear = headed-count 4 (omega arith) ∙ started-rest t 4 (omega arith)
+  headed-clear = headed-count 4 (omega arith) ∙ started-zero z t blank 4 (λ e. omega arith) (λ e. omega arith) (omega arith)
 
-  headed-timely : Timely headed
-  headed-timely j =
+  headed-timely : Timely (partCount t) headed
+  headed-timely j b =
       let d : length (t .defs) ≤ 32 = headed-few in
-      let e = heads-past (t .defs) (started t) 0 (top t) (1_288 + j * 24 + 2) few (omega arith) in
-      let z = started-rest t (1_288 + j * 24 + 2) (omega arith) in
-      rw (e, z) (omega arith)
+      let e = heads-past (t .defs) (started z t) 0 (top t) (1_288 + j * 24 + 2) few (omega arith) in
+      let y = started-zero z t blank (1_288 + j * 24 + 2) (λ e. omega arith) (λ e. omega arith) (omega arith) in
+      rw (e, y) (omega arith)
 
   pub headed-locs : locsOf headed ≡ []
   unfolding locsOf listFrom
-  headed-locs = rw (headed-count 1 (omega arith), started-zero t 1 (λ e. omega arith) (λ e. omega arith) (omega arith))
+  headed-locs = rw (headed-count 1 (omega arith), started-zero z t blank 1 (λ e. omega arith) (λ e. omega arith) (omega arith))
 
   pub headed-chans : chansOf headed ≡ []
   unfolding chansOf listFrom
-  headed-chans = rw (headed-count 2 (omega arith), started-zero t 2 (λ e. omega arith) (λ e. omega arith) (omega arith))
+  headed-chans = rw (headed-count 2 (omega arith), started-zero z t blank 2 (λ e. omega arith) (λ e. omega arith) (omega arith))
 
   -- the heads of all definitions stand
   pub headed-stand : WellTree t → HeadsStand headed (t .defs) 0 (top t)
-  headed-stand f = let c = headed-few in heads-stand (t .defs) (started t) 0 (top t) (started-long t) (omega arith) few (f .defs-well)
+  headed-stand f = let c = headed-few in heads-stand (t .defs) (started z t) 0 (top t) (started-long z t blank) (omega arith) few (f .defs-well)
 
   -- ── after the bodies ──
-  pub bodies-after : WellTree t → word (defined t) 4 ≡ 0 → Bodies headed (defined t) (t .defs) 0 (top t) (partCount t)
+  pub bodies-after : WellTree t → word (defined z t) 4 ≡ 0 → Bodies headed (defined z t) (t .defs) 0 (top t) (partCount t)
   unfolding defined
-  bodies-after f z =
+  bodies-after f y =
       let s = parts-are t in
       let c = headed-few in
       let p = l .parts in
-      bodies-are (t .defs) 0 (top t) (partCount t) headed headed-making refl (omega arith) p (omega arith) few (f .defs-well) (headed-stand f) z
+      bodies-are (t .defs) 0 (top t) (partCount t) headed headed-making refl (omega arith) p (omega arith) few (f .defs-well) (headed-stand f) y
 
   -- ── after all ──
-  module _ (f : WellTree t) (z : word (scriptOf t) 4 ≡ 0) where
-    bodies-done : Bodies headed (defined t) (t .defs) 0 (top t) (partCount t)
+  module _ (f : WellTree t) (clear : word (scriptOf z t) 4 ≡ 0) where
+    bodies-done : Bodies headed (defined z t) (t .defs) 0 (top t) (partCount t)
     unfolding scriptOf
-    bodies-done = bodies-after f (brackets-back (t .located) (behind t) (defined t) z)
+    bodies-done = bodies-after f (brackets-back (t .located) (behind t) (defined z t) clear)
 
-    located-done : Brackets (defined t) (scriptOf t) (t .located) (behind t) (partCount t - sizeDefs (t .defs))
+    located-done : Brackets (defined z t) (scriptOf z t) (t .located) (behind t) (partCount t - sizeDefs (t .defs))
     unfolding scriptOf
     located-done =
         let s = parts-are t in
         let p = l .parts in
-        brackets-are (t .located) (behind t) (partCount t - sizeDefs (t .defs)) (defined t) (bodies-done .went .making) (behind-is (t .defs) (top t) (partCount t) refl) (omega arith) (omega arith) (f .located-well) z
+        brackets-are (t .located) (behind t) (partCount t - sizeDefs (t .defs)) (defined z t) (bodies-done .went .making) (behind-is (t .defs) (top t) (partCount t) refl) (omega arith) (omega arith) (f .located-well) clear
 
-    numbered : Numbered headed (scriptOf t) (flatMap locationsAt (flatMap defPlaces (t .defs)) ++ flatMap locatedNames (t .located))
+    numbered : Numbered headed (scriptOf z t) (flatMap locationsAt (flatMap defPlaces (t .defs)) ++ flatMap locatedNames (t .located))
         (flatMap channelsAt (flatMap defPlaces (t .defs)) ++ flatMap channelsAt (flatMap locatedPlaces (t .located)))
     numbered = numbered-then (bodies-done .numbered) (located-done .numbered)
 
     -- the law
-    pub whole : Whole t (scriptOf t)
+    pub whole : Whole t (scriptOf z t)
     unfolding locations channels places definitionCount
     whole =
         let s = parts-are t in
@@ -145,10 +135,10 @@ module _ (t : Tree) (l : Within t) where
         let q = headed-few in
         record {
           making = r .went .making;
-          parts = r .went .parts ∙ b .went .parts ∙ headed-count 0 (omega arith) ∙ started-parts t;
+          parts = r .went .parts ∙ b .went .parts ∙ headed-count 0 (omega arith) ∙ started-parts z t blank;
           few = l .parts;
-          defs = r .went .defs ∙ b .went .defs ∙ headed-count 3 (omega arith) ∙ started-defs t;
-          bodies = defs-on (defined t) (scriptOf t) (partCount t - sizeDefs (t .defs)) (r .went) (t .defs) 0 (top t) (partCount t) refl (omega arith) (omega arith) few (b .stand);
+          defs = r .went .defs ∙ b .went .defs ∙ headed-count 3 (omega arith) ∙ started-defs z t blank;
+          bodies = defs-on (defined z t) (scriptOf z t) (partCount t - sizeDefs (t .defs)) (r .went) (t .defs) 0 (top t) (partCount t) refl (omega arith) (omega arith) few (b .stand);
           located = r .stand;
           locs = numbered .locs ∙ ap (λ x. firsts x (flatMap locationsAt (flatMap defPlaces (t .defs)) ++ flatMap locatedNames (t .located))) headed-locs;
           chans =
@@ -157,9 +147,9 @@ module _ (t : Tree) (l : Within t) where
         }
 
     -- where the components stand
-    pub spots-are : spotsOf t ≡ spotsIn (scriptOf t) (t .located) (behind t)
+    pub spots-are : spotsOf z t ≡ spotsIn (scriptOf z t) (t .located) (behind t)
     unfolding spotsOf
-    spots-are = located-done .spots-are (scriptOf t) (grown-none (scriptOf t))
+    spots-are = located-done .spots-are (scriptOf z t) (grown-none (scriptOf z t))
 
-    pub timers-small : Timely (scriptOf t)
+    pub timers-small : Timely (partCount t) (scriptOf z t)
     timers-small = located-done .timely (bodies-done .timely headed-timely)

@@ -81,11 +81,12 @@ mark-high w sc y x h = go (ltb (slotOf w sc y) (sc .n)) (ltb (sc .n) 8)
     go false false = set-out w 4 x 1 (λ z. omega arith)
 
 -- ── rows ──
-abbrev pub Timely : List ℕ → Type 0
-Timely w = (j : ℕ) → field w j 2 ≤ 1_000_001
+-- of the first n rows
+abbrev pub Timely : ℕ → List ℕ → Type 0
+Timely n w = (j : ℕ) → j < n → field w j 2 ≤ 1_000_001
 
-pub timely-high : (w v : List ℕ) → High w v → Timely w → Timely v
-timely-high w v e t j = rw (e (1_288 + j * 24 + 2) (omega arith)) (t j)
+pub timely-high : {m : ℕ} → (w v : List ℕ) → High w v → Timely m w → Timely m v
+timely-high w v e t j b = rw (e (1_288 + j * 24 + 2) (omega arith)) (t j b)
 
 -- one word
 set-small : (w : List ℕ) (o a x : ℕ) → (o ≡ x → a ≤ 1_000_001) → word w x ≤ 1_000_001 → word (set w o a) x ≤ 1_000_001
@@ -115,29 +116,29 @@ row-small (out c t v p q) w i sc f = timer-small t (f .1)
 row-small (inp c t y p q) w i sc f = timer-small t (f .1)
 row-small (call d vs) w i sc f = omega arith
 
-opened-timely : (a : Part) (w : List ℕ) (i : ℕ) (sc : Scope) → Eight sc → WellPart a → Timely w → Timely (opened w i sc a)
+opened-timely : {m : ℕ} → (a : Part) (w : List ℕ) (i : ℕ) (sc : Scope) → Eight sc → WellPart a → Timely m w → Timely m (opened w i sc a)
 unfolding opened
-opened-timely a w i sc e f t j =
+opened-timely a w i sc e f t j b =
     sets-small (rowOf w i sc a) (enterPart w a) (1_288 + i * 24 + 0) (1_288 + j * 24 + 2)
     (λ k l q. let n = row-length w i sc a e in let two : k ≡ 2 = omega arith in rw two (row-small a w i sc f))
-    (timely-high w (enterPart w a) (part-high a w) t j)
+    (timely-high w (enterPart w a) (part-high a w) t j b)
 
 -- words 5 to 7 of a row
-later-timely : (w : List ℕ) (i k : ℕ) (vs : List ℕ) → 5 ≤ k → k + length vs ≤ 8 → Timely w → Timely (sets w (1_288 + i * 24 + k) vs)
-later-timely w i k vs a b t j = sets-small vs w (1_288 + i * 24 + k) (1_288 + j * 24 + 2) (λ m l q. absurd (omega arith)) (t j)
+later-timely : {m : ℕ} → (w : List ℕ) (i k : ℕ) (vs : List ℕ) → 5 ≤ k → k + length vs ≤ 8 → Timely m w → Timely m (sets w (1_288 + i * 24 + k) vs)
+later-timely w i k vs a b t j d = sets-small vs w (1_288 + i * 24 + k) (1_288 + j * 24 + 2) (λ m l q. absurd (omega arith)) (t j d)
 
-second-timely : (w : List ℕ) (i q : ℕ) → Timely w → Timely (setSecond w i q)
+second-timely : {m : ℕ} → (w : List ℕ) (i q : ℕ) → Timely m w → Timely m (setSecond w i q)
 unfolding setSecond
 second-timely w i q t = later-timely w i 5 (q ∷ []) (omega arith) (omega arith) t
 
-linked-timely : (w : List ℕ) (i n l : ℕ) → Timely w → Timely (linked w i n l)
+linked-timely : {m : ℕ} → (w : List ℕ) (i n l : ℕ) → Timely m w → Timely m (linked w i n l)
 unfolding linked
 linked-timely w i n l t = later-timely w i 6 (n ∷ l ∷ []) (omega arith) (omega arith) t
 
 mutual
   unfolding putPart put
 
-  part-timely : (a : Part) (i : ℕ) (sc : Scope) (w : List ℕ) → Eight sc → WellPart a → Timely w → Timely (putPart a i sc w)
+  part-timely : {m : ℕ} → (a : Part) (i : ℕ) (sc : Scope) (w : List ℕ) → Eight sc → WellPart a → Timely m w → Timely m (putPart a i sc w)
   part-timely stop i sc w e f t = opened-timely stop w i sc e f t
   part-timely (go u v p) i sc w e f t = put-timely p (firstPlace i) sc _ e (f .2) (opened-timely (go u v p) w i sc e f t)
   part-timely (out c u v p q) i sc w e f t =
@@ -147,6 +148,6 @@ mutual
       (put-timely p (firstPlace i) (innerScope w i sc y) _ (inner-eight w i sc y e) (f .3) (opened-timely (inp c u y p q) _ i sc e f (timely-high w (scopeMark w sc y) (mark-high w sc y) t))))
   part-timely (call d vs) i sc w e f t = opened-timely (call d vs) w i sc e f t
 
-  pub put-timely : (p : Process) (i : ℕ) (sc : Scope) (w : List ℕ) → Eight sc → WellProcess p → Timely w → Timely (put p i sc w)
+  pub put-timely : {m : ℕ} → (p : Process) (i : ℕ) (sc : Scope) (w : List ℕ) → Eight sc → WellProcess p → Timely m w → Timely m (put p i sc w)
   put-timely (one a) i sc w e f t = linked-timely _ i 0 (suc i - size a) (part-timely a i sc w e f t)
   put-timely (a ∥ p) i sc w e f t = linked-timely _ i (suc (i - size a)) (suc i - (size a + sizeP p)) (put-timely p (i - size a) sc _ e (f .1) (part-timely a i sc w e (f .0) t))

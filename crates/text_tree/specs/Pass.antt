@@ -1,10 +1,11 @@
 -- The second pass of reading over a whole text: document 01, *Reading*. First the heads of all definitions, so that every call finds its definition;
 -- then their bodies, then the located processes, in text order: the first part of the text stands at the highest place.
-use Prim.Native.Nat.{ℕ, zero, suc, _+_, _-_, _*_, _≤_}
+use Prim.Native.Nat.{ℕ, zero, suc, _+_, _-_, _*_, _≤_, _<_}
 use mathlib.Core.List.{List, [], _∷_, _++_}
 use mathlib.Core.Bool.{cond}
+use mathlib.Core.Path.{_≡_}
 use lib.Dec.{ltb}
-use lib.ListN.{length, set, replicate}
+use lib.ListN.{length, set}
 use lib.Seq.{sets}
 use Rattle.terms.specs.Names.{Name}
 use Rattle.terms.specs.Terms.{Process, Def}
@@ -13,7 +14,7 @@ use Rattle.terms.specs.Terms.Def.{define}
 use Rattle.text.specs.Tree.{Located, Tree}
 use Rattle.text.specs.Tree.Located.{at}
 use Rattle.text.specs.Questions.{definitionCount, parameterCount, partCount, componentCount}
-use Rattle.table.specs.Words.{arityOf, nameAt}
+use Rattle.table.specs.Words.{word, arityOf, nameAt}
 use Rattle.table.specs.Valid.{index}
 use Rattle.table.specs.Size.{size, sizeP}
 use Rattle.text_build.specs.declared.Scope.{Scope}
@@ -87,21 +88,26 @@ spots [] i w = []
 spots (at l p ∷ ls) i w = partSpots (locNumber w l) p i ++ spots ls (i - sizeP p) (putLocated w i l p)
 
 -- ── the whole: how many parts and definitions, then the passes ──
-unfoldable pub started : Tree → List ℕ
-started t = set (set (replicate 99_592 0) 0 (partCount t)) 3 (definitionCount t)
+-- a script z whose words are zero up to the row n
+pub record Blank (z : List ℕ) (n : ℕ) : Type 0 where
+  pub long : length z ≡ 99_592
+  pub none : (o : ℕ) → o < 1_288 + n * 24 → word z o ≡ 0
+
+unfoldable pub started : List ℕ → Tree → List ℕ
+started z t = set (set z 0 (partCount t)) 3 (definitionCount t)
 
 abbrev pub top : Tree → ℕ
 top t = partCount t - 1
 
 -- the script after the heads and bodies of the definitions
-unfoldable pub defined : Tree → List ℕ
-defined t = bodies (t .defs) 0 (top t) (heads (t .defs) 0 (top t) (started t))
+unfoldable pub defined : List ℕ → Tree → List ℕ
+defined z t = bodies (t .defs) 0 (top t) (heads (t .defs) 0 (top t) (started z t))
 
 abbrev pub behind : Tree → ℕ
 behind t = afterBodies (t .defs) (top t)
 
-unfoldable pub scriptOf : Tree → List ℕ
-scriptOf t = brackets (t .located) (behind t) (defined t)
+unfoldable pub scriptOf : List ℕ → Tree → List ℕ
+scriptOf z t = brackets (t .located) (behind t) (defined z t)
 
-unfoldable pub spotsOf : Tree → List (List ℕ)
-spotsOf t = spots (t .located) (behind t) (defined t)
+unfoldable pub spotsOf : List ℕ → Tree → List (List ℕ)
+spotsOf z t = spots (t .located) (behind t) (defined z t)

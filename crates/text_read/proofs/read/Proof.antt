@@ -1,8 +1,8 @@
--- The scan's refusal, the script's refusal, or the network.
+-- The scan's refusal, or the answer of a text that passes the scan.
 use native.Mathlib.Omega.{arith}
-use mathlib.Core.Path.{refl}
+use mathlib.Core.Path.{sym, _∙_}
 use borrow.Author.Needs.{needs}
-use Rattle.text_read.proofs.Answering.{way-1, may-fill, may-ask, way-2, may-make, way-3}
+use Rattle.text_read.proofs.Answering.{way-1}
 use Rattle.text_read.proofs.read.Statement.{statement}
 use Rattle.text_read.proofs.read.Tie as tie
 
@@ -18,40 +18,17 @@ refuse-requires c κs = search needs
 returns : tie.Need-returns
 returns c = way-1 _ _ (c .before .before .before .scan .ensures) _ (c .before .before .limits .ensures) (c .before .if1 .taken) _ _ (c .refuse .ensures)
 
-cast-fill : tie.Need-cast-fill
-cast-fill c = search needs
-
-cast-fill-2 : tie.Need-cast-fill-2
-cast-fill-2 c = search needs
-
-slice-aggregate-fill : tie.Need-slice-aggregate-fill
-slice-aggregate-fill c = search needs
-
-fill-requires : tie.Need-fill-requires
-fill-requires c κs = may-fill _ _ (c .before .before .before .before .before .before .scan .ensures) _ (c .before .before .before .before .before .limits .ensures) (omega (arith, c .before .before .before .before .if1 .left))
-
-asked-requires : tie.Need-asked-requires
-asked-requires c κs = may-ask _ _ (c .before .before .before .before .before .before .before .before .before .scan .ensures) _ (c .before .before .before .before .before .before .before .before .limits .ensures) (omega (arith, c .before .before .before .before .before .before .before .if1 .left)) refl (c .before .before .fill .ensures)
-
-refuse-requires-2 : tie.Need-refuse-requires-2
-refuse-requires-2 c κs = search needs
+read-few-requires : tie.Need-read-few-requires
+read-few-requires c κs = (c .before .before .before .before .before .scan .ensures, sym (c .before .before .before .before .limits .ensures) ∙ omega (arith, c .before .before .before .if1 .left), c .before .if2 .taken)
 
 returns-2 : tie.Need-returns-2
-returns-2 c = way-2 _ _ (c .before .before .before .before .before .before .before .before .before .before .before .before .scan .ensures) _ (c .before .before .before .before .before .before .before .before .before .before .before .limits .ensures) (omega (arith, c .before .before .before .before .before .before .before .before .before .before .if1 .left)) refl (c .before .before .before .before .before .fill .ensures) _ (c .before .before .asked .ensures) (c .before .if2 .taken) _ _ (c .refuse2 .ensures)
+returns-2 c = search needs
 
-copy-requires : tie.Need-copy-requires
-copy-requires c κs = search needs
-
-slice-aggregate-state-of : tie.Need-slice-aggregate-state-of
-slice-aggregate-state-of c = search needs
-
-state-of-requires : tie.Need-state-of-requires
-state-of-requires c κs =
-    let m = may-make _ _ (c .before .before .before .before .before .before .before .before .before .before .before .before .before .before .before .before .scan .ensures) _ (c .before .before .before .before .before .before .before .before .before .before .before .before .before .before .before .limits .ensures) (omega (arith, c .before .before .before .before .before .before .before .before .before .before .before .before .before .before .if1 .left)) refl (c .before .before .before .before .before .before .before .before .before .fill .ensures) _ (c .before .before .before .before .before .before .asked .ensures) refl in
-    (m, omega arith)
+read-many-requires : tie.Need-read-many-requires
+read-many-requires c κs = (c .before .before .before .before .before .scan .ensures, sym (c .before .before .before .before .limits .ensures) ∙ omega (arith, c .before .before .before .if1 .left))
 
 returns-3 : tie.Need-returns-3
-returns-3 c = way-3 _ _ (c .before .before .before .before .before .before .before .before .before .before .before .before .before .before .before .before .before .scan .ensures) _ (c .before .before .before .before .before .before .before .before .before .before .before .before .before .before .before .before .limits .ensures) (omega (arith, c .before .before .before .before .before .before .before .before .before .before .before .before .before .before .before .if1 .left)) refl (c .before .before .before .before .before .before .before .before .before .before .fill .ensures) _ (c .before .before .before .before .before .before .before .asked .ensures) refl (omega (arith, c .before .before .before .before .before .before .if2 .left)) _ _ (c .before .before .before .copy .ensures) _ (c .state-of .ensures)
+returns-3 c = search needs
 
 pub read-spec : {M : Type 1} → statement M
 read-spec =
@@ -61,14 +38,7 @@ read-spec =
     limits-requires
     refuse-requires
     returns
-    cast-fill
-    cast-fill-2
-    slice-aggregate-fill
-    fill-requires
-    asked-requires
-    refuse-requires-2
+    read-few-requires
     returns-2
-    copy-requires
-    slice-aggregate-state-of
-    state-of-requires
+    read-many-requires
     returns-3)

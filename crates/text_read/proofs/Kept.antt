@@ -1,0 +1,46 @@
+-- The first words of a list written one after the other; a script of zeros in front; and a script put back as it was.
+use Prim.Native.Nat.{ℕ, _+_, _-_, _*_, _≤_, _<_}
+use native.Mathlib.Omega.{arith}
+use mathlib.Core.Bool.{Bool, true, false}
+use mathlib.Core.List.{List}
+use mathlib.Core.Path.{_≡_, refl, sym, ap, _∙_}
+use lib.Dec.{eqb, ltb}
+use lib.ListN.{length, getD, set, replicate, length-set, length-replicate, getD-replicate}
+use lib.Seq.{getD-set-same, ext-getD}
+use borrow.Author.Tests.{eqb-true, eqb-false, ltb-true, ltb-false}
+use Rattle.table.specs.Words.{word}
+use Rattle.table.proofs.Stores.{set-out}
+use Rattle.text_tree.specs.Pass.{Blank}
+use Rattle.text_read.specs.Front.{Front}
+use Rattle.text_read.proofs.Beyond.{Beyond}
+
+-- ── one word more ──
+pub front-none : (f : ℕ → ℕ) (w : List ℕ) → Front 0 f w w
+front-none f w = record { front = λ o h. absurd (omega arith); rest = λ o h. refl; size = refl }
+
+pub front-more : (i : ℕ) (f : ℕ → ℕ) (w v : List ℕ) → i < length w → Front i f w v → Front (i + 1) f w (set v i (f i))
+front-more i f w v b p = record { front = λ o h. go o h (eqb o i) refl; rest = λ o h. set-out v i o (f i) (λ e. omega arith) ∙ p .rest o (omega arith); size = length-set v i (f i) ∙ p .size }
+  where
+    go : (o : ℕ) → o < i + 1 → (t : Bool) → eqb o i ≡ t → word (set v i (f i)) o ≡ f o
+    go o h true e =
+        let q = eqb-true o i e in
+        ap (word (set v i (f i))) q ∙ getD-set-same v i (f i) 0 (omega (arith, p .size)) ∙ ap f (sym q)
+    go o h false e = let n = eqb-false o i e in set-out v i o (f i) n ∙ p .front o (omega arith)
+
+pub front-all : (i m : ℕ) (f : ℕ → ℕ) (w v : List ℕ) → i ≡ m → Front i f w v → Front m f w v
+front-all i m f w v e p = record { front = λ o h. p .front o (omega arith); rest = λ o h. p .rest o (omega arith); size = p .size }
+
+-- ── zeros ──
+pub zeros-blank : (w : List ℕ) (n : ℕ) → w ≡ replicate 99_592 0 → n ≤ 4_096 → Blank w n
+zeros-blank w n e b = record { long = ap length e ∙ length-replicate {A = ℕ} 99_592 0; none = λ o h. ap (λ x. word x o) e ∙ getD-replicate 99_592 o 0 0 (omega arith) }
+
+pub front-blank : (m n : ℕ) (w v : List ℕ) → length w ≡ 99_592 → 1_288 + n * 24 ≤ m → Front m (λ o. 0) w v → Blank v n
+front-blank m n w v e b p = record { long = p .size ∙ e; none = λ o h. p .front o (omega arith) }
+
+-- ── put back ──
+pub back-again : (i m : ℕ) (w v u k₀ k x : List ℕ) → m ≡ 1_312 + i * 24 → Front m (word w) k₀ k → Front m (λ o. 0) w v → Beyond i v u → Front m (word k) u x → x ≡ w
+back-again i m w v u k₀ k x e a b c d = ext-getD 0 x w (d .size ∙ c .size ∙ b .size) (λ o h. go o (ltb o m) refl)
+  where
+    go : (o : ℕ) (t : Bool) → ltb o m ≡ t → word x o ≡ word w o
+    go o true q = let h = ltb-true o m q in d .front o h ∙ a .front o h
+    go o false q = let h = ltb-false o m q in d .rest o h ∙ c .same o (omega arith) ∙ b .rest o h
