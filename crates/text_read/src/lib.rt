@@ -109,7 +109,7 @@ fn asked(w: &[u32; 99592]) -> u32
     0
 }
 
-// The three passes over a text, into a script that holds nothing: how many components there are.
+// The three passes over a text, into a script with zeros up to the last row: how many components there are.
 fn fill(s: &[u8], parts: usize, defs: usize, w: &mut [u32; 99592], out: &mut [[u32; 2]]) -> usize
     requires { ⌜ (parts ≤ 4096) × (defs ≤ 32) × Ready (now s) ⌝ }
     ensures { λ r. ⌜ ((x : Ready (now (s .entry))) → Filled (now (w .entry)) (now (w .exit)) parts defs (now (out .entry)) (now (out .exit)) r (x .tree)) ⌝ }
