@@ -1,9 +1,13 @@
-/* The library from C: a network read from text, two steps at A, the written
- * text after each, a refused tick, the comparison with another text, and what
- * is refused. */
+/* The library from C, and as it stands from C++: document 01's network read,
+ * stepped and printed as timorun prints it, then the single calls and what is
+ * refused. Every function of timo.h is called. */
 #include <stdio.h>
 #include <string.h>
 #include "timo.h"
+
+static const char page[] =
+    "Page(x) = go(0,x,out(c,1,x,stop,stop)) .\n"
+    "A[Page(B)] | B[in(c,2,y,go(0,y,stop),stop)] .\n";
 
 static uint32_t script[TIMO_WORDS], other[TIMO_WORDS];
 
@@ -12,42 +16,131 @@ static struct timo_reading read_text(const char *text, uint32_t words[TIMO_WORDS
     return timo_read((const uint8_t *)text, strlen(text), words);
 }
 
-static void show(const struct timo_state *state)
+static void refused(const char *what, uint32_t code)
+{
+    printf("%s: refused %u\n", what, (unsigned)code);
+}
+
+/* The bytes that a call wrote, or its refusal. */
+static void put(struct timo_written written, const uint8_t *bytes)
+{
+    if (written.code != 0)
+        refused("text", written.code);
+    else
+        fwrite(bytes, 1, written.len, stdout);
+}
+
+static void put_network(const struct timo_state *state)
 {
     uint8_t text[256];
-    struct timo_written written = timo_write(script, state->c, state->n, text, sizeof text);
-    if (written.code != 0)
-        printf("refused %u\n", (unsigned)written.code);
-    else
-        fwrite(text, 1, written.len, stdout);
+    put(timo_write(script, state->c, state->n, text, sizeof text), text);
+}
+
+static void put_location(const struct timo_state *state, uint32_t l)
+{
+    uint8_t name[TIMO_NAME];
+    put(timo_location_name(script, state->c, state->n, l, name, sizeof name), name);
+}
+
+/* What there is, what must happen, and the line of the step to come. */
+static uint32_t look(const struct timo_state *state)
+{
+    uint8_t line[TIMO_LINE];
+    struct timo_counted locations = timo_locations(script, state->c, state->n);
+    struct timo_report forced = timo_forced(script, state->c, state->n);
+    uint32_t l;
+
+    put_network(state);
+    printf("%u locations:", (unsigned)locations.count);
+    for (l = 0; l < locations.count; l++) {
+        putchar(' ');
+        put_location(state, l);
+    }
+    printf("\nforced: %u, the lowest ", (unsigned)forced.count);
+    put_location(state, forced.lowest);
+    printf("\nto come: ");
+    put(timo_step_line(script, state->c, state->n, 0, line, sizeof line), line);
+    return locations.count;
+}
+
+/* The step at location l, and its line: the location and the label of each
+ * record, asked of the components before the step. */
+static void step(struct timo_state *state, uint32_t l)
+{
+    struct timo_state before = *state;
+    uint32_t records[TIMO_COMPONENTS][3];
+    struct timo_stepped stepped = timo_step(script, state->c, state->n, l, records, TIMO_COMPONENTS);
+    size_t k;
+
+    if (stepped.code != 0) {
+        refused("step", stepped.code);
+        return;
+    }
+    state->n = stepped.n;
+    put_location(&before, l);
+    for (k = 0; k < stepped.count; k++) {
+        uint8_t label[TIMO_LABEL];
+        putchar(' ');
+        put(timo_action_label(script, before.c, before.n, records[k][0], records[k][1], records[k][2], label, sizeof label), label);
+    }
+    putchar('\n');
+}
+
+/* An action and then the tick, and the two as a proposal. */
+static void single_calls(struct timo_state state)
+{
+    struct timo_record records[1] = {{TIMO_CALL, 0, 0}};
+    struct timo_acted acted = timo_action(script, state, TIMO_CALL, 0, 0);
+    struct timo_ticked ticked, proposed;
+    struct timo_compared compared;
+
+    refused("tick first", timo_tick(script, state, 0).code);
+    printf("action: kind %u, definition %u, at location %u\n", (unsigned)acted.label.kind, (unsigned)acted.label.a, (unsigned)acted.label.at);
+    refused("the action again", timo_action(script, acted.state, TIMO_CALL, 0, 0).code);
+    refused("writing a mark", timo_write(script, acted.state.c, acted.state.n, NULL, 0).code);
+    ticked = timo_tick(script, acted.state, 0);
+    proposed = timo_propose(script, state, 0, records, 1);
+    compared = timo_same(script, ticked.state.c, ticked.state.n, script, proposed.state.c, proposed.state.n);
+    printf("proposal: code %u, same %s\n", (unsigned)proposed.code, compared.yes ? "yes" : "no");
+    refused("a proposal of nothing", timo_propose(script, state, 0, NULL, 0).code);
+}
+
+static void refusals(struct timo_state state, uint32_t locations)
+{
+    refused("no text", timo_read(NULL, 0, other).code);
+    refused("unbound variable", read_text("A[go(1,x,stop)] .", other).code);
+    refused("no such location", timo_location_name(script, state.c, state.n, locations, NULL, 0).code);
+    refused("no bytes", timo_location_name(script, state.c, state.n, 0, NULL, 0).code);
+    refused("no records", timo_step(script, state.c, state.n, 0, NULL, 0).code);
+    printf("valid: %s\n", timo_valid(script, state.c, state.n) ? "yes" : "no");
+    state.c[0].vals[7] = locations;
+    printf("valid with a value out of range: %s\n", timo_valid(script, state.c, state.n) ? "yes" : "no");
+    state.n = 0;
+    refused("no component", timo_tick(script, state, 0).code);
 }
 
 int main(void)
 {
-    uint32_t records[TIMO_COMPONENTS][3];
-    struct timo_reading reading = read_text("A[go(1,B,stop)] .", script);
+    struct timo_reading reading = read_text(page, script);
     struct timo_state state = reading.state;
-    struct timo_compared compared;
+    static uint8_t printed[TIMO_PRINTOUT];
+    uint32_t locations, l;
+    size_t length;
     int round;
 
     if (reading.code != 0) {
-        printf("refused %u\n", (unsigned)reading.code);
+        refused("text", reading.code);
         return 1;
     }
-    show(&state);
-    for (round = 0; round < 2; round++) {
-        struct timo_stepped stepped = timo_step(script, state.c, state.n, 0, records, TIMO_COMPONENTS);
-        printf("code %u, %zu actions\n", (unsigned)stepped.code, stepped.count);
-        state.n = stepped.n;
-        show(&state);
-        if (round == 0)
-            printf("tick: refused %u\n", (unsigned)timo_tick(script, state, 0).code);
-    }
-    reading = read_text("B[stop] .", other);
-    compared = timo_same(script, state.c, state.n, other, reading.state.c, reading.state.n);
-    printf("same: code %u, %s\n", (unsigned)compared.code, compared.yes ? "yes" : "no");
-    printf("unbound variable: refused %u\n", (unsigned)read_text("A[go(1,x,stop)] .", other).code);
-    state.n = 0;
-    printf("no component: refused %u\n", (unsigned)timo_tick(script, state, 0).code);
+    locations = look(&state);
+    for (round = 0; round < 4; round++)
+        for (l = 0; l < locations; l++)
+            step(&state, l);
+    put_network(&state);
+    single_calls(reading.state);
+    refusals(reading.state, locations);
+    length = timo_printout((const uint8_t *)page, strlen(page), printed, sizeof printed);
+    printf("printout: %zu bytes, %zu where none are lent\n", length, timo_printout((const uint8_t *)page, strlen(page), NULL, 0));
+    fwrite(printed, 1, length, stdout);
     return 0;
 }

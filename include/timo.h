@@ -1,4 +1,4 @@
-/* The proved step engine for TiMo as a library.
+/* The proved step engine for TiMo as a library, for C99 and C++11 on x86-64.
  *
  * A network is a script, 99,592 words that reading writes and no other call
  * changes, and a state, the components. Every call on a network takes tables of
@@ -8,9 +8,21 @@
  * refusal. Calls that only look at the components, and the step, are lent them
  * with the number in use; action, tick and proposal take and return a state.
  *
- * The words of a script are set out in crates/table/specs/Words.antt, what
- * they stand for in Meaning.antt, the contract of each call in
- * crates/timo/src/lib.rt.
+ * What is lent. A pointer to a script or to components is never null. Where a
+ * number says how many bytes or records are lent and it is 0, the pointer is not
+ * looked at and may be null. What a call writes must not overlap anything else
+ * that it is lent; what it only reads may: timo_same can be given one network
+ * twice. Nothing else may write any of it during the call.
+ *
+ * Threads. The calls share nothing and keep nothing, so that several threads
+ * may call at the same time, also with one script.
+ *
+ * Stack, as measured (docs/LIMITS.md; nothing proves it): 2 MiB are enough
+ * for reading, 4 MiB for the printout, 1 MiB for every other call.
+ *
+ * The words of a script and of a state, and what they stand for, are set out in
+ * docs/LAYOUT.md, the contract of each call in crates/timo/src/lib.rt. The questions, with an example of each, are listed in
+ * docs/PRINTOUT.md.
  */
 #ifndef TIMO_H
 #define TIMO_H
@@ -19,13 +31,32 @@
 #include <stddef.h>
 #include <stdint.h>
 
+#ifdef __cplusplus
+extern "C" {
+#endif
+
 #define TIMO_WORDS 99592      /* words of a script */
-#define TIMO_COMPONENTS 256   /* components of a state */
+#define TIMO_COMPONENTS 256   /* components of a state; no step has more actions */
+#define TIMO_LOCATIONS 64     /* most locations of a network */
 #define TIMO_UNMARKED 64      /* the mark of a component that has none */
 #define TIMO_INF 1000001      /* the timer inf */
 
+#define TIMO_CALL 1           /* the kinds of actions */
+#define TIMO_MOVE 2
+#define TIMO_COMMUNICATION 3
+
+/* So many bytes hold every such text; none of them ends with a zero byte. */
+#define TIMO_TEXT 65535       /* a text that is read */
+#define TIMO_NAME 16          /* the name of a location */
+#define TIMO_LABEL 51         /* a label */
+#define TIMO_LINE 13329       /* the line of a step, with its line feed */
+#define TIMO_PRINTOUT 3477760 /* a printout */
+
 /* A component: the numbers of its location and its owner, the place of its
- * part, its timer, and the location that each slot of its scope has. */
+ * part, its timer, and the location that each slot of its scope has. Question 17
+ * asks of each component in use that loc and all eight of vals, also those of
+ * slots that nothing reads, are below the number of locations, that mark is too
+ * or is TIMO_UNMARKED, and that timer is at most TIMO_INF, marked or not. */
 struct timo_comp {
     uint32_t loc, mark, place, timer;
     uint32_t vals[8];
@@ -37,8 +68,9 @@ struct timo_state {
     size_t n;
 };
 
-/* A label. kind 1: the definition a is called. kind 2: the move to location a.
- * kind 3: location b is sent on channel a. It fires at location at. */
+/* A label in numbers. kind 1: the definition a is called. kind 2: the move to
+ * location a. kind 3: location b is sent on channel a. It fires at location at.
+ * timo_action_label has its text. */
 struct timo_label {
     uint32_t kind, a, b, at;
 };
@@ -78,12 +110,17 @@ struct timo_report {
 
 struct timo_written {
     uint32_t code;
-    size_t len;               /* bytes written */
+    size_t len;               /* bytes written; 0 where code is not 0 */
 };
 
 struct timo_compared {
     uint32_t code;
     bool yes;
+};
+
+struct timo_counted {
+    uint32_t code;
+    uint32_t count;           /* 0 where code is not 0 */
 };
 
 /* Reading: the network of a text of n bytes, its script in the words lent and
@@ -92,7 +129,7 @@ struct timo_compared {
  * stand in text order, unmarked. A refusal leaves the words unchanged and
  * returns a state of zeros. Refusals: 1 to 7. It goes one level deeper for each
  * level of nesting in the text, at most 9,361, and needs up to 1.8 MiB of
- * stack. */
+ * stack. A text of no bytes is refused by 2. */
 struct timo_reading timo_read(const uint8_t *text, size_t n, uint32_t script[TIMO_WORDS]);
 
 /* Question 17. */
@@ -121,7 +158,8 @@ struct timo_ticked timo_propose(const uint32_t script[TIMO_WORDS], struct timo_s
 struct timo_report timo_forced(const uint32_t script[TIMO_WORDS], const struct timo_comp c[TIMO_COMPONENTS], size_t n);
 
 /* The network as text in the bytes lent. Bytes past the length are unchanged.
- * Refusals: 17, 14, 15. */
+ * Refusals: 17, 14, 15. What a text of at most TIMO_TEXT bytes gives can still
+ * be longer than that, with values put in. */
 struct timo_written timo_write(const uint32_t script[TIMO_WORDS], const struct timo_comp c[TIMO_COMPONENTS], size_t n, uint8_t *bytes, size_t lent);
 
 /* Whether two networks are the same: the same definitions as a set and, in any
@@ -130,5 +168,59 @@ struct timo_written timo_write(const uint32_t script[TIMO_WORDS], const struct t
  * nor does a name that no longer occurs. yes is false where code is not 0.
  * Refusal: 17, for either network. */
 struct timo_compared timo_same(const uint32_t script_a[TIMO_WORDS], const struct timo_comp a[TIMO_COMPONENTS], size_t n, const uint32_t script_b[TIMO_WORDS], const struct timo_comp b[TIMO_COMPONENTS], size_t m);
+
+/* ---- In letters. None of these changes a network. Bytes past the length are
+ * unchanged; a refusal leaves them all as they were. ---- */
+
+/* How many locations there are; they are numbered from 0. Refusal: 17. */
+struct timo_counted timo_locations(const uint32_t script[TIMO_WORDS], const struct timo_comp c[TIMO_COMPONENTS], size_t n);
+
+/* The name of location l. Refusals: 17, 8, 15. */
+struct timo_written timo_location_name(const uint32_t script[TIMO_WORDS], const struct timo_comp c[TIMO_COMPONENTS], size_t n, uint32_t l, uint8_t *bytes, size_t lent);
+
+/* The label of an action, `id@l`, `v@l` or `c<v>@l`. Refusals: 17, then 8, 9,
+ * 10, 11 as for timo_action, then 15. For a record of a step it is asked with
+ * the components as they were before the step, for each of its records alike:
+ * an action of a step has the same label there (the law step-before of
+ * crates/run_line). */
+struct timo_written timo_action_label(const uint32_t script[TIMO_WORDS], const struct timo_comp c[TIMO_COMPONENTS], size_t n, uint32_t kind, size_t p, size_t q, uint8_t *bytes, size_t lent);
+
+/* The line of the step at location l as timorun prints it: the location, each
+ * label after one space, a line feed. The components are those before the step.
+ * Refusals: 17, 8, 13 as for the step, then 15. */
+struct timo_written timo_step_line(const uint32_t script[TIMO_WORDS], const struct timo_comp c[TIMO_COMPONENTS], size_t n, uint32_t l, uint8_t *bytes, size_t lent);
+
+/* The whole printout of a text of n bytes, as timorun prints it, refusals
+ * included. It returns the printout's length, at most TIMO_PRINTOUT, whatever
+ * is lent. Fewer bytes get the printout's first ones; with more, those past the
+ * length are unchanged. */
+size_t timo_printout(const uint8_t *text, size_t n, uint8_t *bytes, size_t lent);
+
+/* ---- The layout that the library was compiled with. ---- */
+#if defined(__cplusplus)
+#define TIMO_ASSERT(test) static_assert(test, "timo.h: layout");
+#elif defined(__STDC_VERSION__) && __STDC_VERSION__ >= 201112L
+#define TIMO_ASSERT(test) _Static_assert(test, "timo.h: layout");
+#else
+#define TIMO_ASSERT(test)
+#endif
+TIMO_ASSERT(sizeof(size_t) == 8 && sizeof(bool) == 1)
+TIMO_ASSERT(sizeof(struct timo_comp) == 48 && offsetof(struct timo_comp, vals) == 16)
+TIMO_ASSERT(sizeof(struct timo_state) == 12296 && offsetof(struct timo_state, n) == 12288)
+TIMO_ASSERT(sizeof(struct timo_label) == 16 && offsetof(struct timo_label, at) == 12)
+TIMO_ASSERT(sizeof(struct timo_record) == 12 && offsetof(struct timo_record, q) == 8)
+TIMO_ASSERT(sizeof(struct timo_reading) == 12304 && offsetof(struct timo_reading, state) == 8)
+TIMO_ASSERT(sizeof(struct timo_acted) == 12320 && offsetof(struct timo_acted, label) == 4 && offsetof(struct timo_acted, state) == 24)
+TIMO_ASSERT(sizeof(struct timo_ticked) == 12304 && offsetof(struct timo_ticked, state) == 8)
+TIMO_ASSERT(sizeof(struct timo_stepped) == 24 && offsetof(struct timo_stepped, count) == 8 && offsetof(struct timo_stepped, n) == 16)
+TIMO_ASSERT(sizeof(struct timo_report) == 24 && offsetof(struct timo_report, set) == 8 && offsetof(struct timo_report, count) == 16)
+TIMO_ASSERT(sizeof(struct timo_written) == 16 && offsetof(struct timo_written, len) == 8)
+TIMO_ASSERT(sizeof(struct timo_compared) == 8 && offsetof(struct timo_compared, yes) == 4)
+TIMO_ASSERT(sizeof(struct timo_counted) == 8 && offsetof(struct timo_counted, count) == 4)
+#undef TIMO_ASSERT
+
+#ifdef __cplusplus
+}
+#endif
 
 #endif

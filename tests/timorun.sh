@@ -1,6 +1,6 @@
 #!/usr/bin/env bash
 # The program that `rt ci` built: the example scripts, some hundred scripts of the reference engine's generator, a text in small pieces, a text that is too
-# long in small pieces, a closed pipe.
+# long in small pieces; then what it does when it cannot read or write, and on a small stack (tests/timorun_ends.py).
 set -eu
 cd "$(dirname "$0")/.."
 timorun=target/bin/timorun
@@ -29,6 +29,5 @@ END
 script=examples/document_01
 (while IFS= read -r -n 1 -d '' byte; do printf '%s' "$byte"; done < "$script.timo") | "$timorun" | cmp - "$script.out"
 (for i in $(seq 70); do head -c 1000 /dev/zero | tr '\0' ' '; done) | "$timorun" | cmp - <(echo 'refused 1')
-# nobody reads the printout: the program ends, and prints no message
-"$timorun" < "$script.timo" 2> target/closed.err | true
-test ! -s target/closed.err
+
+python3 tests/timorun_ends.py "$timorun" examples

@@ -1,39 +1,130 @@
 //! The library from Rust: what `examples/embed.c` does, and the same printout.
 
-use compare::timo::Table;
+use compare::timo::{printout, read_into, words_of, Record, Table, LABEL, LINE, NAME, PRINTOUT};
 
-/// The number of a refusal, 0 if there is none.
-fn code<T>(answer: Result<T, u32>) -> u32 {
-    answer.err().unwrap_or(0)
+const PAGE: &[u8] = b"Page(x) = go(0,x,out(c,1,x,stop,stop)) .\n\
+    A[Page(B)] | B[in(c,2,y,go(0,y,stop),stop)] .\n";
+
+/// The bytes that a call wrote, or its refusal.
+fn put(answer: Result<usize, u32>, bytes: &[u8]) {
+    match answer {
+        Ok(length) => print!("{}", String::from_utf8_lossy(&bytes[..length])),
+        Err(number) => println!("text: refused {number}"),
+    }
 }
 
-fn show(table: &Table) {
-    let mut text = [0; 256];
-    match table.write(&mut text) {
-        Ok(length) => print!("{}", String::from_utf8_lossy(&text[..length])),
-        Err(number) => println!("refused {number}"),
+fn refused<T>(what: &str, answer: Result<T, u32>) {
+    println!("{what}: refused {}", answer.err().unwrap_or(0));
+}
+
+fn yes_or_no(yes: bool) -> &'static str {
+    if yes {
+        "yes"
+    } else {
+        "no"
     }
+}
+
+fn put_network(table: &Table) {
+    let mut text = [0; 256];
+    put(table.write(&mut text), &text);
+}
+
+fn put_location(table: &Table, location: u32) {
+    let mut name = [0; NAME];
+    put(table.location_name(location, &mut name), &name);
+}
+
+/// What there is, what must happen, and the line of the step to come.
+fn look(table: &Table) -> Result<u32, u32> {
+    let mut line = [0; LINE];
+    let locations = table.locations()?;
+    let forced = table.forced()?;
+    put_network(table);
+    print!("{locations} locations:");
+    for location in 0..locations {
+        print!(" ");
+        put_location(table, location);
+    }
+    print!("\nforced: {}, the lowest ", forced.count);
+    put_location(table, forced.lowest);
+    print!("\nto come: ");
+    put(table.step_line(0, &mut line), &line);
+    Ok(locations)
+}
+
+/// The step at a location, and its line: the location and the label of each
+/// record, asked of the table before the step.
+fn step(table: &mut Table, location: u32) -> Result<(), u32> {
+    let before = table.clone();
+    let mut records = [[0; 3]; 256];
+    let count = table.step(location, &mut records)?;
+    put_location(&before, location);
+    for [kind, p, q] in &records[..count] {
+        let mut label = [0; LABEL];
+        print!(" ");
+        let answer = before.action_label(*kind, *p as usize, *q as usize, &mut label);
+        put(answer, &label);
+    }
+    println!();
+    Ok(())
+}
+
+/// An action and then the tick, and the two as a proposal.
+fn single_calls(table: &Table) -> Result<(), u32> {
+    let (mut one, mut other) = (table.clone(), table.clone());
+    let call = Record {
+        kind: 1,
+        p: 0,
+        q: 0,
+    };
+    refused("tick first", one.tick(0));
+    let label = one.action(1, 0, 0)?;
+    println!(
+        "action: kind {}, definition {}, at location {}",
+        label.kind, label.a, label.at
+    );
+    refused("the action again", one.action(1, 0, 0));
+    refused("writing a mark", one.write(&mut []));
+    one.tick(0)?;
+    other.propose(0, &[call])?;
+    println!("proposal: code 0, same {}", yes_or_no(one.same(&other)?));
+    refused("a proposal of nothing", table.clone().propose(0, &[]));
+    Ok(())
+}
+
+fn refusals(mut table: Table, locations: u32) {
+    let mut words = words_of(0);
+    let code = read_into(b"", &mut words).code;
+    println!("no text: refused {code}");
+    refused("unbound variable", Table::read(b"A[go(1,x,stop)] ."));
+    refused("no such location", table.location_name(locations, &mut []));
+    refused("no bytes", table.location_name(0, &mut []));
+    refused("no records", table.step(0, &mut []));
+    println!("valid: {}", yes_or_no(table.is_valid()));
+    table.state.c[0].vals[7] = locations;
+    let valid = yes_or_no(table.is_valid());
+    println!("valid with a value out of range: {valid}");
+    table.state.n = 0;
+    refused("no component", table.tick(0));
 }
 
 fn main() -> Result<(), u32> {
-    let mut table = Table::read(b"A[go(1,B,stop)] .")?;
-    show(&table);
-    for round in 0..2 {
-        let mut records = [[0; 3]; 256];
-        let stepped = table.step(0, &mut records);
-        println!("code {}, {} actions", code(stepped), stepped.unwrap_or(0));
-        show(&table);
-        if round == 0 {
-            println!("tick: refused {}", code(table.tick(0)));
+    let read = Table::read(PAGE)?;
+    let mut table = read.clone();
+    let locations = look(&table)?;
+    for _ in 0..4 {
+        for location in 0..locations {
+            step(&mut table, location)?;
         }
     }
-    let other = Table::read(b"B[stop] .")?;
-    let same = table.same(&other);
-    let word = if same == Ok(true) { "yes" } else { "no" };
-    println!("same: code {}, {word}", code(same));
-    let unbound = Table::read(b"A[go(1,x,stop)] .");
-    println!("unbound variable: refused {}", code(unbound));
-    table.state.n = 0;
-    println!("no component: refused {}", code(table.tick(0)));
+    put_network(&table);
+    single_calls(&read)?;
+    refusals(read, locations);
+    let mut printed = vec![0; PRINTOUT];
+    let length = printout(PAGE, &mut printed);
+    let measured = printout(PAGE, &mut []);
+    println!("printout: {length} bytes, {measured} where none are lent");
+    put(Ok(length), &printed);
     Ok(())
 }

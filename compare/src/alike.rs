@@ -1,9 +1,10 @@
 //! `same` on a network and on others made from it by hand, against the
 //! reference engine; and question 17 of all calls where a table stands for no
-//! network.
+//! network. Whether it does is asked of both engines.
 
 use timo_reference::calls::Engine;
 use timo_reference::random::Random;
+use timo_reference::table::{Fault, DEFINITIONS, LOCATIONS, PARTS, ROW};
 use timo_reference::term::Network;
 
 use crate::agree::{equal, Agreed};
@@ -22,10 +23,11 @@ pub struct Tally {
 /// Compares a valid table with tables made from it, both ways round. Gives one
 /// of those that stand for a network.
 pub fn compare(random: &mut Random, table: &Table, tally: &mut Tally) -> Result<Pair, String> {
-    let made: Vec<Made> = variations(random, table)
+    let made: Result<Vec<Made>, String> = variations(random, table)
         .into_iter()
         .map(|(change, table)| Made::new(change, table))
         .collect();
+    let made = made?;
     let (given, others) = (&made[0], &made[1..]);
     judge(given, given, tally)?;
     for other in others {
@@ -49,13 +51,17 @@ struct Made {
 }
 
 impl Made {
-    fn new(change: &'static str, table: Table) -> Made {
-        let network = table.is_valid().then(|| table::network(&table));
-        Made {
+    fn new(change: &'static str, table: Table) -> Result<Made, String> {
+        let network = table::network(&table);
+        if table.is_valid() != network.is_ok() {
+            let said = network.map_or_else(fault, |_| "yes".to_string());
+            return Err(format!("question 17 of {change}: reference engine {said}"));
+        }
+        Ok(Made {
             change,
             table,
-            network,
-        }
+            network: network.ok(),
+        })
     }
 
     fn pair(self) -> Option<Pair> {
@@ -65,6 +71,11 @@ impl Made {
             network,
         })
     }
+}
+
+/// What the reference engine says of a table that does not pass.
+pub fn fault(fault: Fault) -> String {
+    format!("no, {fault}")
 }
 
 fn judge(one: &Made, other: &Made, tally: &mut Tally) -> Agreed {
@@ -81,29 +92,31 @@ fn judge(one: &Made, other: &Made, tally: &mut Tally) -> Agreed {
     equal(&what, &one.table.same(&other.table), &answer)
 }
 
-/// Every call on a table that stands for no network is refused 17 and leaves
-/// what was given and lent to it.
+/// Every call on a table that stands for no network is refused 17, whatever
+/// else is wrong with it, and leaves what was given and lent to it.
 pub fn refused_by_all(table: &Table) -> Agreed {
     let mut after = table.clone();
     let mut records = [[77; 3]; 2];
     let mut bytes = [b'#'; 8];
-    let proposal = [Record {
-        kind: 1,
-        p: 0,
-        q: 0,
-    }];
+    let record = |kind, p, q| Record { kind, p, q };
     let codes = [
         after.action(1, 0, 0).err(),
+        after.action(9, usize::MAX, 0).err(),
         after.tick(0).err(),
+        after.tick(64).err(),
         after.step(0, &mut records).err(),
-        after.propose(0, &proposal).err(),
+        after.step(u32::MAX, &mut []).err(),
+        after.propose(0, &[record(1, 0, 0)]).err(),
+        after.propose(65, &[record(0, 256, 256)]).err(),
         after.forced().err(),
         after.write(&mut bytes).err(),
+        after.write(&mut []).err(),
         after.same(table).err(),
     ];
-    equal("calls on a bad table", &codes, &[Some(17); 7])?;
-    let kept = after.state == table.state && records == [[77; 3]; 2] && bytes == [b'#'; 8];
-    equal("state and buffers kept by 17", &kept, &true)
+    equal("calls on a bad table", &codes, &[Some(17); 12])?;
+    let lent = records == [[77; 3]; 2] && bytes == [b'#'; 8];
+    let kept = after.state == table.state && after.words == table.words && lent;
+    equal("table and buffers kept by 17", &kept, &true)
 }
 
 /// Tables made from one by changes of its state and its words, and the tables
@@ -150,20 +163,20 @@ fn variations(random: &mut Random, table: &Table) -> Vec<(&'static str, Table)> 
         other.state.c[at].vals = [location; 8];
     });
     add("names of locations exchanged", &mut |other| {
-        exchange(other, table::LOCATIONS, 0, location as usize, 4);
+        exchange(other, LOCATIONS, 0, location as usize, 4);
     });
     if table.words[3] > 0 {
         let last = table.words[3] as usize - 1;
         add("definitions exchanged under their calls", &mut |other| {
-            exchange(other, table::DEFINITIONS, 0, last, table::ROW);
+            exchange(other, DEFINITIONS, 0, last, ROW);
         });
         add("definitions in another order", &mut |other| {
-            exchange(other, table::DEFINITIONS, 0, last, table::ROW);
+            exchange(other, DEFINITIONS, 0, last, ROW);
             follow(other, 0, last);
         });
     }
     add("a word of the script", &mut |other| {
-        let row = table::PARTS + table::ROW * random.below(other.words[0] as usize);
+        let row = PARTS + ROW * random.below(other.words[0] as usize);
         let word = &mut other.words[row + random.below(21)];
         *word = *random.pick(&[0, 1, 5, 64, 65, word.wrapping_add(1), word.wrapping_sub(1)]);
     });
@@ -193,17 +206,16 @@ fn follow(table: &mut Table, one: usize, other: usize) {
         d => d,
     };
     for place in 0..table.words[0] as usize {
-        let row = &mut table.words[table::PARTS + table::ROW * place..][..table::ROW];
-        if row[0] == table::CALL {
+        let row = &mut table.words[PARTS + ROW * place..][..ROW];
+        if row[0] == 4 {
             row[1] = definition(row[1] as usize) as u32;
         }
         let held = row[8] as usize;
-        let in_definitions =
-            |o: &u32| (table::DEFINITIONS..table::LOCATIONS).contains(&(*o as usize));
+        let in_definitions = |o: &u32| (DEFINITIONS..LOCATIONS).contains(&(*o as usize));
         for offset in row[9..9 + held].iter_mut().filter(|o| in_definitions(o)) {
-            let inside = *offset as usize - table::DEFINITIONS;
-            let moved = definition(inside / table::ROW) * table::ROW + inside % table::ROW;
-            *offset = (table::DEFINITIONS + moved) as u32;
+            let inside = *offset as usize - DEFINITIONS;
+            let moved = definition(inside / ROW) * ROW + inside % ROW;
+            *offset = (DEFINITIONS + moved) as u32;
         }
     }
 }

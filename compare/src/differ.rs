@@ -1,6 +1,7 @@
 //! A script and a list of calls through both engines.
 
-use timo_reference::calls::{Engine, Record};
+use timo_reference::calls::{Engine, Numbers, Record};
+use timo_reference::generate::call_list;
 use timo_reference::lists::Call;
 use timo_reference::random::Random;
 use timo_reference::runs::{Broken, Run};
@@ -11,10 +12,20 @@ use crate::agree::{equal, Agreed};
 use crate::alike;
 use crate::reading::{self, Pair};
 use crate::table;
-use crate::timo::{self, Table};
+use crate::timo::{self, Comp, Table};
 
 const BLANK: [u32; 3] = [77; 3];
 const BLANK_BYTE: u8 = b'#';
+/// What is past the components in use.
+const PAST: Comp = Comp {
+    loc: 70,
+    mark: 71,
+    place: 72,
+    timer: 73,
+    vals: [74; 8],
+};
+/// Calls on a network made by hand.
+const ANY_CALLS: usize = 12;
 
 /// How many calls were accepted and refused by both, and how many pairs of
 /// networks are the same and not the same by both.
@@ -75,7 +86,7 @@ pub fn differ(engine: Engine, script: &[u8], calls: &[Call]) -> Result<Tally, Di
     let Ok(pair) = read else {
         return Ok(Tally::default());
     };
-    let run = Run::new(&table::network(&pair.table));
+    let run = Run::new(&pair.network);
     let mut session = Session::new(engine, pair, Some(run));
     session.compare(0).map_err(at(Place::Reading))?;
     for (index, call) in calls.iter().enumerate() {
@@ -99,7 +110,10 @@ struct Session {
 }
 
 impl Session {
-    fn new(engine: Engine, pair: Pair, run: Option<Run>) -> Session {
+    /// The words past the components in use hold anything.
+    fn new(engine: Engine, mut pair: Pair, run: Option<Run>) -> Session {
+        let n = pair.table.state.n;
+        pair.table.state.c[n..].fill(PAST);
         Session {
             engine,
             run,
@@ -110,12 +124,10 @@ impl Session {
         }
     }
 
-    fn valid(&self) -> Agreed {
-        equal("question 17", &self.table.is_valid(), &true)
-    }
-
+    /// Question 17 by both, and the components that the table stands for.
     fn components(&self) -> Agreed {
-        let ours = table::components(&self.table);
+        equal("question 17", &self.table.is_valid(), &true)?;
+        let ours = table::components(&self.table).map_err(alike::fault)?;
         if ours == self.network.components {
             return Ok(());
         }
@@ -143,18 +155,21 @@ impl Session {
 
     fn action(&mut self, record: Record) -> Agreed {
         let before = self.table.state;
-        let ours = self
+        let (code, ours) = self
             .table
-            .action(record.kind, record.p as usize, record.q as usize)
-            .map(|label| table::label(self.table.words.as_slice(), label));
+            .acted(record.kind, record.p as usize, record.q as usize);
         let theirs = self.engine.action(&self.network, record);
-        let theirs = theirs.map(|(network, label)| {
+        let label = theirs.as_ref().ok().map(|(_, label)| label);
+        let number = theirs.as_ref().err().map_or(0, |refusal| refusal.number());
+        equal("action", &code, &u32::from(number))?;
+        let numbers = self.engine.numbers(&self.network.script, label);
+        equal("label in numbers", &numbers_of(ours), &numbers)?;
+        if let Ok((network, label)) = theirs {
             self.network = network;
-            label.to_string()
-        });
-        let theirs = theirs.map_err(|refusal| u32::from(refusal.number()));
-        equal("action", &ours, &theirs)?;
-        self.settle(ours.is_ok(), &before, |run| run.action(record))
+            let ours = table::label(&self.table.words, ours);
+            equal("label", &ours, &label.to_string())?;
+        }
+        self.settle(code == 0, &before, |run| run.action(record))
     }
 
     fn tick(&mut self, location: u32) -> Agreed {
@@ -249,8 +264,8 @@ impl Session {
             &again.table.same(&self.table),
             &Ok(true),
         )?;
-        let ours = table::network(&self.table);
-        let back = table::network(&again.table);
+        let ours = table::network(&self.table).map_err(alike::fault)?;
+        let back = table::network(&again.table).map_err(alike::fault)?;
         equal("components read back", &back.components, &ours.components)?;
         let definitions = &back.script.definitions;
         equal(
@@ -273,17 +288,7 @@ impl Session {
     fn compare(&mut self, index: usize) -> Agreed {
         let mut random = Random::new(index as u64);
         let made = alike::compare(&mut random, &self.table, &mut self.tally.pairs)?;
-        let locations = made.table.words[1];
-        let mut session = Session::new(Engine::default(), made, None);
-        let steps = (0..locations).map(|location| Call::Step {
-            location,
-            room: 256,
-        });
-        for call in steps.chain([Call::Forced, Call::Write { room: 65_536 }]) {
-            session.put(&call, index)?;
-            session.components()?;
-        }
-        Ok(())
+        run_by_itself(&mut random, made)
     }
 
     fn same(&self) -> Agreed {
@@ -307,8 +312,8 @@ impl Session {
         )
     }
 
-    /// Counts the answer; a refusal has left the state as it was, and what an
-    /// accepted call returned passes question 17 and feeds the run.
+    /// Counts the answer; a refusal has left the state as it was, an accepted
+    /// call what is past the components, and it feeds the run.
     fn settle(
         &mut self,
         accepted: bool,
@@ -317,7 +322,9 @@ impl Session {
     ) -> Agreed {
         if accepted {
             self.tally.accepted += 1;
-            self.valid()?;
+            let past = self.table.state.n..;
+            let kept = self.table.state.c[past.clone()] == before.c[past];
+            equal("words past the components", &kept, &true)?;
             return held(self.run.as_mut().map_or(Ok(()), feed));
         }
         self.tally.refused += 1;
@@ -329,8 +336,43 @@ impl Session {
     }
 
     fn finish(self) -> Agreed {
-        let last = table::network(&self.table);
+        let last = table::network(&self.table).map_err(alike::fault)?;
         held(self.run.map_or(Ok(()), |run| run.finish(&last)))
+    }
+}
+
+/// A network made by hand: a step at each location, the report and the text,
+/// then a few calls of any sort.
+pub fn run_by_itself(random: &mut Random, pair: Pair) -> Agreed {
+    let steps = (0..pair.table.words[1]).map(|location| Call::Step {
+        location,
+        room: 256,
+    });
+    let first: Vec<Call> = steps
+        .chain([Call::Forced, Call::Write { room: 65_536 }])
+        .collect();
+    let any = call_list::calls(random, pair.network.clone(), ANY_CALLS);
+    for calls in [first, any] {
+        let mut session = Session::new(Engine::default(), pair.clone(), None);
+        session.components()?;
+        for call in calls.iter().filter(|call| **call != Call::Keep) {
+            session.put(call, 0).map_err(|what| at_call(call, what))?;
+            session.components().map_err(|what| at_call(call, what))?;
+        }
+    }
+    Ok(())
+}
+
+fn at_call(call: &Call, what: String) -> String {
+    format!("{call}: {what}")
+}
+
+fn numbers_of(label: timo::Label) -> Numbers {
+    Numbers {
+        kind: label.kind,
+        a: label.a,
+        b: label.b,
+        at: label.at,
     }
 }
 

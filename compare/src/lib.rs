@@ -4,10 +4,11 @@
 //! | module    | what it holds                                            |
 //! |-----------|----------------------------------------------------------|
 //! | `timo`    | the library's declarations, and a safe interface to them |
-//! | `table`   | the network of a table                                   |
+//! | `table`   | the reference engine's view of a table                   |
 //! | `agree`   | whether both say the same                                |
 //! | `reading` | a text through both readers                              |
 //! | `alike`   | `same` on networks made from one another                 |
+//! | `tables`  | tables of every sort, made by hand, through both engines |
 //! | `differ`  | a script and a list of calls through both engines        |
 //! | `shrink`  | a smaller script and list that still show a difference   |
 
@@ -17,4 +18,5 @@ pub mod differ;
 pub mod reading;
 pub mod shrink;
 pub mod table;
+pub mod tables;
 pub mod timo;

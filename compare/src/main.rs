@@ -1,8 +1,9 @@
 //! `compare SEED N`: N generated scripts with call lists, and ten times as many
 //! texts of any sort, through the proved engine's library and the reference
-//! engine. Prints the first difference with its seed, a shrunken script and
-//! list, and ends with status 1; then puts each wrong variant of the rules in
-//! the reference's place and says of any that no list has told apart.
+//! engine, and thirty tables made by hand from each script. Prints the first
+//! difference with its seed, a shrunken script and list, and ends with status 1;
+//! then puts each wrong variant of the rules in the reference's place and says of
+//! any that no list has told apart.
 
 use std::env;
 use std::process::ExitCode;
@@ -10,13 +11,20 @@ use std::process::ExitCode;
 use compare::differ::{differ, Place, Tally};
 use compare::reading;
 use compare::shrink::{shrink, Case};
+use compare::tables;
+use compare::timo::Table;
 use timo_reference::calls::Engine;
 use timo_reference::generate::{self, edges};
 use timo_reference::lists::{self, Call};
+use timo_reference::random::Random;
 use timo_reference::rules::Variant;
 
 /// Texts of any sort to one list.
 const TEXTS: u64 = 10;
+/// Tables made by hand to one list.
+const TABLES: usize = 30;
+/// Tests of question 17 that some table has to fail alone.
+const MOST_TESTS: usize = 25;
 
 fn main() -> ExitCode {
     let numbers: Option<Vec<u64>> = env::args().skip(1).map(|word| word.parse().ok()).collect();
@@ -26,7 +34,7 @@ fn main() -> ExitCode {
     };
     let compared = texts(*seed, *count)
         .and_then(|()| all_lists(*seed, *count))
-        .and_then(|lists| variants(&lists));
+        .and_then(|lists| all_tables(&lists).and_then(|()| variants(&lists)));
     match compared {
         Ok(()) => ExitCode::SUCCESS,
         Err(why) => {
@@ -121,6 +129,29 @@ fn list(seed: u64) -> List {
     }
 }
 
+/// Tables made by hand from what each script is after some steps.
+fn all_tables(lists: &[List]) -> Result<(), String> {
+    let mut tally = tables::Tally::default();
+    for List { seed, script, .. } in lists {
+        let mut random = Random::new(*seed);
+        let mut good = Table::read(script).map_err(|number| format!("refused {number}"))?;
+        for _ in 0..TABLES {
+            let mut made = tables::make(&mut random, &good);
+            made.change = format!("script of seed {seed}, {}", made.change);
+            tally.judge(&mut random, &good, &made);
+            if random.chance(1, 4) {
+                let location = random.below(good.words[1] as usize) as u32;
+                let _ = good.step(location, &mut [[0; 3]; 256]);
+            }
+        }
+    }
+    println!("tables made by hand, by both alike: {tally}");
+    tally.agreed()?;
+    enough(tally.passed > 0, "no table stands for a network")?;
+    let few = tally.needed.len() < MOST_TESTS && lists.len() >= 100;
+    enough(!few, &format!("few tests: {:?}", tally.needed))
+}
+
 /// Each wrong variant differs from the proved engine on some list.
 fn variants(lists: &[List]) -> Result<(), String> {
     let noticed = |variant: Variant| {
@@ -128,14 +159,12 @@ fn variants(lists: &[List]) -> Result<(), String> {
             |list: &List| differ(Engine::new(variant), &list.script, &list.calls).is_err();
         lists.iter().any(differs)
     };
-    let unnoticed: Vec<Variant> = Variant::WRONG
-        .into_iter()
-        .filter(|v| !noticed(*v))
-        .collect();
+    let wrong = [&Variant::WRONG[..], &Variant::WRONG_NUMBERS].concat();
+    let count = wrong.len();
+    let unnoticed: Vec<Variant> = wrong.into_iter().filter(|v| !noticed(*v)).collect();
     println!(
-        "{} of {} wrong variants told apart",
-        Variant::WRONG.len() - unnoticed.len(),
-        Variant::WRONG.len()
+        "{} of {count} wrong variants told apart",
+        count - unnoticed.len()
     );
     enough(
         unnoticed.is_empty(),

@@ -1,12 +1,15 @@
 //! A text through both readers.
 
 use timo_reference::calls::Engine;
+use timo_reference::reading::MOST_PARTS;
+use timo_reference::table::{PARTS, ROW};
 use timo_reference::term::Network;
 use timo_reference::writing;
 
 use crate::agree::{equal, Agreed};
+use crate::alike;
 use crate::table;
-use crate::timo::{self, State, Table, WORDS};
+use crate::timo::{self, Comp, State, Table, WORDS};
 
 /// What the words hold that are lent to reading.
 const BLANK: u32 = 0xa5a5_a5a5;
@@ -48,8 +51,20 @@ pub fn read_over(text: &[u8], mut words: Box<[u32; WORDS]>) -> Result<Read, Stri
         state: reading.state,
     };
     yes(table.is_valid(), "question 17 of the table read")?;
-    equal_networks("the network read", &table::network(&table), &network)?;
+    kept_behind(&table, &before)?;
+    let ours = table::network(&table).map_err(alike::fault)?;
+    equal_networks("the network read", &ours, &network)?;
     Ok(Ok(Pair { table, network }))
+}
+
+/// The words behind the last row are as they were, and those past the
+/// components in use are 0.
+fn kept_behind(table: &Table, before: &[u32; WORDS]) -> Agreed {
+    let rows = PARTS + ROW * (table.words[0] as usize).min(MOST_PARTS);
+    let behind = table.words[rows..] == before[rows..];
+    yes(behind, "words kept behind the last row")?;
+    let mut past = table.state.c[table.state.n..].iter();
+    yes(past.all(|c| *c == Comp::ZERO), "zeros past the components")
 }
 
 /// Names by number, definitions in order and components in order.

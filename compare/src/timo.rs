@@ -5,8 +5,18 @@
 /// Words of a script.
 pub const WORDS: usize = 99_592;
 
+/// Bytes that hold the name of every location, every label, every line of a
+/// step, every printout.
+pub const NAME: usize = 16;
+pub const LABEL: usize = 51;
+pub const LINE: usize = 13_329;
+pub const PRINTOUT: usize = 3_477_760;
+
 /// The mark of a component that has none.
 pub const UNMARKED: u32 = 64;
+
+/// Stands for the number of a refusal that comes with anything but its number.
+pub const MORE_THAN_A_NUMBER: u32 = 1_000;
 
 /// A component: location, mark, place of its part, timer, and a location for
 /// each slot.
@@ -46,9 +56,15 @@ impl State {
     };
 }
 
-/// A label in numbers.
+impl Default for State {
+    fn default() -> State {
+        State::ZERO
+    }
+}
+
+/// A label in numbers; all 0 if the action is refused.
 #[repr(C)]
-#[derive(Clone, Copy, Debug)]
+#[derive(Clone, Copy, Debug, Default, PartialEq, Eq)]
 pub struct Label {
     pub kind: u32,
     pub a: u32,
@@ -94,7 +110,7 @@ struct Stepped {
 
 /// The forced report.
 #[repr(C)]
-#[derive(Clone, Copy, Debug, PartialEq, Eq)]
+#[derive(Clone, Copy, Debug, Default, PartialEq, Eq)]
 pub struct Report {
     pub code: u32,
     pub set: u64,
@@ -112,6 +128,12 @@ struct Written {
 struct Compared {
     code: u32,
     yes: bool,
+}
+
+#[repr(C)]
+struct Counted {
+    code: u32,
+    count: u32,
 }
 
 extern "C" {
@@ -138,12 +160,46 @@ extern "C" {
     fn timo_propose(w: *const u32, st: State, l: u32, records: *const Record, n: usize) -> Ticked;
     fn timo_forced(w: *const u32, c: *const Comp, n: usize) -> Report;
     fn timo_write(w: *const u32, c: *const Comp, n: usize, buf: *mut u8, lent: usize) -> Written;
+    fn timo_locations(w: *const u32, c: *const Comp, n: usize) -> Counted;
+    fn timo_location_name(
+        w: *const u32,
+        c: *const Comp,
+        n: usize,
+        l: u32,
+        buf: *mut u8,
+        lent: usize,
+    ) -> Written;
+    fn timo_action_label(
+        w: *const u32,
+        c: *const Comp,
+        n: usize,
+        kind: u32,
+        p: usize,
+        q: usize,
+        buf: *mut u8,
+        lent: usize,
+    ) -> Written;
+    fn timo_step_line(
+        w: *const u32,
+        c: *const Comp,
+        n: usize,
+        l: u32,
+        buf: *mut u8,
+        lent: usize,
+    ) -> Written;
+    fn timo_printout(text: *const u8, n: usize, buf: *mut u8, lent: usize) -> usize;
 }
 
 /// Reading into lent words. A refusal leaves them unchanged.
 pub fn read_into(text: &[u8], words: &mut [u32; WORDS]) -> Reading {
     // SAFETY: the text is only read; `words` is not reached otherwise meanwhile.
     unsafe { timo_read(text.as_ptr(), text.len(), words.as_mut_ptr()) }
+}
+
+/// The whole printout of a text: its length. Fewer bytes get its first ones.
+pub fn printout(text: &[u8], lent: &mut [u8]) -> usize {
+    // SAFETY: the text is only read; `lent` is not reached otherwise meanwhile.
+    unsafe { timo_printout(text.as_ptr(), text.len(), lent.as_mut_ptr(), lent.len()) }
 }
 
 /// A script's words, all of one content, without a copy on the stack.
@@ -165,7 +221,7 @@ impl Table {
     pub fn read(text: &[u8]) -> Result<Table, u32> {
         let mut words = words_of(0);
         let Reading { code, state } = read_into(text, &mut words);
-        answer(code, Table { words, state })
+        answer(code, state).map(|state| Table { words, state })
     }
 
     /// Whether two tables stand for the same network.
@@ -193,10 +249,16 @@ impl Table {
 
     /// A single action; its label, or the number of its refusal.
     pub fn action(&mut self, kind: u32, p: usize, q: usize) -> Result<Label, u32> {
+        let (code, label) = self.acted(kind, p, q);
+        answer(code, label)
+    }
+
+    /// A single action; its code and what stands in the label's place.
+    pub fn acted(&mut self, kind: u32, p: usize, q: usize) -> (u32, Label) {
         // SAFETY: as for `is_valid`.
         let acted = unsafe { timo_action(self.words.as_ptr(), self.state, kind, p, q) };
         self.state = acted.state;
-        answer(acted.code, acted.label)
+        (acted.code, acted.label)
     }
 
     pub fn tick(&mut self, location: u32) -> Result<(), u32> {
@@ -244,7 +306,7 @@ impl Table {
         // SAFETY: as for `is_valid`.
         let report =
             unsafe { timo_forced(self.words.as_ptr(), self.state.c.as_ptr(), self.state.n) };
-        answer(report.code, report)
+        answer(report.code, Report { code: 0, ..report })
     }
 
     /// Writing; the length of the text.
@@ -261,12 +323,78 @@ impl Table {
         };
         answer(written.code, written.len)
     }
+
+    /// How many locations there are.
+    pub fn locations(&self) -> Result<u32, u32> {
+        // SAFETY: as for `is_valid`.
+        let counted =
+            unsafe { timo_locations(self.words.as_ptr(), self.state.c.as_ptr(), self.state.n) };
+        answer(counted.code, counted.count)
+    }
+
+    /// The name of a location; its length.
+    pub fn location_name(&self, location: u32, lent: &mut [u8]) -> Result<usize, u32> {
+        // SAFETY: as for `step`.
+        let written = unsafe {
+            timo_location_name(
+                self.words.as_ptr(),
+                self.state.c.as_ptr(),
+                self.state.n,
+                location,
+                lent.as_mut_ptr(),
+                lent.len(),
+            )
+        };
+        answer(written.code, written.len)
+    }
+
+    /// The label of an action, which is not made; its length. The records of a
+    /// step are shown by the table as it was before the step.
+    pub fn action_label(
+        &self,
+        kind: u32,
+        p: usize,
+        q: usize,
+        lent: &mut [u8],
+    ) -> Result<usize, u32> {
+        // SAFETY: as for `step`.
+        let written = unsafe {
+            timo_action_label(
+                self.words.as_ptr(),
+                self.state.c.as_ptr(),
+                self.state.n,
+                kind,
+                p,
+                q,
+                lent.as_mut_ptr(),
+                lent.len(),
+            )
+        };
+        answer(written.code, written.len)
+    }
+
+    /// The line of the step at a location, which is not made; its length.
+    pub fn step_line(&self, location: u32, lent: &mut [u8]) -> Result<usize, u32> {
+        // SAFETY: as for `step`.
+        let written = unsafe {
+            timo_step_line(
+                self.words.as_ptr(),
+                self.state.c.as_ptr(),
+                self.state.n,
+                location,
+                lent.as_mut_ptr(),
+                lent.len(),
+            )
+        };
+        answer(written.code, written.len)
+    }
 }
 
-fn answer<T>(code: u32, result: T) -> Result<T, u32> {
-    if code == 0 {
-        Ok(result)
-    } else {
-        Err(code)
+/// The result, or the number of the refusal, beside which there are only zeros.
+fn answer<T: Default + PartialEq>(code: u32, result: T) -> Result<T, u32> {
+    match code {
+        0 => Ok(result),
+        _ if result == T::default() => Err(code),
+        _ => Err(MORE_THAN_A_NUMBER),
     }
 }

@@ -1,12 +1,12 @@
 //! Tables made by hand that stand for no network: question 17 at every call.
 
 use compare::alike::refused_by_all;
-use compare::table::{DEFINITIONS, LOCATIONS, PARTS, ROW};
+use compare::table;
 use compare::timo::{Table, UNMARKED, WORDS};
+use timo_reference::table::{CHANNELS, DEFINITIONS, LOCATIONS, PARTS, ROW};
 
 const SCRIPT: &[u8] = b"D(x,y)=go(1,x,stop|D(y,A)).E=stop.
     A[D(B,A)|in(c,2,z,out(d,0,z,stop,stop),stop)]|B[stop].";
-const CHANNELS: usize = 1_032;
 const KINDS: [&str; 5] = ["stop", "go", "out", "in", "call"];
 
 fn read() -> Table {
@@ -28,6 +28,8 @@ fn refused(name: &str, change: impl FnOnce(&mut Table)) {
     let good = read();
     let mut bad = read();
     change(&mut bad);
+    let network = table::network(&bad);
+    assert!(network.is_err(), "reference: {name} is let through");
     assert!(!bad.is_valid(), "{name} is let through");
     assert_eq!(good.same(&bad), Err(17), "{name}");
     assert_eq!(bad.same(&good), Err(17), "{name}");
@@ -47,6 +49,7 @@ fn refused_word(kind: &str, field: usize, word: u32) {
 fn the_table_read_is_good() {
     let table = read();
     assert!(table.is_valid());
+    assert!(table::network(&table).is_ok());
     assert_eq!(table.same(&read()), Ok(true));
 }
 

@@ -11,7 +11,8 @@ fn read(text: &str) -> Table {
 
 /// Both engines, both ways round.
 fn answered(one: &Table, other: &Table, wanted: bool, what: &str) {
-    let reference = Engine::default().same(&table::network(one), &table::network(other));
+    let network = |table| table::network(table).expect("a network");
+    let reference = Engine::default().same(&network(one), &network(other));
     assert_eq!(reference, wanted, "reference: {what}");
     assert_eq!(one.same(other), Ok(wanted), "{what}");
     assert_eq!(other.same(one), Ok(wanted), "exchanged: {what}");

@@ -21,7 +21,7 @@ fn first_difference(engine: Engine) -> Case {
 
 #[test]
 fn every_wrong_variant_is_shown_by_a_few_calls_on_a_small_script() {
-    for variant in Variant::WRONG {
+    for variant in [&Variant::WRONG[..], &Variant::WRONG_NUMBERS].concat() {
         let engine = Engine::new(variant);
         let case = shrink(engine, first_difference(engine));
         let script = String::from_utf8_lossy(&case.script).into_owned();

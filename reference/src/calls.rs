@@ -9,7 +9,7 @@
 use crate::reading::{self, Limits, MOST_COMPONENTS};
 use crate::refusal::Refusal;
 use crate::rules::{Action, Label, Rules, Vanish, Variant};
-use crate::term::{Component, Definition, Network, Part};
+use crate::term::{Component, Definition, Network, Part, Script};
 use crate::writing;
 
 /// An action as callers hand it in, of any content.
@@ -34,6 +34,18 @@ impl Record {
             Action::Communication(p, q) => Record::new(3, number(p), number(q)),
         }
     }
+}
+
+/// A label by the numbers of its names. Kind 1: the definition a is called.
+/// Kind 2: the move to location a. Kind 3: location b is sent on channel a. It
+/// fires at location `at`. Where there is no b it is 0, and of a refused action
+/// all are.
+#[derive(Clone, Copy, Debug, Default, PartialEq, Eq)]
+pub struct Numbers {
+    pub kind: u32,
+    pub a: u32,
+    pub b: u32,
+    pub at: u32,
 }
 
 /// What a step returns beside the records in the lent buffer.
@@ -78,6 +90,17 @@ impl Engine {
         let mut components = network.components.clone();
         let label = self.take(network, &mut components, action)?;
         Ok((network.with(components), label))
+    }
+
+    /// The label of an action on a script, or of a refused one, by number.
+    pub fn numbers(self, script: &Script, label: Option<&Label>) -> Numbers {
+        let right = label.map_or(Numbers::default(), |label| numbered(script, label));
+        match self.rules.variant {
+            Variant::NumbersMoveWithB if right.kind == 2 => Numbers { b: 77, ..right },
+            Variant::NumbersMeetingAsNine if right.kind == 3 => Numbers { kind: 9, ..right },
+            Variant::NumbersRefusal if right.kind == 0 => Numbers { kind: 1, ..right },
+            _ => right,
+        }
     }
 
     /// Questions 8, 12, 13.
@@ -226,6 +249,29 @@ impl Engine {
         }
         components.iter().position(hears)
     }
+}
+
+fn numbered(script: &Script, label: &Label) -> Numbers {
+    let among = |names: &[String], name: &str| index(names.iter().map(String::as_str), name);
+    let location = |name: &str| among(&script.locations, name);
+    let at = location(label.at());
+    let (kind, a, b) = match label {
+        Label::Call { identifier, .. } => {
+            let identifiers = script.definitions.iter().map(|d| d.identifier.as_str());
+            (1, index(identifiers, identifier), 0)
+        }
+        Label::Move { target, .. } => (2, location(target), 0),
+        Label::Communication { channel, value, .. } => {
+            (3, among(&script.channels, channel), location(value))
+        }
+    };
+    Numbers { kind, a, b, at }
+}
+
+/// The number of a name that the script holds.
+fn index<'n>(mut names: impl Iterator<Item = &'n str>, name: &str) -> u32 {
+    let found = names.position(|held| held == name);
+    found.map_or(u32::MAX, |number| number as u32)
 }
 
 /// Question 8 for a location number.

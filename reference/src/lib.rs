@@ -2,8 +2,9 @@
 //! and 2 of source document 001.
 //!
 //! Terms carry their names as strings and own their sub-terms; values are put
-//! in by substitution; an action builds new terms. There is no table, no
-//! environment and, inside the rules, no limit.
+//! in by substitution; an action builds new terms. The calls know no table, no
+//! environment and, inside the rules, no limit; `table` and `layout` are there
+//! for other engines' tables.
 //!
 //! | module      | what it holds                                               |
 //! |-------------|-------------------------------------------------------------|
@@ -13,6 +14,8 @@
 //! | `writing`   | from terms to text                                          |
 //! | `rules`     | actions with labels, the forced test, the tick              |
 //! | `calls`     | the outward calls with questions 8 to 16                    |
+//! | `table`     | question 17 of a table, and the network that it stands for  |
+//! | `layout`    | a network laid out as a table                               |
 //! | `runs`      | the straight and the grouped run and what is claimed        |
 //! | `program`   | what `timorun` does, on any input and output                |
 //! | `lists`     | call lists as text                                          |
@@ -24,6 +27,7 @@
 pub mod calls;
 pub mod deep;
 pub mod generate;
+pub mod layout;
 pub mod lists;
 pub mod printout;
 pub mod program;
@@ -32,5 +36,6 @@ pub mod reading;
 pub mod refusal;
 pub mod rules;
 pub mod runs;
+pub mod table;
 pub mod term;
 pub mod writing;

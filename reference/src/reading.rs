@@ -30,7 +30,7 @@ pub const MOST_COMPONENTS: usize = 256;
 pub const MOST_VARIABLES: usize = 8;
 
 const LONGEST_NAME: usize = 16;
-const RESERVED: [&str; 6] = ["stop", "go", "in", "out", "inf", "S"];
+pub(crate) const RESERVED: [&str; 6] = ["stop", "go", "in", "out", "inf", "S"];
 
 /// Reads a text, or gives the first question answered by no.
 pub fn read(text: &[u8], limits: Limits) -> Result<Network, Refusal> {

@@ -1,6 +1,6 @@
 //! The numbered questions of document 01, *Questions, asked downward*.
 //! A refusal is the first question that was answered by no.
-//! Question 17 cannot be answered by no here: a network is a term.
+//! Question 17 is asked of tables only (`table`): here a network is a term.
 
 use std::fmt;
 

@@ -38,6 +38,12 @@ pub enum Variant {
     ForgetsSplitOfQ,
     /// Lowers the timers of a Q in the tick that gives it.
     LowersFreshQ,
+    /// Gives the label of a move in numbers a b of 77.
+    NumbersMoveWithB,
+    /// Gives the label of a communication in numbers the kind 9.
+    NumbersMeetingAsNine,
+    /// Gives a refused action a label in numbers.
+    NumbersRefusal,
 }
 
 impl Variant {
@@ -52,6 +58,14 @@ impl Variant {
         Variant::FiresHighestInput,
         Variant::ForgetsSplitOfQ,
         Variant::LowersFreshQ,
+    ];
+
+    /// Every variant with a mistake in labels by number, which a comparison of
+    /// labels by letter cannot notice.
+    pub const WRONG_NUMBERS: [Variant; 3] = [
+        Variant::NumbersMoveWithB,
+        Variant::NumbersMeetingAsNine,
+        Variant::NumbersRefusal,
     ];
 }
 
@@ -273,7 +287,7 @@ impl Rules {
     // --- substitution --------------------------------------------------------
 
     /// The process with values put for free names, all at once.
-    fn put(self, values: &Values, process: &Process) -> Process {
+    pub(crate) fn put(self, values: &Values, process: &Process) -> Process {
         Process {
             parts: process
                 .parts

@@ -68,11 +68,11 @@ fn step(table: &mut Table, location: u32) -> Result<String, u32> {
     let mut again = table.clone();
     let mut records = [[0; 3]; 256];
     let count = table.step(location, &mut records)?;
-    let mut line = table::location(table.words.as_slice(), location);
+    let mut line = table::location(&table.words, location);
     for [kind, p, q] in &records[..count] {
         let label = again.action(*kind, *p as usize, *q as usize)?;
         line.push(' ');
-        line.push_str(&table::label(table.words.as_slice(), label));
+        line.push_str(&table::label(&table.words, label));
     }
     again.tick(location)?;
     assert!(

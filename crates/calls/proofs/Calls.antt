@@ -1,11 +1,11 @@
--- What the contracts of an action and of a tick say of one call of a list; and one more call at the end of a run.
+-- What the contracts of the calls say of one call of a list (that of a tick is that of a proposal); and one more call at the end of a run.
 -- By cases on the answer.
 use Prim.Native.Nat.{ℕ, zero, suc, _+_, _<_, _≤_}
 use native.Mathlib.Omega.{arith}
 use native.Mathlib.Numerals.{add-one}
 use lib.ListN.{length, getD, set, take, drop, length-set}
 use lib.Seq.{take-suc, take-suc-set}
-use mathlib.Core.List.{List, [], _∷_, _++_}
+use mathlib.Core.List.{List, [], _∷_, _++_, map, append-assoc, append-nil}
 use mathlib.Core.Path.{_≡_, refl, sym, ap, subst, _∙_}
 use Rattle.terms.specs.Terms.{Component}
 use Rattle.terms.specs.Rules.{Answer, Acted as ActedBy, _>>=_}
@@ -15,35 +15,48 @@ use Rattle.calls_act.specs.declared.Acted.{Acted}
 use Rattle.calls_act.specs.Acted.{actsAs}
 use Rattle.calls_tick.specs.declared.Ticked.{Ticked}
 use Rattle.calls_tick.specs.Ticked.{ticksAs}
-use Rattle.calls.specs.Run.{answerTo, does, Run}
+use Rattle.table.proofs.Fires.{map-append}
+use Rattle.terms.specs.Runs.{Fed}
+use Rattle.calls_step.specs.declared.Stepped.{Stepped}
+use Rattle.calls_step.specs.Stepped.{Step, left, stepsAs}
+use Rattle.calls.specs.Run.{Given, answerTo, does, feeds, givenBy, Run, RunsAs}
+use Rattle.calls.proofs.Demand3.{mixed-calls}
 use Rattle.calls.specs.Run.Run.{over, then}
 
 pub tick-does : (w : List ℕ) (st : State) (x : Answer (List Component)) (r : Ticked) → ticksAs w st x r → does w st x (r .code) (r .state)
 tick-does w st (refused n) r e = (ap (λ z. z .code) e, ap (λ z. z .state) e)
-tick-does w st (accepted cs) r t = (t .code, t .comps, t .good)
+tick-does w st (accepted cs) r t = record { code = t .code; comps = t .comps; good = t .good; past = t .past }
 
 pub act-does : (w : List ℕ) (st : State) (x : Answer ActedBy) (r : Acted) → actsAs w st x r → does w st (x >>= λ a. accepted (a .comps)) (r .code) (r .state)
 act-does w st (refused n) r e = (ap (λ z. z .code) e, ap (λ z. z .state) e)
-act-does w st (accepted a) r t = (t .code, t .comps, t .good)
+act-does w st (accepted a) r t = record { code = t .code; comps = t .comps; good = t .good; past = record { words = λ o b. t .past .words o (omega (arith, t .size)) } }
 
-pub run-more : (w : List ℕ) {st mid next : State} {es : List (List ℕ)} {ks : List ℕ} (e : List ℕ) (k : ℕ) → Run w st es ks mid → does w mid (answerTo w mid e) k next → Run w st (es ++ (e ∷ [])) (ks ++ (k ∷ [])) next
-run-more w e k over d = then d over
-run-more w e k (then c r) d = then c (run-more w e k r d)
+pub step-does : (w : List ℕ) (st : State) (x : Answer Step) (r : Stepped) (cs : List ℕ) (before after : List (List ℕ)) → stepsAs w st x r cs before after
+    → does w st (x >>= λ s. accepted (s .comps)) (r .code) (left r cs)
+step-does w st (refused n) r cs before after e = (ap (λ z. z .code) (e .0), λ i. record { c = e .1 i; n = e .0 i .n })
+step-does w st (accepted s) r cs before after t = record { code = t .code; comps = t .comps; good = t .good; past = t .past }
+
+run-more : (w : List ℕ) {st mid next : State} {gs : List Given} {ks : List ℕ} {fs : List Fed} (g : Given) (k : ℕ) → Run w st gs ks fs mid → does w mid (answerTo w mid g) k next
+    → Run w st (gs ++ (g ∷ [])) (ks ++ (k ∷ [])) (fs ++ feeds w mid g) next
+run-more w {mid = mid} {next = next} g k over d = subst (λ fs. Run w mid (g ∷ []) (k ∷ []) fs next) (append-nil (feeds w mid g)) (then d over)
+run-more w {mid = mid} {next = next} g k (then {st = st} {g = h} {gs = gs} {k = j} {ks = ks} {fs = fs} c r) d =
+    subst (λ fs. Run w st (h ∷ (gs ++ (g ∷ []))) (j ∷ (ks ++ (k ∷ []))) fs next) (sym (append-assoc (feeds w st h) fs (feeds w mid g))) (then c (run-more w g k r d))
 
 -- ── the loop over a list of calls ──
 pub record Running (w : List ℕ) (st : State) (calls : List (List ℕ)) (before after : List ℕ) (j : ℕ) (now : State) : Type 0 where
   pub size : length after ≡ length before
   pub few : j ≤ length before
-  pub runs : Run w st (take j calls) (take j after) now
+  pub fs : List Fed
+  pub runs : Run w st (map givenBy (take j calls)) (take j after) fs now
   pub rest : drop j after ≡ drop j before
 
 pub running-begin : (w : List ℕ) (st : State) (calls : List (List ℕ)) (codes : List ℕ) → Running w st calls codes codes 0 st
-running-begin w st calls codes = record { size = refl; few = omega arith; runs = over; rest = refl }
+running-begin w st calls codes = record { size = refl; few = omega arith; fs = []; runs = over; rest = refl }
 
 -- the call of three numbers is the call of the list that has them first
-same-call : (w : List ℕ) (st next : State) (e : List ℕ) (k : ℕ) → does w st (answerTo w st (getD e 0 0 ∷ getD e 1 0 ∷ getD e 2 0 ∷ [])) k next → does w st (answerTo w st e) k next
-unfolding answerTo
-same-call w st next e k d = d
+same-call : (e : List ℕ) → givenBy (getD e 0 0 ∷ getD e 1 0 ∷ getD e 2 0 ∷ []) ≡ givenBy e
+unfolding givenBy
+same-call e = refl
 
 drop-past : (xs : List ℕ) (j k : ℕ) → drop (suc j) (set xs j k) ≡ drop (suc j) xs
 drop-past [] j k = refl
@@ -56,12 +69,20 @@ one-later (suc j) [] = refl
 one-later (suc j) (x ∷ xs) = one-later j xs
 
 pub running-more : (w : List ℕ) (st now next : State) (calls : List (List ℕ)) (before after : List ℕ) (j k : ℕ) → j < length calls → j < length before → Running w st calls before after j now
-    → does w now (answerTo w now (getD (getD calls j []) 0 0 ∷ getD (getD calls j []) 1 0 ∷ getD (getD calls j []) 2 0 ∷ [])) k next → Running w st calls before (set after j k) (j + 1) next
-running-more w st now next calls before after j k h b r d = record {
-  size = length-set after j k ∙ r .size;
-  few = omega arith;
-  runs = subst (λ z. Run w st z (take (j + 1) (set after j k)) next) (sym (ap (λ m. take m calls) (add-one j) ∙ take-suc calls j [] h))
-      (subst (λ z. Run w st (take j calls ++ (getD calls j [] ∷ [])) z next) (sym (ap (λ m. take m (set after j k)) (add-one j) ∙ take-suc-set after j k (omega (arith, r .size))))
-      (run-more w (getD calls j []) k (r .runs) (same-call w now next (getD calls j []) k d)));
-  rest = ap (λ m. drop m (set after j k)) (add-one j) ∙ drop-past after j k ∙ one-later j after ∙ ap (drop 1) (r .rest) ∙ sym (one-later j before) ∙ sym (ap (λ m. drop m before) (add-one j));
-}
+    → does w now (answerTo w now (givenBy (getD (getD calls j []) 0 0 ∷ getD (getD calls j []) 1 0 ∷ getD (getD calls j []) 2 0 ∷ []))) k next → Running w st calls before (set after j k) (j + 1) next
+running-more w st now next calls before after j k h b r d =
+    let g = givenBy (getD calls j []) in
+    let e : map givenBy (take j calls) ++ (g ∷ []) ≡ map givenBy (take (j + 1) calls) = sym (ap (map givenBy) (ap (λ m. take m calls) (add-one j) ∙ take-suc calls j [] h) ∙ map-append givenBy (take j calls) (getD calls j [] ∷ [])) in
+    let c : take j after ++ (k ∷ []) ≡ take (j + 1) (set after j k) = sym (ap (λ m. take m (set after j k)) (add-one j) ∙ take-suc-set after j k (omega (arith, r .size))) in
+    let one = run-more w g k (r .runs) (subst (λ x. does w now (answerTo w now x) k next) (same-call (getD calls j [])) d) in
+    record {
+      size = length-set after j k ∙ r .size;
+      few = omega arith;
+      fs = r .fs ++ feeds w now g;
+      runs = subst (λ z. Run w st z (take (j + 1) (set after j k)) (r .fs ++ feeds w now g) next) e (subst (λ z. Run w st (map givenBy (take j calls) ++ (g ∷ [])) z (r .fs ++ feeds w now g) next) c one);
+      rest = ap (λ m. drop m (set after j k)) (add-one j) ∙ drop-past after j k ∙ one-later j after ∙ ap (drop 1) (r .rest) ∙ sym (one-later j before) ∙ sym (ap (λ m. drop m before) (add-one j));
+    }
+
+-- at its end: what `run` gives
+pub running-end : {w : List ℕ} {st now : State} {calls : List (List ℕ)} {before after : List ℕ} {j : ℕ} → Running w st calls before after j now → RunsAs w st calls before after j now
+running-end {w} r = record { fs = r .fs; runs = r .runs; rest = r .rest; mixed = mixed-calls w (r .runs) }

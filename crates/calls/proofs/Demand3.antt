@@ -1,112 +1,74 @@
--- Demand 3: every list of actions and ticks of any content, refused ones included, given one after another from an unmarked network, is equal to its
--- grouped run. By the claim for the rules (Mixed of the crate terms): the accepted calls are a straight run, by the equation of each call.
-use Prim.Native.Nat.{ℕ}
+-- Demand 3: every list of calls of any content, refused ones included, given one after another from an unmarked network, is equal to its grouped run; and
+-- so from every text that reading accepts. By the claim for the rules (Mixed of the crate terms): the accepted calls are a straight run (Straight), and
+-- what is read is unmarked (Gives of the crate text).
+use Prim.Native.Nat.{ℕ, min}
 use native.Mathlib.Omega.{arith}
-use mathlib.Core.List.{List, _∷_, List·Permᴰ}
-use mathlib.Core.Bool.{Bool, true, false, cond}
-use mathlib.Core.Path.{_≡_, refl, sym, ap, _∙_}
-use lib.Dec.{eqb, ltb, leb, T}
-use lib.ListN.{getD, length}
-use borrow.Author.Tests.{eq-eqb, ne-eqb}
-use Rattle.terms.specs.Terms.{Component}
-use Rattle.terms.specs.Rules.{Answer, Action, Acted, _>>=_, act, tick, unmarked}
+use mathlib.Core.List.{List, [], _∷_}
+use mathlib.Core.Bool.{true}
+use mathlib.Core.Path.{_≡_, refl, sym, ap, subst, _∙_}
+use lib.Dec.{T}
+use lib.ListN.{length}
+use Rattle.terms.specs.Terms.{Component, Network}
+use Rattle.terms.specs.Rules.{Answer, unmarked}
 use Rattle.terms.specs.Rules.Answer.{refused, accepted}
-use Rattle.terms.specs.Rules.Kind.{calls, moves}
-use Rattle.terms.specs.Rules.Action.{single, pair}
-use Rattle.terms.specs.Runs.{Fed, groupedRun, straightRun}
-use Rattle.terms.specs.Runs.Call.{acting, ticking}
-use Rattle.terms.specs.Runs.Fed.{fed}
-use Rattle.terms.proofs.Answers.{clash, took, bind-inv}
+use Rattle.terms.specs.Same.{every}
+use Rattle.terms.specs.Runs.{Fed}
+use Rattle.terms.proofs.Names.{and-inv}
 use Rattle.terms.proofs.Sums.{Each}
-use Rattle.terms.proofs.Numbered.{numbered, bind-numbered, cond-numbered, act-numbered, tick-numbered}
+use Rattle.terms.proofs.Sums.Each.{each-nil, each-cons}
 use Rattle.terms.proofs.Mixed.{mixed-runs}
 use Rattle.table.specs.declared.State.{State}
-use Rattle.table.specs.Words.{locsIn, locName}
-use Rattle.table.specs.Meaning.{defsOf, netOf}
-use Rattle.table.specs.Valid.{valid}
-use Rattle.calls_act.specs.Acted.{asked, actionOf, actionRule, actionAnswer}
-use Rattle.calls_tick.specs.Ticked.{room, tickRule, tickAnswer}
-use Rattle.calls.specs.Run.{answerTo, does, Run, actionFor, callOf, fedOf}
-use Rattle.calls.specs.Run.Run.{over, then}
+use Rattle.table.specs.Meaning.{defsOf, netOf, networkOf}
+use Rattle.text.specs.Questions.{read}
+use Rattle.text.proofs.Gives.{read-unmarked}
+use Rattle.text_read.proofs.Answering.{Among, among}
+use Rattle.text_read.specs.declared.Reading.{Reading}
+use Rattle.text_read.specs.Answer.{readsAs, ReadsAs}
+use Rattle.calls.specs.Run.{Given, Run, Mixed, RunsAs}
+use Rattle.calls.specs.Demand3.{Demand3, textRuns}
+use Rattle.calls.proofs.Straight.{straight-run}
 
-pub asked-inv : {A : Type 0} (n : ℕ) (b : Bool) (x : Answer A) (a : A) → asked n b x ≡ accepted a → (b ≡ true) × (x ≡ accepted a)
-asked-inv n true x a e = (refl, e)
-asked-inv n false x a e = clash e
+each-unmarked : (cs : List Component) → every unmarked cs ≡ true → Each (λ c. T (unmarked c)) cs
+unfolding every
+each-unmarked [] e = each-nil
+each-unmarked (c ∷ cs) e = let r = and-inv (unmarked c) (every unmarked cs) e in each-cons (subst T (sym (r .0)) tt) (each-unmarked cs (r .1))
 
-pub room-inv : (cs ds : List Component) → room cs ≡ accepted ds → cs ≡ ds
-unfolding room
-room-inv cs ds e = took (asked-inv 13 (leb (length cs) 256) (accepted cs) ds e .1)
+-- from an unmarked network
+pub mixed-calls : (w : List ℕ) {st last : State} {gs : List Given} {ks : List ℕ} {fs : List Fed} → Run w st gs ks fs last → every unmarked (netOf w st) ≡ true → Mixed (networkOf w st) fs (netOf w last)
+unfolding networkOf
+mixed-calls w {st} {last} {gs} {ks} {fs} r u =
+    let m = mixed-runs (defsOf w) fs (netOf w st) (netOf w last) (each-unmarked (netOf w st) u) (straight-run w r) in
+    record { grouped = m .0; runs = m .1; same = m .2 }
 
--- an accepted tick is one that the rules allow
-tick-allowed : (w : List ℕ) (st : State) (l : ℕ) (cs : List Component) → tickAnswer w st l ≡ accepted cs → tick (defsOf w) (locName w l) (netOf w st) ≡ accepted cs
-unfolding tickAnswer tickRule
-tick-allowed w st l cs e =
-    let a = asked-inv 17 (valid w st) _ cs e in
-    let b = asked-inv 8 (ltb l (locsIn w)) _ cs (a .1) in
-    let r = bind-inv (tick (defsOf w) (locName w l) (netOf w st)) room cs (b .1) in
-    r .1 ∙ ap accepted (room-inv (r .0) cs (r .2))
+-- what is read has no mark
+pub read-plain : (s w v : List ℕ) (r : Reading) (m : Network) → ReadsAs s w v r → read s ≡ accepted m → (networkOf v (r .state) ≡ m) × (every unmarked (netOf v (r .state)) ≡ true)
+unfolding networkOf
+read-plain s w v r m a e =
+    let t = subst (λ x. readsAs s x w w v r) e a in
+    (t .network, ap (every unmarked) (ap (λ n. n .comps) (t .network)) ∙ read-unmarked s m e)
 
--- an accepted action is one that the rules allow
-action-allowed : (w : List ℕ) (st : State) (k p q : ℕ) (r : Acted) → actionAnswer w st k p q ≡ accepted r → act (defsOf w) (actionFor (actionOf k p q) p q) (netOf w st) ≡ accepted r
-unfolding actionAnswer actionRule
-action-allowed w st k p q r e =
-    let a = asked-inv 17 (valid w st) _ r e in
-    go (actionOf k p q) (a .1)
-  where
-    go : (x : Answer Action) → (x >>= λ a. act (defsOf w) a (netOf w st)) ≡ accepted r → act (defsOf w) (actionFor x p q) (netOf w st) ≡ accepted r
-    go (refused n) e = clash e
-    go (accepted a) e = e
+-- from a text
+pub demand-3 : Demand3
+unfolding networkOf
+demand-3 s w v r m a e gs ks fs last g =
+    let p = read-plain s w v r m a e in
+    (ap (λ n. n .defs) (p .0), subst (λ n. Mixed n fs (netOf v last)) (p .0) (mixed-calls v g (p .1)))
 
--- ── a refusal has a number ──
-asked-numbered : {A : Type 0} (n : ℕ) (b : Bool) (x : Answer A) → (n ≡ 0 → ⊥) → numbered x → numbered (asked n b x)
-asked-numbered n true x h k = k
-asked-numbered n false x h k = h
+-- ── reading a text and running a list ──
+module _ (s w v : List ℕ) (r : Reading) (a : ReadsAs s w v r) (es : List (List ℕ)) (before : List ℕ) where
+  pub text-refused : (r .code ≡ 0 → ⊥) → textRuns (read s) w v es before before (record { code = r .code; done = 0; state = r .state })
+  text-refused n = go (read s) a
+    where
+      go : (x : Answer Network) → readsAs s x w w v r → textRuns x w v es before before (record { code = r .code; done = 0; state = r .state })
+      go (refused m) t = (ap (λ z. record { code = z .code; done = 0; state = z .state }) (t .0), t .1, refl)
+      go (accepted m) t = absurd (n (t .code))
 
-answer-numbered : (w : List ℕ) (st : State) (e : List ℕ) → numbered (answerTo w st e)
-unfolding answerTo tickAnswer tickRule room actionAnswer actionRule actionOf
-answer-numbered w st e =
-    cond-numbered (eqb (getD e 0 0) 4) _ _
-    (asked-numbered 17 (valid w st) _ (λ z. omega arith) (asked-numbered 8 (ltb (getD e 1 0) (locsIn w)) _ (λ z. omega arith) (bind-numbered (tick (defsOf w) (locName w (getD e 1 0)) (netOf w st)) _ (tick-numbered _ _ _) (λ cs. asked-numbered 13 (leb (length cs) 256) _ (λ z. omega arith) tt))))
-    (bind-numbered (asked 17 (valid w st) (actionOf (getD e 0 0) (getD e 1 0) (getD e 2 0) >>= λ a. act (defsOf w) a (netOf w st))) _
-    (asked-numbered 17 (valid w st) _ (λ z. omega arith) (bind-numbered (actionOf (getD e 0 0) (getD e 1 0) (getD e 2 0)) _ (kinds (eqb (getD e 0 0) 1) (eqb (getD e 0 0) 2) (eqb (getD e 0 0) 3)) (λ a. act-numbered (defsOf w) a (netOf w st)))) (λ a. tt))
-  where
-    kinds : (x y z : Bool) → numbered (cond x (accepted (single calls (getD e 1 0))) (cond y (accepted (single moves (getD e 1 0))) (cond z (accepted (pair (getD e 1 0) (getD e 2 0))) (refused 8))))
-    kinds true y z = tt
-    kinds false true z = tt
-    kinds false false true = tt
-    kinds false false false = λ z. omega arith
-
--- ── one call, as the straight run takes it ──
--- a refused call counts for nothing
-refused-one : (w : List ℕ) (st : State) (e : List ℕ) (k n : ℕ) (fs : List Fed) → k ≡ n → (n ≡ 0 → ⊥) → straightRun (defsOf w) (fed (callOf w e) (eqb k 0) ∷ fs) (netOf w st) ≡ straightRun (defsOf w) fs (netOf w st)
-unfolding straightRun
-refused-one w st e k n fs q h = let z : eqb k 0 ≡ false = ne-eqb k 0 (λ m. h (sym q ∙ m)) in rw z
-
--- an accepted one is taken as the rules have it
-accepted-one : (w : List ℕ) (st : State) (e : List ℕ) (k : ℕ) (cs : List Component) (fs : List Fed) → k ≡ 0 → answerTo w st e ≡ accepted cs → straightRun (defsOf w) (fed (callOf w e) (eqb k 0) ∷ fs) (netOf w st) ≡ straightRun (defsOf w) fs cs
-unfolding answerTo callOf straightRun
-accepted-one w st e k cs fs q a = let z : eqb k 0 ≡ true = eq-eqb k 0 q in rw z (go (eqb (getD e 0 0) 4) a)
-  where
-    go : (b : Bool) → cond b (tickAnswer w st (getD e 1 0)) (actionAnswer w st (getD e 0 0) (getD e 1 0) (getD e 2 0) >>= λ a. accepted (a .comps)) ≡ accepted cs
-        → straightRun (defsOf w) (fed (cond b (ticking (locName w (getD e 1 0))) (acting (actionFor (actionOf (getD e 0 0) (getD e 1 0) (getD e 2 0)) (getD e 1 0) (getD e 2 0)))) true ∷ fs) (netOf w st) ≡ straightRun (defsOf w) fs cs
-    go true a = rw (tick-allowed w st (getD e 1 0) cs a)
-    go false a =
-        let r = bind-inv (actionAnswer w st (getD e 0 0) (getD e 1 0) (getD e 2 0)) _ cs a in
-        rw (action-allowed w st (getD e 0 0) (getD e 1 0) (getD e 2 0) (r .0) (r .1)) (ap (straightRun (defsOf w) fs) (took (r .2)))
-
-straight-run : (w : List ℕ) {st last : State} {es : List (List ℕ)} {ks : List ℕ} → Run w st es ks last → straightRun (defsOf w) (fedOf w es ks) (netOf w st) ≡ accepted (netOf w last)
-unfolding fedOf
-straight-run w over = unfold straightRun in refl
-straight-run w (then {st = st} {next = next} {last = last} {e = e} {es = es} {k = k} {ks = ks} d r) = go (answerTo w st e) refl d (answer-numbered w st e) (straight-run w r)
-  where
-    go : (x : Answer (List Component)) → answerTo w st e ≡ x → does w st x k next → numbered x → straightRun (defsOf w) (fedOf w es ks) (netOf w next) ≡ accepted (netOf w last)
-        → straightRun (defsOf w) (fed (callOf w e) (eqb k 0) ∷ fedOf w es ks) (netOf w st) ≡ accepted (netOf w last)
-    go (refused n) q d m h = refused-one w st e k n (fedOf w es ks) (d .0) m ∙ ap (λ z. straightRun (defsOf w) (fedOf w es ks) (netOf w z)) (sym (d .1)) ∙ h
-    go (accepted cs) q d m h = accepted-one w st e k cs (fedOf w es ks) (d .0) q ∙ ap (straightRun (defsOf w) (fedOf w es ks)) (sym (d .1)) ∙ h
-
--- The theorem. From a network without marks, however a list of calls of any content is answered: each firing and tick of the grouped run is one that the
--- rules allow, each note fires with its action's label, the straight network is the engine's last, and the grouped one has its components, each as often.
--- The definitions are those of the script, which no call can change.
-pub mixed-calls : (w : List ℕ) (st last : State) (es : List (List ℕ)) (ks : List ℕ) → Each (λ c. T (unmarked c)) (netOf w st) → Run w st es ks last
-    → (y : List Component) × (groupedRun (defsOf w) (fedOf w es ks) (netOf w st) ≡ accepted (record { straight = netOf w last; grouped = y })) × List·Permᴰ y (netOf w last)
-mixed-calls w st last es ks u r = mixed-runs (defsOf w) (fedOf w es ks) (netOf w st) (netOf w last) u (straight-run w r)
+  pub text-ran : (after : List ℕ) (done : ℕ) (last : State) → r .code ≡ 0 → RunsAs v (r .state) es before after done last → done ≡ min (length es) (length before)
+      → textRuns (read s) w v es before after (record { code = 0; done = done; state = last })
+  text-ran after done last z x d = go (read s) refl
+    where
+      go : (y : Answer Network) → read s ≡ y → textRuns y w v es before after (record { code = 0; done = done; state = last })
+      go (refused m) e = let b : Among (refused m) = subst Among e (among s) in let t = subst (λ y. readsAs s y w w v r) e a in absurd (omega (arith, b .0, ap (λ q. q .code) (t .0)))
+      go (accepted m) e =
+          let p = read-plain s w v r m a e in
+          record { code = refl; done = d; first = r .state; begins = p .0; ran = x; mixed = subst (λ n. Mixed n (x .fs) (netOf v last)) (p .0) (x .mixed (p .1)) }

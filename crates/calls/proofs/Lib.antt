@@ -1,3 +1,3 @@
+pub mod Straight
 pub mod Demand3
 pub mod Calls
-pub mod Whole

@@ -1,9 +1,12 @@
 // Layer 3, calls: the outward calls on a network, each with question 17 first and with no `requires`.
 //
-//   specs/Run      a list of actions and ticks of any content
-//   specs/Examples the twelve examples of document 01, by computation
-//   proofs/Demand3 its equality with the grouped run
-//   run            a list of calls one after another
+//   specs/Run       a list of calls of any content, what the grouped run is fed of it, and the claim of demand 3
+//   specs/Demand3   that claim from the text on
+//   specs/Examples  the twelve examples of document 01, by computation
+//   proofs/Straight the accepted calls of a list are a straight run of the rules
+//   proofs/Demand3  the equality with the grouped run
+//   proofs/Calls    one call of a list, and one more call at the end of a run
+//   run             a list of calls one after another, from a state and from a text
 pub mod run;
 
 ghost use mathlib.Core.Path.{_≡_};
@@ -25,6 +28,13 @@ use table::valid;
 
 // How many calls of a list were made, and the last state.
 pub struct Ran {
+    pub done: usize,
+    pub state: State,
+}
+
+// After a text and a list of calls: the code of the reading, how many calls were made, and the last state.
+pub struct RanText {
+    pub code: u32,
     pub done: usize,
     pub state: State,
 }

@@ -3,15 +3,18 @@ ghost use mathlib.Core.Path.{_≡_};
 ghost use mathlib.Core.List.{[], _∷_};
 ghost use lib.ListN.{length};
 ghost use Prim.Native.Nat.{min};
-ghost use Rattle.calls.specs.Run.{answerTo, does, runsAs};
+ghost use Rattle.text.specs.Questions.{read};
+ghost use Rattle.calls.specs.Run.{givenBy, answerTo, does, RunsAs};
+ghost use Rattle.calls.specs.Demand3.{textRuns};
 use super::Ran;
+use super::RanText;
 use calls_tick::Ticked;
 use table::State;
 use table::words;
 
 // One call of a list: 4 and a location for a tick, else the kind and the positions of an action.
 fn call(w: &[u32; 99592], st: State, kind: u32, p: u32, q: u32) -> Ticked
-    ensures { λ r. ⌜ does (now (w .entry)) st (answerTo (now (w .entry)) st (kind ∷ p ∷ q ∷ [])) (r .code) (r .state) ⌝ }
+    ensures { λ r. ⌜ does (now (w .entry)) st (answerTo (now (w .entry)) st (givenBy (kind ∷ p ∷ q ∷ []))) (r .code) (r .state) ⌝ }
 {
     if kind == 4 {
         return super::tick_at(w, st, p);
@@ -26,7 +29,7 @@ fn call(w: &[u32; 99592], st: State, kind: u32, p: u32, q: u32) -> Ticked
 
 // The calls of a list one after another, as many as there are codes for; a code is 0, or the number of the question answered by no.
 pub fn run(w: &[u32; 99592], st: State, calls: &[[u32; 3]], codes: &mut [u32]) -> Ran
-    ensures runs { λ r. ⌜ runsAs (now (w .entry)) st (now (calls .entry)) (now (codes .entry)) (now (codes .exit)) (r .done) (r .state) ⌝ }
+    ensures runs { λ r. ⌜ RunsAs (now (w .entry)) st (now (calls .entry)) (now (codes .entry)) (now (codes .exit)) (r .done) (r .state) ⌝ }
     ensures done { λ r. ⌜ r .done ≡ min (length (now (calls .entry))) (length (now (codes .entry))) ⌝ }
 {
     let n = calls.len();
@@ -49,5 +52,27 @@ pub fn run(w: &[u32; 99592], st: State, calls: &[[u32; 3]], codes: &mut [u32]) -
     Ran {
         done: j,
         state: state,
+    }
+}
+
+// A text, and then the calls of a list one after another from its network: the reading's refusal, or what `run` gives, with demand 3.
+pub fn run_text(text: &[u8], w: &mut [u32; 99592], calls: &[[u32; 3]], codes: &mut [u32]) -> RanText
+    ensures { λ r. ⌜ textRuns (read (now (text .entry))) (now (w .entry)) (now (w .exit)) (now (calls .entry)) (now (codes .entry)) (now (codes .exit)) r ⌝ }
+{
+    let r = text_read::read(text, w);
+    let st = r.state;
+    if r.code != 0 {
+        return RanText {
+            code: r.code,
+            done: 0,
+            state: st,
+        };
+    }
+    let x = run(w, st, calls, codes);
+    let last = x.state;
+    RanText {
+        code: 0,
+        done: x.done,
+        state: last,
     }
 }

@@ -19,7 +19,7 @@ use Rattle.table.specs.declared.Comp.{Comp}
 use Rattle.table.specs.declared.State.{State}
 use Rattle.table.specs.Meaning.{compIn, defsOf, means, wordsIn, compsOf, netOf, noComp}
 use Rattle.table.specs.Valid.{scriptOk, compOk, stateOk, valid}
-use Rattle.table.specs.Fire.{Left, ActedAt, labelOf, aloneAt, togetherAt, leftBy, actOn}
+use Rattle.table.specs.Fire.{Left, ActedAt, tagHeld, aloneAt, togetherAt, leftBy, actOn}
 use Rattle.table.proofs.Tests.{StateFine, comp-fine}
 use Rattle.table.proofs.Fires.{mapA, actedOf, act-means}
 use Rattle.table.proofs.Kept.{okA, goodLeft, goodActed, alone-kept, together-kept, act-kept}
@@ -29,7 +29,8 @@ use Rattle.calls_act.specs.declared.Acted.{Acted}
 use Rattle.calls_act.specs.Fired.{tagOf, oneOf, twoOf}
 use Rattle.calls_act.specs.Acted.{refusal, Took, actsAs, Leaves, leaves, putAt, settledOne, settledTwo}
 use Rattle.table.proofs.InUse.{comps-length, in-use, valid-script, valid-state, comp-held}
-use Rattle.table.proofs.Stores.{comps-put}
+use Rattle.table.proofs.Tags.{GoodTag, actedTag, act-tagged}
+use Rattle.table.proofs.Stores.{comps-put, past-put, past-then}
 
 -- ── lists ──
 at-getD : {A : Type 0} (xs : List A) (p : ℕ) (d : A) → p < length xs → at xs p ≡ accepted (getD xs p d)
@@ -58,27 +59,30 @@ pub comp-good : (w : List ℕ) (st : State) → valid w st ≡ true → (p : ℕ
 comp-good w st e = comp-held w st e
 
 -- ── from the table to the rules ──
-took : (w : List ℕ) (st : State) (a : ActedAt) (r : Acted) → valid w st ≡ true → goodActed w a ≡ true → Leaves st a r → Took w (actedOf w a) r
+took : (w : List ℕ) (st : State) (a : ActedAt) (r : Acted) → valid w st ≡ true → goodActed w a ≡ true → GoodTag w (a .tag) → Leaves st a r → Took w st (actedOf w a) r
 unfolding actedOf netOf valid stateOk
-took w st a r e g l =
+took w st a r e g t l =
     let v = valid-parts w st e in
     record {
       code = l .code;
-      label = ap (labelOf w) (l .tag);
+      label = l .tag ∙ sym (t .number);
+      held = ap (tagHeld w) (l .tag) ∙ t .held;
       comps = ap (map (means w)) (l .comps);
       good = and-in _ _ (v .0) (and-in _ _ (lt-ltb 0 (r .state .n) (omega (arith, l .size, v .1 .some))) (and-in _ _ (le-leb (r .state .n) 256 (omega (arith, l .size, v .1 .few))) (rw (l .comps) g)));
+      size = l .size;
+      past = l .past;
     }
 
 pub acts-as : (w : List ℕ) (st : State) (a : Action) (r : Acted) → valid w st ≡ true → leaves st (actOn w a (compsOf st)) r → actsAs w st (act (defsOf w) a (netOf w st)) r
 unfolding netOf
-acts-as w st a r e l = subst (λ x. actsAs w st x r) (act-means w (v .0) (compsOf st) (v .1 .each) a) (go (actOn w a (compsOf st)) (act-kept w (v .0) (compsOf st) (v .1 .each) a) l)
+acts-as w st a r e l = subst (λ x. actsAs w st x r) (act-means w (v .0) (compsOf st) (v .1 .each) a) (go (actOn w a (compsOf st)) (act-kept w (v .0) (compsOf st) (v .1 .each) a) (act-tagged w (v .0) (compsOf st) (v .1 .each) a) l)
   where
     v : (scriptOk w ≡ true) × (StateFine w st)
     v = valid-parts w st e
 
-    go : (x : Answer ActedAt) → okA (goodActed w) x ≡ true → leaves st x r → actsAs w st (mapA (actedOf w) x) r
-    go (refused n) g l = l
-    go (accepted b) g l = took w st b r e g l
+    go : (x : Answer ActedAt) → okA (goodActed w) x ≡ true → actedTag w x → leaves st x r → actsAs w st (mapA (actedOf w) x) r
+    go (refused n) g t l = l
+    go (accepted b) g t l = took w st b r e g t l
 
 -- ── what the code leaves ──
 abbrev placed : List ℕ → List Comp → Answer Left → Answer ActedAt
@@ -92,7 +96,7 @@ put-left w st p f x e h n l v = subst (λ x. leaves st (placed (p ∷ []) (comps
     go : (b : Bool) → okA (goodLeft w) (cond b (accepted (record { tag = tagOf (f .label); after = f .comp ∷ [] })) (refused (f .code))) ≡ true
         → leaves st (placed (p ∷ []) (compsOf st) (cond b (accepted (record { tag = tagOf (f .label); after = f .comp ∷ [] })) (refused (f .code))))
         (cond b (record { code = 0; label = f .label; state = putAt st p (f .comp) }) (refusal (f .code) st))
-    go true g = record { code = refl; tag = refl; comps = comps-put st p (f .comp) h n l (comp-fine w (f .comp) (and-inv (compOk w (f .comp)) _ g .0) .slots); size = refl }
+    go true g = record { code = refl; tag = refl; comps = comps-put st p (f .comp) h n l (comp-fine w (f .comp) (and-inv (compOk w (f .comp)) _ g .0) .slots); size = refl; past = past-put (st .c) (st .n) p (f .comp) h }
     go false g = refl
 
 put-two : (w : List ℕ) (st : State) (p q : ℕ) (m : Met) (x : Answer Left) → twoOf m ≡ x → p < st .n → q < st .n → st .n ≤ 256 → length (st .c) ≡ 3_072 → okA (goodLeft w) (twoOf m) ≡ true
@@ -109,7 +113,7 @@ put-two w st p q m x e h k n l v = subst (λ x. leaves st (placed (p ∷ q ∷ [
     go true g =
         let i = and-inv (compOk w (m .sender)) _ g in
         let j = and-inv (compOk w (m .receiver)) _ (i .1) in
-        record { code = refl; tag = refl; comps = both (comp-fine w (m .sender) (i .0) .slots) (comp-fine w (m .receiver) (j .0) .slots); size = refl }
+        record { code = refl; tag = refl; comps = both (comp-fine w (m .sender) (i .0) .slots) (comp-fine w (m .receiver) (j .0) .slots); size = refl; past = past-then (omega arith) (past-put (st .c) (st .n) p (m .sender) h) (past-put (putAt st p (m .sender) .c) (st .n) q (m .receiver) k) }
     go false g = refl
 
 pub one-left : (w : List ℕ) (st : State) (k : Kind) (p : ℕ) (f : Fired) → valid w st ≡ true → length (st .c) ≡ 3_072 → p < st .n → oneOf f ≡ aloneAt w k (compIn (st .c) p)

@@ -11,9 +11,9 @@ use Rattle.terms.specs.Rules.Kind.{calls, moves}
 use Rattle.terms.specs.Rules.Action.{single, pair}
 use Rattle.table.specs.declared.Comp.{Comp}
 use Rattle.table.specs.declared.State.{State}
-use Rattle.table.specs.Meaning.{wordsIn, defsOf, compsOf, netOf}
+use Rattle.table.specs.Meaning.{wordsIn, PastKept, defsOf, compsOf, netOf}
 use Rattle.table.specs.Valid.{valid}
-use Rattle.table.specs.Fire.{ActedAt, labelOf}
+use Rattle.table.specs.Fire.{ActedAt, tagIn, tagHeld}
 use Rattle.calls_act.specs.declared.Fired.{Fired}
 use Rattle.calls_act.specs.declared.Met.{Met}
 use Rattle.calls_act.specs.declared.Acted.{Acted}
@@ -43,17 +43,21 @@ actionAnswer w st k p q = asked 17 (valid w st) (actionRule w st k p q)
 abbrev pub refusal : ℕ → State → Acted
 refusal n st = record { code = n; label = noLabel; state = st }
 
--- an accepted action: the code 0, the label, the next components, and question 17 still answered by yes
-pub record Took (w : List ℕ) (a : ActedBy) (r : Acted) : Type 0 where
+-- an accepted action: the code 0; the four numbers of the label, each of them in range; the next components, with question 17 still answered by yes;
+-- as many as before, and every word past them as it was
+pub record Took (w : List ℕ) (st : State) (a : ActedBy) (r : Acted) : Type 0 where
   pub code : r .code ≡ 0
-  pub label : labelOf w (tagOf (r .label)) ≡ a .label
+  pub label : tagOf (r .label) ≡ tagIn w (a .label)
+  pub held : tagHeld w (tagOf (r .label)) ≡ true
   pub comps : netOf w (r .state) ≡ a .comps
   pub good : valid w (r .state) ≡ true
+  pub size : r .state .n ≡ st .n
+  pub past : PastKept (st .n) (st .c) (r .state .c)
 
 -- the code's answer r stands for the answer of the rules
 abbrev pub actsAs : List ℕ → State → Answer ActedBy → Acted → Type 0
 actsAs w st (refused n) r = r ≡ refusal n st
-actsAs w st (accepted a) r = Took w a r
+actsAs w st (accepted a) r = Took w st a r
 
 -- ── the same on the table ──
 pub record Leaves (st : State) (a : ActedAt) (r : Acted) : Type 0 where
@@ -61,6 +65,7 @@ pub record Leaves (st : State) (a : ActedAt) (r : Acted) : Type 0 where
   pub tag : tagOf (r .label) ≡ a .tag
   pub comps : compsOf (r .state) ≡ a .comps
   pub size : r .state .n ≡ st .n
+  pub past : PastKept (st .n) (st .c) (r .state .c)
 
 abbrev pub leaves : State → Answer ActedAt → Acted → Type 0
 leaves st (refused n) r = r ≡ refusal n st

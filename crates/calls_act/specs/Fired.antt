@@ -9,7 +9,6 @@ use Rattle.table.specs.declared.Comp.{Comp}
 use Rattle.table.specs.declared.Head.{Head}
 use Rattle.table.specs.declared.Head.the-variants.{Stop, Go, Out, In, Call}
 use Rattle.table.specs.Fire.{Tag, Left, handed}
-use Rattle.table.specs.Fire.Tag.{callTag, moveTag, sendTag}
 use Rattle.calls_act.specs.declared.Label.{Label}
 use Rattle.calls_act.specs.declared.Fired.{Fired}
 use Rattle.calls_act.specs.declared.Met.{Met}
@@ -17,8 +16,9 @@ use Rattle.calls_act.specs.declared.Met.{Met}
 abbrev pub noLabel : Label
 noLabel = record { kind = 0; a = 0; b = 0; «at» = 0 }
 
-unfoldable pub tagOf : Label → Tag
-tagOf l = cond (eqb (l .kind) 1) (callTag (l .a) (l .«at»)) (cond (eqb (l .kind) 2) (moveTag (l .a) (l .«at»)) (sendTag (l .a) (l .b) (l .«at»)))
+-- the four numbers of a label
+abbrev pub tagOf : Label → Tag
+tagOf l = record { kind = l .kind; a = l .a; b = l .b; spot = l .«at» }
 
 -- of one component
 unfoldable pub oneOf : Fired → Answer Left

@@ -4,6 +4,9 @@
 //   specs/Acted   what the answer of an action stands for
 //   fire          one component, two components
 //   act           an action at positions of a valid table
+//
+//   proofs/Heads      what question 17 gives the functions of `fire`
+//   proofs/Positions  an action at positions leaves what the rules leave
 pub mod act;
 pub mod fire;
 

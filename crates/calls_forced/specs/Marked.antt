@@ -1,4 +1,5 @@
 -- Marks at places, one for each component that names a place: what the contracts of `ears` and `press` cite.
+-- Serves inner contracts only.
 use Prim.Native.Nat.{ℕ, _+_, _*_, _<_}
 use mathlib.Core.List.{List}
 use mathlib.Core.Bool.{Bool, true, false, cond, _&&_}

@@ -5,6 +5,10 @@
 //   ears            the channels that are heard, at all locations in one pass
 //   press           the locations where a component presses, in one pass
 //   forced          the report of a valid table
+//
+//   proofs/Marking  places noted component by component are those of all components
+//   proofs/Forcing  they name exactly the locations where the rules do not allow the tick
+//   proofs/Bits     the laws of a set of bits
 mod ears;
 pub mod forced;
 mod press;

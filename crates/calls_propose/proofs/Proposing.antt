@@ -31,11 +31,12 @@ use Rattle.calls_act.specs.declared.Acted.{Acted}
 use Rattle.calls_act.specs.Acted.{asked, actionOf, actionRule, actsAs}
 use Rattle.calls_act.specs.Acted as A
 use Rattle.table.proofs.InUse.{comps-length}
+use Rattle.table.proofs.Stores.{past-none, past-then}
 use Rattle.calls_act.proofs.Positions.{at-in-use, at-past, valid-parts, comp-good}
 use Rattle.calls_tick.specs.declared.Ticked.{Ticked}
 use Rattle.calls_tick.specs.Ticked.{room, tickRule, refusal, Took, ticksAs}
 use Rattle.calls_propose.specs.declared.Record.{Record}
-use Rattle.calls_propose.specs.Proposed.{recordRule, recordsRule, proposeRule, soFar, Held, Next, begun, firedNext, tickedLast}
+use Rattle.calls_propose.specs.Proposed.{recordRule, recordsRule, proposeRule, soFar, Held, InUseOnly, Next, begun, firedNext, tickedLast}
 
 -- ── the answer so far ──
 pub far-none : (w : List ℕ) (t : Ticked) → (t .code ≡ 0 → ⊥) → soFar w t ≡ refused (t .code)
@@ -46,13 +47,19 @@ pub far-some : (w : List ℕ) (t : Ticked) → t .code ≡ 0 → soFar w t ≡ a
 unfolding soFar
 far-some w t h = rw (eq-eqb (t .code) 0 h)
 
-pub begin-out : (w : List ℕ) (st : State) (l : ℕ) → valid w st ≡ true → locsIn w ≤ l → Next w l (begun w st l) (refusal 8 st)
-unfolding begun soFar
-begin-out w st l v h = record { far = rw (le-ltb l (locsIn w) h); held = record { good = v; here = λ e. absurd (omega arith) } }
+same-state : (st : State) → InUseOnly st st
+same-state st = record { size = refl; past = past-none (st .n) (st .c) }
 
-pub begin-in : (w : List ℕ) (st : State) (l : ℕ) → valid w st ≡ true → l < locsIn w → Next w l (begun w st l) (record { code = 0; state = st })
+pub only-then : {a b c : State} → InUseOnly a b → InUseOnly b c → InUseOnly a c
+only-then p q = record { size = q .size ∙ p .size; past = past-then (omega arith) (p .past) (record { words = λ o h. q .past .words o (omega (arith, p .size)) }) }
+
+pub begin-out : (w : List ℕ) (st : State) (l : ℕ) → valid w st ≡ true → locsIn w ≤ l → Next w l st (begun w st l) (refusal 8 st)
 unfolding begun soFar
-begin-in w st l v h = record { far = rw (lt-ltb l (locsIn w) h); held = record { good = v; here = λ e. h } }
+begin-out w st l v h = record { far = rw (le-ltb l (locsIn w) h); held = record { good = v; here = λ e. absurd (omega arith) }; only = same-state st }
+
+pub begin-in : (w : List ℕ) (st : State) (l : ℕ) → valid w st ≡ true → l < locsIn w → Next w l st (begun w st l) (record { code = 0; state = st })
+unfolding begun soFar
+begin-in w st l v h = record { far = rw (lt-ltb l (locsIn w) h); held = record { good = v; here = λ e. h }; only = same-state st }
 
 -- ── where an action fires ──
 abbrev firstOf : Action → ℕ
@@ -131,10 +138,10 @@ rule-numbered w st k p q = go (eqb k 1) (eqb k 2) (eqb k 3)
     go false false false = λ e. omega arith
 
 -- what the rules say where the code's answer is 0
-pub act-accepted : (w : List ℕ) (st : State) (k p q : ℕ) (a : Acted) → actsAs w st (actionRule w st k p q) a → a .code ≡ 0 → (b : ActedBy) × (actionRule w st k p q ≡ accepted b) × A.Took w b a
+pub act-accepted : (w : List ℕ) (st : State) (k p q : ℕ) (a : Acted) → actsAs w st (actionRule w st k p q) a → a .code ≡ 0 → (b : ActedBy) × (actionRule w st k p q ≡ accepted b) × A.Took w st b a
 act-accepted w st k p q a h e = go (actionRule w st k p q) (rule-numbered w st k p q) h
   where
-    go : (x : Answer ActedBy) → numbered x → actsAs w st x a → (b : ActedBy) × (x ≡ accepted b) × A.Took w b a
+    go : (x : Answer ActedBy) → numbered x → actsAs w st x a → (b : ActedBy) × (x ≡ accepted b) × A.Took w st b a
     go (refused n) m h = absurd (m (ap (λ y. y .code) (sym h) ∙ e))
     go (accepted b) m h = (b, refl, h)
 
@@ -169,9 +176,9 @@ record-is w st l r = go (actionOf (r .kind) (r .p) (r .q))
 
 module _ (w : List ℕ) (out : Ticked) (l : ℕ) (r : Record) (g : Held w l out) where
   -- after a refusal nothing more happens
-  pub next-stays : (out .code ≡ 0 → ⊥) → Next w l (firedNext w l r (soFar w out)) out
+  pub next-stays : (out .code ≡ 0 → ⊥) → Next w l (out .state) (firedNext w l r (soFar w out)) out
   unfolding firedNext
-  next-stays h = record { far = far-none w out h ∙ ap (λ x. x >>= recordRule (defsOf w) (locName w l) r) (sym (far-none w out h)); held = g }
+  next-stays h = record { far = far-none w out h ∙ ap (λ x. x >>= recordRule (defsOf w) (locName w l) r) (sym (far-none w out h)); held = g; only = same-state (out .state) }
 
   -- what the rules make of the record
   fired-is : out .code ≡ 0 → firedNext w l r (soFar w out) ≡ (actionRule w (out .state) (r .kind) (r .p) (r .q) >>= hereOnly (locName w l))
@@ -180,14 +187,15 @@ module _ (w : List ℕ) (out : Ticked) (l : ℕ) (r : Record) (g : Held w l out)
 
   module _ (a : Acted) (z : out .code ≡ 0) (h : actsAs w (out .state) (actionRule w (out .state) (r .kind) (r .p) (r .q)) a) where
     -- questions 8 to 11
-    pub next-refused : (a .code ≡ 0 → ⊥) → Next w l (firedNext w l r (soFar w out)) (refusal (a .code) (out .state))
+    pub next-refused : (a .code ≡ 0 → ⊥) → Next w l (out .state) (firedNext w l r (soFar w out)) (refusal (a .code) (out .state))
     next-refused e = record {
       far = far-none w (refusal (a .code) (out .state)) e ∙ sym (fired-is z ∙ ap (λ x. x >>= hereOnly (locName w l)) (act-refused w (out .state) (r .kind) (r .p) (r .q) a h e));
       held = record { good = g .good; here = λ k. absurd (e k) };
+      only = same-state (out .state);
     }
 
     module _ (e : a .code ≡ 0) where
-      answer : (b : ActedBy) × (actionRule w (out .state) (r .kind) (r .p) (r .q) ≡ accepted b) × A.Took w b a
+      answer : (b : ActedBy) × (actionRule w (out .state) (r .kind) (r .p) (r .q) ≡ accepted b) × A.Took w (out .state) b a
       answer = act-accepted w (out .state) (r .kind) (r .p) (r .q) a h e
 
       pub position : r .p < out .state .n
@@ -197,16 +205,18 @@ module _ (w : List ℕ) (out : Ticked) (l : ℕ) (r : Record) (g : Held w l out)
       decided = fired-is z ∙ ap (λ x. x >>= hereOnly (locName w l)) (answer .1) ∙ ap (λ x. cond x (accepted (answer .0 .comps)) (refused 16)) (fires-here-is w (out .state) (r .kind) (r .p) (r .q) l (answer .0) (g .good) (g .here z) (answer .1))
 
       -- question 16
-      pub next-elsewhere : (compIn (out .state .c) (r .p) .loc ≡ l → ⊥) → Next w l (firedNext w l r (soFar w out)) (refusal 16 (out .state))
+      pub next-elsewhere : (compIn (out .state .c) (r .p) .loc ≡ l → ⊥) → Next w l (out .state) (firedNext w l r (soFar w out)) (refusal 16 (out .state))
       next-elsewhere k = record {
         far = far-none w (refusal 16 (out .state)) (λ i. omega arith) ∙ sym (decided ∙ rw (ne-eqb _ _ k));
         held = record { good = g .good; here = λ i. g .here z };
+        only = same-state (out .state);
       }
 
-      pub next-fired : compIn (out .state .c) (r .p) .loc ≡ l → Next w l (firedNext w l r (soFar w out)) (record { code = 0; state = a .state })
+      pub next-fired : compIn (out .state .c) (r .p) .loc ≡ l → Next w l (out .state) (firedNext w l r (soFar w out)) (record { code = 0; state = a .state })
       next-fired k = record {
         far = far-some w (record { code = 0; state = a .state }) refl ∙ ap accepted (answer .2 .comps) ∙ sym (decided ∙ rw (eq-eqb _ _ k));
         held = record { good = answer .2 .good; here = λ i. g .here z };
+        only = record { size = answer .2 .size; past = answer .2 .past };
       }
 
 -- ── the tick ──
@@ -240,12 +250,12 @@ module _ (w : List ℕ) (st : State) (out : Ticked) (l : ℕ) (g : Held w l out)
         go (refused n) h = ap (λ y. refusal (y .code) st) h
         go (accepted cs) h = absurd (e (h .code))
 
-    pub last-all : t .code ≡ 0 → ticksAs w st (tickedLast w l (soFar w out)) t
-    last-all e = subst (λ x. ticksAs w st x t) (sym (lastly-is z .0)) (go lastly (bind-numbered (tick (defsOf w) (locName w l) (netOf w (out .state))) room (tick-numbered (defsOf w) (locName w l) (netOf w (out .state))) room-numbered) (subst (λ x. ticksAs w (out .state) x t) (lastly-is z .1) h))
+    pub last-all : InUseOnly st (out .state) → t .code ≡ 0 → ticksAs w st (tickedLast w l (soFar w out)) t
+    last-all k e = subst (λ x. ticksAs w st x t) (sym (lastly-is z .0)) (go lastly (bind-numbered (tick (defsOf w) (locName w l) (netOf w (out .state))) room (tick-numbered (defsOf w) (locName w l) (netOf w (out .state))) room-numbered) (subst (λ x. ticksAs w (out .state) x t) (lastly-is z .1) h))
       where
         go : (x : Answer (List Component)) → numbered x → ticksAs w (out .state) x t → ticksAs w st x t
         go (refused n) m h = absurd (m (ap (λ y. y .code) (sym h) ∙ e))
-        go (accepted cs) m h = h
+        go (accepted cs) m h = record { code = h .code; comps = h .comps; good = h .good; grows = omega (arith, h .grows, k .size); past = past-then (omega (arith, h .grows, k .size)) (k .past) (h .past) }
 
 -- ── the list ──
 -- the actions of a list more

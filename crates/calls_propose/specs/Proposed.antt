@@ -12,7 +12,7 @@ use Rattle.terms.specs.Rules.Answer.{refused, accepted}
 use Rattle.terms.specs.Step.{actAt}
 use Rattle.table.specs.declared.State.{State}
 use Rattle.table.specs.Words.{locsIn, locName}
-use Rattle.table.specs.Meaning.{defsOf, netOf}
+use Rattle.table.specs.Meaning.{PastKept, defsOf, netOf}
 use Rattle.table.specs.Valid.{valid}
 use Rattle.calls_act.specs.Acted.{asked, actionOf}
 use Rattle.calls_tick.specs.declared.Ticked.{Ticked}
@@ -52,10 +52,16 @@ pub record Held (w : List ℕ) (l : ℕ) (t : Ticked) : Type 0 where
   pub good : valid w (t .state) ≡ true
   pub here : t .code ≡ 0 → l < locsIn w
 
--- t stands for the answer x so far
-pub record Next (w : List ℕ) (l : ℕ) (x : Answer (List Component)) (t : Ticked) : Type 0 where
+-- as many components as in st, and every word past them as it was there
+pub record InUseOnly (st next : State) : Type 0 where
+  pub size : next .n ≡ st .n
+  pub past : PastKept (st .n) (st .c) (next .c)
+
+-- t stands for the answer x so far; st is the state before it
+pub record Next (w : List ℕ) (l : ℕ) (st : State) (x : Answer (List Component)) (t : Ticked) : Type 0 where
   pub far : soFar w t ≡ x
   pub held : Held w l t
+  pub only : InUseOnly st (t .state)
 
 -- before the first action
 unfoldable pub begun : List ℕ → State → ℕ → Answer (List Component)

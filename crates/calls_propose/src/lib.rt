@@ -4,6 +4,9 @@
 //   next             question 8 of the location, one action of the list, and the tick
 //   propose          a proposal at a location of a valid table
 //   outward          the call: question 17, and the proposal
+//
+//   proofs/Proposing  the parts of a proposal stand for what the rules make of it so far
+//   proofs/Whole      a proposal is a whole step of the rules, with question 13 after it
 mod next;
 pub mod outward;
 mod propose;

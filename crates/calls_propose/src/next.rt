@@ -5,7 +5,7 @@ ghost use mathlib.Core.Bool.{true, _&&_};
 ghost use lib.Dec.{eqb, ltb};
 ghost use Rattle.table.specs.Valid.{valid};
 ghost use Rattle.calls_tick.specs.Ticked.{ticksAs};
-ghost use Rattle.calls_propose.specs.Proposed.{soFar, Held, Next, begun, firedNext, tickedLast};
+ghost use Rattle.calls_propose.specs.Proposed.{soFar, Held, InUseOnly, Next, begun, firedNext, tickedLast};
 use super::Record;
 use calls_act::act;
 use calls_tick::Ticked;
@@ -25,7 +25,7 @@ pub(crate) fn stands(w: &[u32; 99592], st: State) -> bool
 // Question 8 of the location.
 pub(crate) fn begin(w: &[u32; 99592], st: State, l: u32) -> Ticked
     requires { ⌜ valid (now w) st ≡ true ⌝ }
-    ensures { λ r. ⌜ Next (now (w .entry)) l (begun (now (w .entry)) st l) r ⌝ }
+    ensures { λ r. ⌜ Next (now (w .entry)) l st (begun (now (w .entry)) st l) r ⌝ }
 {
     if words::word(w, 1) <= l {
         return tick::refuse(8, st);
@@ -46,7 +46,7 @@ pub fn going(code: u32, i: usize, n: usize) -> bool
 // One action, if those before it were accepted: questions 8 to 11, then 16. An action fires where its component at p stands.
 pub(crate) fn act_next(w: &[u32; 99592], out: Ticked, l: u32, r: Record) -> Ticked
     requires { ⌜ Held (now w) l out ⌝ }
-    ensures { λ x. ⌜ Next (now (w .entry)) l (firedNext (now (w .entry)) l r (soFar (now (w .entry)) out)) x ⌝ }
+    ensures { λ x. ⌜ Next (now (w .entry)) l (out .state) (firedNext (now (w .entry)) l r (soFar (now (w .entry)) out)) x ⌝ }
 {
     if out.code != 0 {
         return out;
@@ -70,7 +70,7 @@ pub(crate) fn act_next(w: &[u32; 99592], out: Ticked, l: u32, r: Record) -> Tick
 
 // The tick, if all actions were accepted. A refusal has the state as it was before the first of them.
 pub(crate) fn finish(w: &[u32; 99592], st: State, out: Ticked, l: u32) -> Ticked
-    requires { ⌜ Held (now w) l out ⌝ }
+    requires { ⌜ Held (now w) l out × InUseOnly st (out .state) ⌝ }
     ensures { λ r. ⌜ ticksAs (now (w .entry)) st (tickedLast (now (w .entry)) l (soFar (now (w .entry)) out)) r ⌝ }
 {
     if out.code != 0 {

@@ -1,4 +1,5 @@
 -- What the contracts of the inner functions cite: an answer by yes or no to the question whether two things are one.
+-- Serves inner contracts only.
 use mathlib.Core.Bool.{Bool, true}
 use mathlib.Core.Path.{_≡_}
 

@@ -1,4 +1,5 @@
 -- The pieces in which two parts of the table are compared: what stands before the inner processes, and these.
+-- Serves inner contracts only.
 use Prim.Native.Nat.{ℕ, _+_, _-_}
 use mathlib.Core.List.{List, [], _∷_, map}
 use mathlib.Core.Bool.{true, cond}

@@ -1,4 +1,5 @@
 -- The components of the second network that no component of the first has been matched with.
+-- Serves inner contracts only.
 use mathlib.Core.List.{List, [], _∷_}
 use mathlib.Core.Bool.{Bool, true, false}
 

@@ -7,6 +7,12 @@
 //
 // parts    names, timers, values, parts and processes
 // network  components, definitions
+//
+// proofs/Decided   answers whether two things are one, carried over to other things
+// proofs/Fronts    the first elements of two lists: arguments, parameters
+// proofs/Pieces    the part at a place in its pieces, under the values of slots
+// proofs/Networks  definitions and components of two tables, from a position on
+// proofs/Matched   the components of one network matched with the unused ones of another
 mod network;
 mod parts;
 

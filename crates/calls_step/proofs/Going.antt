@@ -20,7 +20,7 @@ use Rattle.table.specs.declared.State.{State}
 use Rattle.table.specs.declared.Head.{Head}
 use Rattle.table.specs.declared.Head.the-variants.{Stop, Go, Out, In, Call}
 use Rattle.table.specs.Words.{headAt}
-use Rattle.table.specs.Meaning.{compIn, wordsIn, compsOf}
+use Rattle.table.specs.Meaning.{compIn, wordsIn, PastKept, compsOf}
 use Rattle.table.specs.Valid.{scriptOk, compOk}
 use Rattle.table.specs.Fire.{ActedAt, actOn, readyAt}
 use Rattle.table.proofs.Tests.{comp-fine}
@@ -28,7 +28,7 @@ use Rattle.table.proofs.Fires.{every-at, map-append}
 use Rattle.table.proofs.Kept.{okA, goodActed, act-kept}
 use Rattle.calls_act.proofs.Positions.{at-in-use}
 use Rattle.table.proofs.InUse.{comps-length}
-use Rattle.table.proofs.Stores.{comps-put}
+use Rattle.table.proofs.Stores.{comps-put, past-put, past-none, past-then}
 use Rattle.calls_step.specs.declared.Visit.{Visit}
 use Rattle.calls_step.specs.Sweep.{tookAt, takenAt, visitAt, followedAt, choiceAt, sweepAt, hearers, Chain, Queued, recOf}
 use Rattle.calls_step.specs.Visit.{sendsAt, kindAt, sentOn, kindBy, Performed, otherOf, poppedOf, recBy}
@@ -40,6 +40,7 @@ pub record Going (w : List ℕ) (l : ℕ) (st now : State) (heads nexts : List �
   pub few-count : count ≤ p
   pub size : length (now .c) ≡ 3_072
   pub same : now .n ≡ st .n
+  pub past : PastKept (st .n) (st .c) (now .c)
   pub room : length acts ≡ 256
   pub fine : every (compOk w) (compsOf now) ≡ true
   pub queue : Queued w l 0 (compsOf now) heads nexts
@@ -252,6 +253,7 @@ module _ (w : List ℕ) (good : scriptOk w ≡ true) (l : ℕ) (st now : State) 
       few-count = omega (arith, i .few-count, some-fits k);
       size = length-sets (sets (now .c) (p * 12) (wordsIn (v .x))) (q * 12) (wordsIn (v .y)) ∙ length-sets (now .c) (p * 12) (wordsIn (v .x)) ∙ i .size;
       same = i .same;
+      past = past-then (omega arith) (i .past) (past-then (omega arith) (past-put (now .c) (st .n) p (v .x) h) (past-put (sets (now .c) (p * 12) (wordsIn (v .x))) (st .n) q (v .y) other-fits));
       room = length-set acts count (recBy k p q) ∙ i .room;
       fine = subst (λ z. every (compOk w) z ≡ true) visited (visit-fine w good l p (at (compsOf now) p) (compsOf now) (i .fine));
       queue = queue-next _ refl t comps-next;
@@ -301,6 +303,7 @@ module _ (w : List ℕ) (good : scriptOk w ≡ true) (l : ℕ) (st now : State) 
           few-count = omega (arith, i .few-count);
           size = i .size;
           same = i .same;
+          past = i .past;
           room = i .room;
           fine = i .fine;
           queue = i .queue;
@@ -313,7 +316,7 @@ module _ (w : List ℕ) (good : scriptOk w ≡ true) (l : ℕ) (st now : State) 
 pub going-begin : (w : List ℕ) (l : ℕ) (st : State) (heads nexts : List ℕ) (acts : List (List ℕ)) → length (st .c) ≡ 3_072 → length acts ≡ 256 → every (compOk w) (compsOf st) ≡ true → Queued w l 0 (compsOf st) heads nexts → Going w l st st heads nexts acts 0 0
 going-begin w l st heads nexts acts e r f q =
     let z : st .n - 0 ≡ st .n = omega arith in
-    record { few-p = omega arith; few-count = omega arith; size = e; same = refl; room = r; fine = f; queue = q; actions = ap (λ n. map recOf (sweepAt w l 0 n (compsOf st) .actions)) z; comps = ap (λ n. sweepAt w l 0 n (compsOf st) .comps) z }
+    record { few-p = omega arith; few-count = omega arith; size = e; same = refl; past = past-none (st .n) (st .c); room = r; fine = f; queue = q; actions = ap (λ n. map recOf (sweepAt w l 0 n (compsOf st) .actions)) z; comps = ap (λ n. sweepAt w l 0 n (compsOf st) .comps) z }
 
 pub going-end : (w : List ℕ) (l : ℕ) (st now : State) (heads nexts : List ℕ) (acts : List (List ℕ)) (count p : ℕ) → Going w l st now heads nexts acts count p → st .n ≤ p → st .n ≤ 256
     → (take count acts ≡ map recOf (sweepAt w l 0 (st .n) (compsOf st) .actions)) × (count ≡ length (sweepAt w l 0 (st .n) (compsOf st) .actions)) × (compsOf now ≡ sweepAt w l 0 (st .n) (compsOf st) .comps)

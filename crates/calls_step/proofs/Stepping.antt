@@ -17,13 +17,14 @@ use Rattle.terms.proofs.Names.{and-in}
 use Rattle.terms.proofs.Steps.{step-accepted}
 use Rattle.table.specs.declared.State.{State}
 use Rattle.table.specs.Words.{locsIn, locName}
-use Rattle.table.specs.Meaning.{defsOf, means, compsOf, netOf}
+use Rattle.table.specs.Meaning.{PastKept, defsOf, means, compsOf, netOf}
 use Rattle.table.specs.Valid.{scriptOk, stateOk, valid}
 use Rattle.table.specs.Fire.{passedAll}
 use Rattle.table.proofs.Ticks.{passed-all}
 use Rattle.calls_act.specs.Acted.{asked}
 use Rattle.calls_act.proofs.Positions.{valid-parts}
 use Rattle.table.proofs.InUse.{comps-length}
+use Rattle.table.proofs.Stores.{past-then}
 use Rattle.calls_tick.specs.Ticked.{room}
 use Rattle.calls_tick.proofs.Ticking.{tick-took}
 use Rattle.calls_step.specs.Sweep.{SweptAt, sweepAt, recOf}
@@ -72,12 +73,12 @@ module _ (w : List ℕ) (st : State) (l : ℕ) (v : valid w st ≡ true) (after 
     unfolding room
     step-done size h n = ruled size ∙ rw (le-leb count size h, length-map (passedAll w l (compsOf left)) (means w), le-leb (length (passedAll w l (compsOf left))) 256 (omega arith))
 
-    pub step-took : (cs : List ℕ) (k : ℕ) (before now : List (List ℕ)) → compsOf (record { c = cs; n = k }) ≡ passedAll w l (compsOf left) → k ≡ length (passedAll w l (compsOf left)) → length (passedAll w l (compsOf left)) < 257
+    pub step-took : (cs : List ℕ) (k : ℕ) (before now : List (List ℕ)) → compsOf (record { c = cs; n = k }) ≡ passedAll w l (compsOf left) → k ≡ length (passedAll w l (compsOf left)) → length (passedAll w l (compsOf left)) < 257 → PastKept k after cs
         → now ≡ take count acts ++ drop count before
-        → Took w (stepOf (swept .actions) (map (means w) (passedAll w l (compsOf left)))) (record { code = 0; count = count; n = k }) cs before now
-    step-took cs k before now e n b a =
-        let t = tick-took w left (record { c = cs; n = k }) l swept-good e n b in
-        record { code = refl; count = s .number; comps = t .comps; good = t .good; records = a ∙ ap (λ xs. xs ++ drop count before) (s .records) ∙ ap (λ k. map recOf (swept .actions) ++ drop k before) (s .number) }
+        → Took w st (stepOf (swept .actions) (map (means w) (passedAll w l (compsOf left)))) (record { code = 0; count = count; n = k }) cs before now
+    step-took cs k before now e n b q a =
+        let t = tick-took w left (record { c = cs; n = k }) l swept-good e n b q in
+        record { code = refl; count = s .number; few = s .few; comps = t .comps; good = t .good; past = past-then (t .grows) (s .past) q; records = a ∙ ap (λ xs. xs ++ drop count before) (s .records) ∙ ap (λ k. map recOf (swept .actions) ++ drop k before) (s .number) }
 
 -- question 8
 pub step-out : (w : List ℕ) (st : State) (l size : ℕ) → locsIn w ≤ l → stepRule w st l size ≡ refused 8

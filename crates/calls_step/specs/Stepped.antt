@@ -1,5 +1,5 @@
 -- What the answer of a step stands for: document 01, *The other calls* and *Questions, asked downward*.
-use Prim.Native.Nat.{ℕ}
+use Prim.Native.Nat.{ℕ, _≤_}
 use mathlib.Core.List.{List, _++_, map}
 use mathlib.Core.Path.{_≡_}
 use mathlib.Core.Bool.{true}
@@ -11,7 +11,7 @@ use Rattle.terms.specs.Rules.Answer.{refused, accepted}
 use Rattle.terms.specs.Step.{fires, step}
 use Rattle.table.specs.declared.State.{State}
 use Rattle.table.specs.Words.{locsIn, locName}
-use Rattle.table.specs.Meaning.{defsOf, netOf}
+use Rattle.table.specs.Meaning.{PastKept, defsOf, netOf}
 use Rattle.table.specs.Valid.{valid}
 use Rattle.calls_act.specs.Acted.{asked}
 use Rattle.calls_tick.specs.Ticked.{room}
@@ -44,15 +44,18 @@ refusal code n = record { code = code; count = 0; n = n }
 abbrev pub left : Stepped → List ℕ → State
 left r cs = record { c = cs; n = r .n }
 
--- an accepted step: the code 0, the number of actions, the next components, question 17 still answered by yes, and the records in front of what was there
-pub record Took (w : List ℕ) (s : Step) (r : Stepped) (cs : List ℕ) (before after : List (List ℕ)) : Type 0 where
+-- an accepted step: the code 0; the number of actions, never above that of the components before it; the next components, with question 17 still
+-- answered by yes; every word past those in use as it was; and the records in front of what was there
+pub record Took (w : List ℕ) (st : State) (s : Step) (r : Stepped) (cs : List ℕ) (before after : List (List ℕ)) : Type 0 where
   pub code : r .code ≡ 0
   pub count : r .count ≡ length (s .actions)
+  pub few : r .count ≤ st .n
   pub comps : netOf w (left r cs) ≡ s .comps
   pub good : valid w (left r cs) ≡ true
+  pub past : PastKept (r .n) (st .c) cs
   pub records : after ≡ map recOf (s .actions) ++ drop (length (s .actions)) before
 
 -- the code's answer r, the lent components cs afterwards, and the lent records before and after, stand for the answer of the rules
 abbrev pub stepsAs : List ℕ → State → Answer Step → Stepped → List ℕ → List (List ℕ) → List (List ℕ) → Type 0
 stepsAs w st (refused k) r cs before after = (r ≡ refusal k (st .n)) × (cs ≡ st .c) × (after ≡ before)
-stepsAs w st (accepted s) r cs before after = Took w s r cs before after
+stepsAs w st (accepted s) r cs before after = Took w st s r cs before after

@@ -1,4 +1,5 @@
 -- One position of a step's sweep, in numbers: what the contracts of `sweep` cite.
+-- Serves inner contracts only.
 use Prim.Native.Nat.{ℕ, zero, suc, _≤_}
 use mathlib.Core.List.{List, [], _∷_, map}
 use mathlib.Core.Bool.{cond}
@@ -11,7 +12,7 @@ use Rattle.table.specs.declared.State.{State}
 use Rattle.table.specs.declared.Head.{Head}
 use Rattle.table.specs.declared.Head.the-variants.{Stop, Go, Out, In, Call}
 use Rattle.table.specs.Words.{headAt}
-use Rattle.table.specs.Meaning.{compsOf}
+use Rattle.table.specs.Meaning.{PastKept, compsOf}
 use Rattle.table.specs.Fire.{aloneAt, togetherAt, readyAt}
 use Rattle.calls_act.specs.declared.Fired.{Fired}
 use Rattle.calls_act.specs.declared.Met.{Met}
@@ -77,3 +78,4 @@ pub record SweepsAs (w : List ℕ) (l : ℕ) (st : State) (after : List ℕ) (ac
   pub few : count ≤ st .n
   pub comps : compsOf (record { c = after; n = st .n }) ≡ sweepAt w l 0 (st .n) (compsOf st) .comps
   pub slotted : length after ≡ 3_072
+  pub past : PastKept (st .n) (st .c) after

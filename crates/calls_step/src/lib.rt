@@ -5,6 +5,12 @@
 //   specs/Stepped what the answer of a step stands for
 //   sweep         the actions of a step
 //   step          the step at a location of a valid table
+//
+//   proofs/Sweeps    the sweep on the table stands for the sweep of the rules
+//   proofs/Queues    the chains of positions that hear a channel
+//   proofs/Sweeping  one position of the sweep in code
+//   proofs/Going     the loop over the positions
+//   proofs/Stepping  the step stands for the step of the rules, with questions 15 and 13
 pub mod step;
 mod sweep;
 

@@ -15,11 +15,11 @@ use Rattle.terms.proofs.Names.{and-in}
 use Rattle.table.specs.declared.Comp.{Comp}
 use Rattle.table.specs.declared.State.{State}
 use Rattle.table.specs.Words.{partsIn}
-use Rattle.table.specs.Meaning.{listFrom, compIn, wordsIn, compsOf, noComp}
+use Rattle.table.specs.Meaning.{listFrom, compIn, wordsIn, PastKept, compsOf, noComp}
 use Rattle.table.specs.Valid.{scriptOk, compOk, stateOk, valid}
 use Rattle.table.specs.Fire.{passedAll}
 use Rattle.table.proofs.Tests.{every-getD, script-fine, comp-fine}
-use Rattle.table.proofs.Kept.{tick-kept}
+use Rattle.table.proofs.Kept.{tick-kept, tick-grows}
 use Rattle.calls_act.proofs.Positions.{valid-parts, comp-good}
 use Rattle.calls_tick.specs.declared.Turn.{Turn}
 use Rattle.calls_tick.specs.Turn.{stepOf, turnOf, touches, remaining}
@@ -27,7 +27,7 @@ use Rattle.calls_tick.specs.Ticked.{passedFrom, PassedHere}
 use Rattle.calls_tick.proofs.Turns.{turn-vals, turn-next, remaining-begin, remaining-turn, remaining-some, untouched}
 use Rattle.table.proofs.InUse.{comps-length, in-use, from-here, comp-at}
 use Rattle.table.proofs.ValidLists.{every-all, listFrom-length, listFrom-at}
-use Rattle.table.proofs.Stores.{put-other, listFrom-same, listFrom-end, drop-from, comps-more}
+use Rattle.table.proofs.Stores.{put-other, past-put, past-none, past-then, listFrom-same, listFrom-end, drop-from, comps-more}
 
 -- k components are written to out, i are done with, and of the next one the parts from next on are left
 pub record Passing (w : List ℕ) (l : ℕ) (st : State) (goal : List Comp) (out : List ℕ) (k i next : ℕ) : Type 0 where
@@ -139,7 +139,7 @@ module _ (w : List ℕ) (l : ℕ) (st : State) where
 
   pub here-begin : length (st .c) ≡ 3_072 → PassedHere w l st (st .c) 0
   unfolding listFrom
-  here-begin e = record { few = omega arith; size = e; front = refl; rest = λ m b. refl }
+  here-begin e = record { few = omega arith; size = e; front = refl; rest = λ m b. refl; past = past-none (st .n) (st .c) }
 
   module _ (out : List ℕ) (i : ℕ) (v : valid w st ≡ true) (p : PassedHere w l st out i) (h : i < st .n) where
     abbrev x : Comp
@@ -169,6 +169,7 @@ module _ (w : List ℕ) (l : ℕ) (st : State) where
               ∙ ap (λ z. listFrom 0 (i + 1) (compIn (sets out (i * 12) (wordsIn (t .comp)))) ++ remaining w l (drop (i + t .step) (compsOf st)) z) (sym e)
               ∙ q .holds;
           rest = λ m b. put-other out i (t .comp) m (λ d. omega arith) ∙ p .rest m (omega arith);
+          past = past-then (omega arith) (p .past) (past-put out (st .n) i (t .comp) h);
         }
 
     -- a component that the tick does not touch
@@ -187,6 +188,7 @@ module _ (w : List ℕ) (l : ℕ) (st : State) where
               ∙ ap (λ y. listFrom 0 i (compIn out) ++ y) (sym b)
               ∙ p .front;
           rest = λ m b. p .rest m (omega arith);
+          past = p .past;
         }
 
   -- ── and then out of a copy ──
@@ -201,14 +203,18 @@ module _ (w : List ℕ) (l : ℕ) (st : State) where
     pub goal-same : passedFrom w l (record { c = out; n = st .n }) i out ≡ passedAll w l (compsOf st)
     goal-same = ap (λ z. listFrom 0 i (compIn out) ++ passedAll w l z) rest-same ∙ p .front
 
-    pub here-done : st .n ≤ i → (compsOf (record { c = out; n = st .n }) ≡ passedAll w l (compsOf st)) × (st .n ≡ length (passedAll w l (compsOf st)))
+    pub here-done : st .n ≤ i → (compsOf (record { c = out; n = st .n }) ≡ passedAll w l (compsOf st)) × (st .n ≡ length (passedAll w l (compsOf st))) × PastKept (st .n) (st .c) out
     unfolding compsOf passedAll flatMap
     here-done b =
         let z : i ≡ st .n = omega (arith, p .few) in
         let none : drop i (compsOf st) ≡ [] = ap (λ j. drop j (compsOf st)) (z ∙ sym (comps-length st)) ∙ drop-length (compsOf st) in
         let e : listFrom 0 i (compIn out) ≡ all = sym (append-nil (listFrom 0 i (compIn out))) ∙ ap (λ y. listFrom 0 i (compIn out) ++ passedAll w l y) (sym none) ∙ p .front in
         let f : listFrom 0 (st .n) (compIn out) ≡ all = ap (λ j. listFrom 0 j (compIn out)) (sym z) ∙ e in
-        (f, sym (listFrom-length 0 (st .n) (compIn out)) ∙ ap length f)
+        (f, sym (listFrom-length 0 (st .n) (compIn out)) ∙ ap length f, p .past)
+
+    -- what the copy's pass leaves past the components in use
+    pub rest-past : {e : List ℕ} {k : ℕ} → k ≡ length (passedAll w l (compsOf st)) → PastKept k out e → PastKept k (st .c) e
+    rest-past q r = past-then (omega (arith, q, tick-grows w l (compsOf st), comps-length st)) (p .past) r
 
     -- the copy still passes question 17
     pub copy-good : valid w st ≡ true → valid w (record { c = out; n = st .n }) ≡ true

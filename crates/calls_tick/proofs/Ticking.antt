@@ -12,7 +12,7 @@ use Rattle.terms.specs.Rules.Answer.{refused, accepted}
 use Rattle.terms.proofs.Names.{and-in}
 use Rattle.table.specs.declared.State.{State}
 use Rattle.table.specs.Words.{locsIn}
-use Rattle.table.specs.Meaning.{means, compsOf, netOf}
+use Rattle.table.specs.Meaning.{means, PastKept, compsOf, netOf}
 use Rattle.table.specs.Valid.{stateOk, valid}
 use Rattle.table.specs.Fire.{forcedAt, passedAll}
 use Rattle.table.proofs.Ticks.{tick-means}
@@ -48,13 +48,15 @@ unfolding room
 tick-done w st l v h e n = in-range w st l v h ∙ rw (e, length-map (passedAll w l (compsOf st)) (means w), le-leb (length (passedAll w l (compsOf st))) 256 (omega arith))
 
 -- a state whose components are what the tick leaves
-pub tick-took : (w : List ℕ) (st next : State) (l : ℕ) → valid w st ≡ true → compsOf next ≡ passedAll w l (compsOf st) → next .n ≡ length (passedAll w l (compsOf st)) → length (passedAll w l (compsOf st)) < 257
-    → Took w (map (means w) (passedAll w l (compsOf st))) (record { code = 0; state = next })
+pub tick-took : (w : List ℕ) (st next : State) (l : ℕ) → valid w st ≡ true → compsOf next ≡ passedAll w l (compsOf st) → next .n ≡ length (passedAll w l (compsOf st)) → length (passedAll w l (compsOf st)) < 257 → PastKept (next .n) (st .c) (next .c)
+    → Took w st (map (means w) (passedAll w l (compsOf st))) (record { code = 0; state = next })
 unfolding netOf valid stateOk
-tick-took w st next l v e n b =
+tick-took w st next l v e n b k =
     let p = valid-parts w st v in
     record {
       code = refl;
       comps = ap (map (means w)) e;
       good = and-in _ _ (p .0) (and-in _ _ (lt-ltb 0 (next .n) (omega (arith, n, tick-grows w l (compsOf st), comps-length st, p .1 .some))) (and-in _ _ (le-leb (next .n) 256 (omega (arith, n))) (rw e (tick-kept w (p .0) l (compsOf st) (p .1 .each)))));
+      grows = omega (arith, n, tick-grows w l (compsOf st), comps-length st);
+      past = k;
     }

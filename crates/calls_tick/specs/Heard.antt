@@ -1,4 +1,5 @@
 -- Which channels are heard at a location, and what presses there: what the contracts of `forced` cite.
+-- Serves inner contracts only.
 use Prim.Native.Nat.{ℕ, _<_}
 use mathlib.Core.List.{List}
 use mathlib.Core.Bool.{Bool, true, false, cond, _&&_}

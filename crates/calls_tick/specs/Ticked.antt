@@ -11,7 +11,7 @@ use Rattle.terms.specs.Rules.Answer.{refused, accepted}
 use Rattle.table.specs.declared.Comp.{Comp}
 use Rattle.table.specs.declared.State.{State}
 use Rattle.table.specs.Words.{locsIn, locName}
-use Rattle.table.specs.Meaning.{listFrom, compIn, defsOf, compsOf, netOf}
+use Rattle.table.specs.Meaning.{listFrom, compIn, PastKept, defsOf, compsOf, netOf}
 use Rattle.table.specs.Valid.{valid}
 use Rattle.table.specs.Fire.{passedAll}
 use Rattle.calls_act.specs.Acted.{asked}
@@ -32,20 +32,22 @@ tickAnswer w st l = asked 17 (valid w st) (tickRule w st l)
 abbrev pub refusal : ℕ → State → Ticked
 refusal n st = record { code = n; state = st }
 
--- an accepted tick: the code 0, the next components, and question 17 still answered by yes
-pub record Took (w : List ℕ) (cs : List Component) (r : Ticked) : Type 0 where
+-- an accepted tick: the code 0; the next components, with question 17 still answered by yes; no fewer than before, and every word past them as it was
+pub record Took (w : List ℕ) (st : State) (cs : List Component) (r : Ticked) : Type 0 where
   pub code : r .code ≡ 0
   pub comps : netOf w (r .state) ≡ cs
   pub good : valid w (r .state) ≡ true
+  pub grows : st .n ≤ r .state .n
+  pub past : PastKept (r .state .n) (st .c) (r .state .c)
 
 -- the code's answer r stands for the answer of the rules
 abbrev pub ticksAs : List ℕ → State → Answer (List Component) → Ticked → Type 0
 ticksAs w st (refused n) r = r ≡ refusal n st
-ticksAs w st (accepted cs) r = Took w cs r
+ticksAs w st (accepted cs) r = Took w st cs r
 
--- what the tick's pass over all components gives: it is full if there is no room, else the components are these
-abbrev pub passes : List Comp → List ℕ → ℕ → Type 0
-passes cs out k = (256 < k → 256 < length cs) × (k ≤ 256 → (compsOf (record { c = out; n = k }) ≡ cs) × (k ≡ length cs))
+-- what the tick's pass over all components gives: it is full if there is no room, else the components are these, and past them nothing was written
+abbrev pub passes : List Comp → List ℕ → List ℕ → ℕ → Type 0
+passes cs before out k = (256 < k → 256 < length cs) × (k ≤ 256 → (compsOf (record { c = out; n = k }) ≡ cs) × (k ≡ length cs) × PastKept k before out)
 
 -- what out holds up to j, and then what the tick leaves of the components from j on
 abbrev pub passedFrom : List ℕ → ℕ → State → ℕ → List ℕ → List Comp
@@ -57,3 +59,4 @@ pub record PassedHere (w : List ℕ) (l : ℕ) (st : State) (out : List ℕ) (i 
   pub size : length out ≡ 3_072
   pub front : passedFrom w l st i out ≡ passedAll w l (compsOf st)
   pub rest : (m : ℕ) → i ≤ m → compIn out m ≡ compIn (st .c) m
+  pub past : PastKept (st .n) (st .c) out

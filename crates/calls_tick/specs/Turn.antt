@@ -1,4 +1,5 @@
 -- The tick, one component written at a time: what the contracts of `pass` cite.
+-- Serves inner contracts only.
 use Prim.Native.Nat.{ℕ, zero, suc, _+_}
 use mathlib.Core.List.{List, [], _∷_, _++_}
 use mathlib.Core.Bool.{Bool, cond}

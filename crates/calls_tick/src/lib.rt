@@ -6,6 +6,11 @@
 //   forced        is the tick at a location not allowed?
 //   pass          every component in the tick at a location
 //   tick          the tick at a location of a valid table
+//
+//   proofs/Hearing  the channels heard decide what presses
+//   proofs/Turns    the tick, one component written at a time, is the tick
+//   proofs/Passing  the loops over the components
+//   proofs/Ticking  the tick stands for the tick of the rules, with question 13 after it
 pub mod forced;
 pub mod pass;
 pub mod tick;

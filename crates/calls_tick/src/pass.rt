@@ -188,7 +188,7 @@ fn pass_rest(
     out: &mut [u32; 3072],
 ) -> usize
     requires { ⌜ (valid (now w) (record { c = now c; n = n }) ≡ true) × (length (now out) ≡ 3072) × (j ≤ n) ⌝ }
-    ensures { λ r. ⌜ passes (passedFrom (now (w .entry)) l (record { c = now (c .entry); n = n }) j (now (out .entry))) (now (out .exit)) r ⌝ }
+    ensures { λ r. ⌜ passes (passedFrom (now (w .entry)) l (record { c = now (c .entry); n = n }) j (now (out .entry))) (now (out .entry)) (now (out .exit)) r ⌝ }
 {
     let mut k = j;
     let mut i = j;
@@ -211,7 +211,7 @@ fn pass_rest(
 // Every component in the tick at l, in the lent ones: how many they are, or 257 if there is no room for all, and then what the lent ones hold is of no use.
 pub fn pass_all(w: &[u32; 99592], c: &mut [u32; 3072], n: usize, l: u32) -> usize
     requires { ⌜ (valid (now w) (record { c = now c; n = n }) ≡ true) × (length (now c) ≡ 3072) ⌝ }
-    ensures { λ r. ⌜ passes (passedAll (now (w .entry)) l (compsOf (record { c = now (c .entry); n = n }))) (now (c .exit)) r ⌝ }
+    ensures { λ r. ⌜ passes (passedAll (now (w .entry)) l (compsOf (record { c = now (c .entry); n = n }))) (now (c .entry)) (now (c .exit)) r ⌝ }
 {
     let j = pass_here(w, c, n, l);
     if n <= j {

@@ -3,13 +3,15 @@
 use Prim.Native.Nat.{ℕ, zero, suc, _+_, _*_, _≤_}
 use native.Mathlib.Omega.{arith}
 use mathlib.Core.List.{List, [], _∷_, flatMap}
-use mathlib.Core.Bool.{true}
+use mathlib.Core.Bool.{Bool, true, false, cond}
 use mathlib.Core.Path.{_≡_, ap, sym, subst, _∙_}
+use lib.Dec.{eqb}
 use lib.ListN.{length, take, length-map, length-append}
 use lib.Seq.{take-at}
 use borrow.Author.Tests.{leb-true}
 use Rattle.terms.specs.Names.{Name, bytes}
 use Rattle.terms.specs.Terms.{Component, Def}
+use Rattle.terms.specs.Terms.Label.{called, moved, sent}
 use Rattle.terms.specs.Rules.{Answer, Action, Acted, at, act}
 use Rattle.terms.specs.Rules.Answer.{refused, accepted}
 use Rattle.terms.specs.Step.{idle, tookPlace, taken, followed, visit, sweep, fires, choice}
@@ -19,7 +21,6 @@ use Rattle.table.specs.Meaning.{defsOf, means, compsOf, netOf}
 use Rattle.table.proofs.InUse.{comps-length}
 use Rattle.table.specs.Valid.{valid}
 use Rattle.table.specs.Fire.{Tag, ActedAt, labelOf, actOn}
-use Rattle.table.specs.Fire.Tag.{callTag, moveTag, sendTag}
 use Rattle.table.proofs.NamesForm.{short-enough}
 use Rattle.table.proofs.Fires.{mapA, actedOf, act-means}
 use Rattle.calls_act.proofs.Positions.{valid-parts}
@@ -31,15 +32,18 @@ use Rattle.run_line.proofs.Labels.{step-before}
 use Rattle.run_line.proofs.Lines.{spaced-append}
 
 -- ── names and labels ──
-name-short : (w : List ℕ) (o : ℕ) → length (nameAt w o) ≤ 16
+pub name-short : (w : List ℕ) (o : ℕ) → length (nameAt w o) ≤ 16
 unfolding nameAt
 name-short w o = leb-true _ 16 (short-enough (record { a = word w o; b = word w (o + 1); c = word w (o + 2); d = word w (o + 3) }))
 
-label-short : (w : List ℕ) (t : Tag) → length (labelText (labelOf w t)) ≤ 51
+pub label-short : (w : List ℕ) (t : Tag) → length (labelText (labelOf w t)) ≤ 51
 unfolding labelText labelOf locName chanName defName
-label-short w (callTag d l) = simp length-append (omega (arith, name-short w (10 + d * 24), name-short w (776 + l * 4)))
-label-short w (moveTag v l) = simp length-append (omega (arith, name-short w (776 + v * 4), name-short w (776 + l * 4)))
-label-short w (sendTag c v l) = simp length-append (omega (arith, name-short w (1_032 + c * 4), name-short w (776 + v * 4), name-short w (776 + l * 4)))
+label-short w t = go (eqb (t .kind) 1) (eqb (t .kind) 2)
+  where
+    go : (x y : Bool) → length (labelText (cond x (called (defName w (t .a)) (locName w (t .spot))) (cond y (moved (locName w (t .a)) (locName w (t .spot))) (sent (chanName w (t .a)) (locName w (t .b)) (locName w (t .spot)))))) ≤ 51
+    go true y = simp length-append (omega (arith, name-short w (10 + t .a * 24), name-short w (776 + t .spot * 4)))
+    go false true = simp length-append (omega (arith, name-short w (776 + t .a * 4), name-short w (776 + t .spot * 4)))
+    go false false = simp length-append (omega (arith, name-short w (1_032 + t .a * 4), name-short w (776 + t .b * 4), name-short w (776 + t .spot * 4)))
 
 -- ── the actions of a step: at most one at a position ──
 taken-few : (d : List Def) (x : Answer Action) (net : List Component) → length (taken d x net .actions) ≤ 1

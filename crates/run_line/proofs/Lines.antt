@@ -5,7 +5,7 @@ use native.Mathlib.Omega.{arith}
 use native.Mathlib.Numerals.{add-one}
 use mathlib.Core.List.{List, [], _∷_, _++_, map, append-assoc, append-nil, flatMap}
 use mathlib.Core.Bool.{Bool, true, false, false≢true}
-use mathlib.Core.Path.{_≡_, refl, ap, sym, _∙_}
+use mathlib.Core.Path.{_≡_, refl, ap, sym, subst, _∙_}
 use lib.Dec.{leb, ltb}
 use lib.ListN.{length, getD, take, drop, length-map, length-append, length-take, drop-of-length-le}
 use lib.Seq.{drop-cons, getD-take, take-at}
@@ -21,10 +21,13 @@ use Rattle.terms.specs.Step.{fires}
 use Rattle.terms.proofs.Steps.{step-accepted}
 use Rattle.table.specs.declared.State.{State}
 use Rattle.table.specs.Words.{locsIn, nameAt, locName, chanName, defName}
-use Rattle.table.specs.Meaning.{defsOf, netOf}
+use Rattle.table.specs.Meaning.{defsOf, compsOf, netOf}
 use Rattle.table.specs.Valid.{valid}
-use Rattle.table.specs.Fire.{labelOf}
+use Rattle.table.specs.Fire.{ActedAt, labelOf, tagIn, actOn}
 use Rattle.table.proofs.Tests.{every-getD}
+use Rattle.table.proofs.Fires.{mapA, actedOf, act-means}
+use Rattle.table.proofs.Tags.{actedTag, act-tagged}
+use Rattle.calls_act.proofs.Positions.{valid-parts}
 use Rattle.calls_act.specs.declared.Acted.{Acted}
 use Rattle.calls_act.specs.Fired.{tagOf}
 use Rattle.calls_act.specs.Acted.{asked, actionOf, actionRule, actsAs}
@@ -40,23 +43,47 @@ use Rattle.calls_act.specs.declared.Label.{Label as Numbers}
 -- ── the label of one record ──
 -- a label in numbers, by its kind; o is the number of the definition called or of the location moved to
 pub label-call : (w : List ℕ) (x : Numbers) (o : ℕ) → x .kind ≡ 1 → o ≡ x .a → nameAt w (10 + o * 24) ++ (bytes "@" ++ locName w (x .«at»)) ≡ labelText (labelOf w (tagOf x))
-unfolding labelText labelOf tagOf defName
+unfolding labelText labelOf defName
 label-call w x o k e = rw (eq-eqb (x .kind) 1 k, e)
 
 pub label-move : (w : List ℕ) (x : Numbers) (o : ℕ) → (x .kind ≡ 1 → ⊥) → x .kind ≡ 2 → o ≡ x .a → nameAt w (776 + o * 4) ++ (bytes "@" ++ locName w (x .«at»)) ≡ labelText (labelOf w (tagOf x))
-unfolding labelText labelOf tagOf locName
+unfolding labelText labelOf locName
 label-move w x o n k e = rw (ne-eqb (x .kind) 1 n, eq-eqb (x .kind) 2 k, e)
 
 pub label-sent : (w : List ℕ) (x : Numbers) → (x .kind ≡ 1 → ⊥) → (x .kind ≡ 2 → ⊥)
     → chanName w (x .a) ++ (bytes "<" ++ (locName w (x .b) ++ (bytes ">@" ++ locName w (x .«at»)))) ≡ labelText (labelOf w (tagOf x))
-unfolding labelText labelOf tagOf
+unfolding labelText labelOf
 label-sent w x m n = rw (ne-eqb (x .kind) 1 m, ne-eqb (x .kind) 2 n)
 
+-- the numbers of an accepted action's label stand for the label
+abbrev spoken : List ℕ → Answer ActedBy → Type 0
+spoken w (refused n) = Unit {0}
+spoken w (accepted a) = labelOf w (tagIn w (a .label)) ≡ a .label
+
+module _ (w : List ℕ) (st : State) (v : valid w st ≡ true) where
+  act-spoken : (a : Action) → spoken w (act (defsOf w) a (netOf w st))
+  unfolding netOf actedOf
+  act-spoken a =
+      let p = valid-parts w st v in
+      subst (spoken w) (act-means w (p .0) (compsOf st) (p .1 .each) a) (go (actOn w a (compsOf st)) (act-tagged w (p .0) (compsOf st) (p .1 .each) a))
+    where
+      go : (x : Answer ActedAt) → actedTag w x → spoken w (mapA (actedOf w) x)
+      go (refused n) t = tt
+      go (accepted b) t = ap (labelOf w) (t .number)
+
+  pub rule-spoken : (k p q : ℕ) → spoken w (actionRule w st k p q)
+  unfolding actionRule
+  rule-spoken k p q = go (actionOf k p q)
+    where
+      go : (x : Answer Action) → spoken w (x >>= λ a. act (defsOf w) a (netOf w st))
+      go (refused n) = tt
+      go (accepted a) = act-spoken a
+
 -- an accepted action has the label that the code gives back
-pub action-text : (w : List ℕ) (st : State) (x : Answer ActedBy) (r : Acted) → actsAs w st x r → ok x ≡ true → bytes " " ++ labelText (labelOf w (tagOf (r .label))) ≡ spaced (labelBy x)
+pub action-text : (w : List ℕ) (st : State) (x : Answer ActedBy) (r : Acted) → actsAs w st x r → ok x ≡ true → spoken w x → bytes " " ++ labelText (labelOf w (tagOf (r .label))) ≡ spaced (labelBy x)
 unfolding spaced
-action-text w st (refused n) r a e = absurd (false≢true e)
-action-text w st (accepted a) r t e = ap (λ z. 32 ∷ z) (sym (append-nil (labelText (labelOf w (tagOf (r .label))))) ∙ ap (λ z. labelText z ++ []) (t .label))
+action-text w st (refused n) r a e s = absurd (false≢true e)
+action-text w st (accepted a) r t e s = ap (λ z. 32 ∷ z) (sym (append-nil (labelText (labelOf w (tagOf (r .label))))) ∙ ap (λ z. labelText z ++ []) (ap (labelOf w) (t .label) ∙ s))
 
 -- ── one record after the other ──
 pub spaced-append : (xs ys : List Label) → spaced (xs ++ ys) ≡ spaced xs ++ spaced ys
@@ -122,7 +149,7 @@ module _ (w : List ℕ) (st : State) (l size : ℕ) (r : Stepped) (ds : List ℕ
   abbrev xs : List Action
   xs = fires (defsOf w) (locName w l) (netOf w st) .actions
 
-  took-holds : (cs : List Component) → valid w st ≡ true → Took w (stepOf (fires (defsOf w) (locName w l) (netOf w st) .actions) cs) r ds before after → Holds w st l after (r .count)
+  took-holds : (cs : List Component) → valid w st ≡ true → Took w st (stepOf (fires (defsOf w) (locName w l) (netOf w st) .actions) cs) r ds before after → Holds w st l after (r .count)
   took-holds cs v t =
       let n : length (map recOf xs) ≡ r .count = length-map xs recOf ∙ sym (t .count) in
       record {

@@ -1,5 +1,6 @@
 -- The records of a step as the line is made of them: what the contracts of the code cite.
 -- proofs/Labels says that an action of a step has the same label in the network before the step.
+-- Serves inner contracts only.
 use Prim.Native.Nat.{ℕ, _≤_}
 use mathlib.Core.List.{List, [], _∷_, map}
 use mathlib.Core.Bool.{Bool, true}

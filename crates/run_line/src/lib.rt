@@ -50,7 +50,7 @@ fn put_sent(w: &[u32; 99592], c: u32, v: u32, l: u32, buf: &mut [u8], at: usize)
 }
 
 // A label.
-fn put_label(w: &[u32; 99592], x: Label, buf: &mut [u8], at: usize) -> usize
+pub fn put_label(w: &[u32; 99592], x: Label, buf: &mut [u8], at: usize) -> usize
     ensures { λ r. ⌜ Wrote (now (buf .entry)) at (labelText (labelOf (now (w .entry)) (tagOf x))) (now (buf .exit)) r ⌝ }
 {
     if x.kind == 1 {

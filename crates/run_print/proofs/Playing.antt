@@ -8,7 +8,7 @@ use mathlib.Core.Path.{_≡_, refl, sym, ap, _∙_}
 use borrow.Author.Tests.{le-leb, lt-ltb, leb-true}
 use lib.Dec.{leb}
 use lib.ListN.{length, take, drop, getD, drop-of-length-le}
-use lib.Seq.{take-at, drop-cons}
+use lib.Seq.{take-at, drop-at, drop-cons}
 use Rattle.terms.specs.Names.{Name, bytes}
 use Rattle.terms.specs.Terms.{Component, Def, Network}
 use Rattle.terms.specs.Rules.{Answer, Action, _>>=_}
@@ -38,9 +38,11 @@ use Rattle.text_write.proofs.Puts.{same, Left, begun, last, left-as}
 use Rattle.run_line.specs.Line.{lineText, stepLabels}
 use Rattle.run_line.proofs.Fits.{fires-few}
 use Rattle.text_read.specs.declared.Reading.{Reading}
-use Rattle.text_read.specs.Answer.{locationsIn, refusal, readsAs, ReadsAs}
+use Rattle.text_read.specs.Answer.{locationsIn, refusal, readsAs}
+use Rattle.text_read.proofs.Answering.{Among, among}
 use Rattle.run_print.specs.declared.Turned.{Turned}
 use Rattle.run_print.specs.Print.{refusedText, Turn, turnOf, ending, followed, playing, four, printed, printout}
+use Rattle.run_print.specs.Pieces.{copies, remaining, playingPieces, piecesOf, pieces}
 use Rattle.run_print.specs.Turned.{TurnIs}
 use Rattle.text_write.proofs.Puts.{step as put-step}
 
@@ -141,42 +143,44 @@ module _ (w : List ℕ) (st : State) (good : valid w st ≡ true) {t t′ : List
   pub ending-short : r .code ≡ 0 → r .len ≤ 65_536
   ending-short z = let k = written z in let a = k .len in let b = k .fits in omega arith
 
+  pub ending-past : r .code ≡ 0 → drop (r .len) t′ ≡ drop (r .len) t
+  ending-past z = let k = written z in ap (drop (r .len)) (k .bytes) ∙ drop-at Text _ (r .len) (sym (k .len)) ∙ ap (λ n. drop n t) (sym (k .len))
+
+  pub ending-kept : (r .code ≡ 0 → ⊥) → t′ ≡ t
+  ending-kept n = go (noMark w st) (leb (length Text) 65_536) refl refl
+    where
+      go : (a b : Bool) → noMark w st ≡ a → leb (length Text) 65_536 ≡ b → t′ ≡ t
+      go true true e f = absurd (n (rw (by true true e f) at (x .code)))
+      go true false e f = rw (by true false e f) at (x .bytes)
+      go false b e f = rw (by false b e f) at (x .bytes)
+
   pub ending-text : r .code ≡ 0 → take (r .len) t′ ≡ ending (defsOf w) (netOf w st)
   ending-text z = let k = written z in ap (take (r .len)) (k .bytes) ∙ take-at Text _ (r .len) (sym (k .len)) ∙ k .text
 
 -- ── the rounds ──
-unfoldable pub copies : ℕ → List Name → List Name
-copies zero ls = []
-copies (suc m) ls = ls ++ copies m ls
-
--- m rounds are left, with l locations of the first done
-unfoldable pub remaining : ℕ → ℕ → List Name → List Name
-remaining zero l ls = []
-remaining (suc m) l ls = drop l ls ++ copies m ls
-
-remaining-first : (m : ℕ) (ls : List Name) → copies m ls ≡ remaining m 0 ls
+pub remaining-first : (m : ℕ) (ls : List Name) → copies m ls ≡ remaining m 0 ls
 unfolding copies remaining
 remaining-first zero ls = refl
 remaining-first (suc m) ls = refl
 
-all-rounds : (ls : List Name) → remaining 4 0 ls ≡ four ls
+pub all-rounds : (ls : List Name) → remaining 4 0 ls ≡ four ls
 unfolding copies remaining
 all-rounds ls = ap (λ x. ls ++ (ls ++ (ls ++ x))) (append-nil ls)
 
-remaining-next : (m l : ℕ) (ls : List Name) → l < length ls → remaining (suc m) l ls ≡ getD ls l [] ∷ remaining (suc m) (l + 1) ls
+pub remaining-next : (m l : ℕ) (ls : List Name) → l < length ls → remaining (suc m) l ls ≡ getD ls l [] ∷ remaining (suc m) (l + 1) ls
 unfolding remaining
 remaining-next m l ls h = ap (λ x. x ++ copies m ls) (drop-cons ls l [] h ∙ ap (λ n. getD ls l [] ∷ drop n ls) (sym (add-one l)))
 
-remaining-over : (m l : ℕ) (ls : List Name) → length ls ≤ l → remaining (suc m) l ls ≡ remaining m 0 ls
+pub remaining-over : (m l : ℕ) (ls : List Name) → length ls ≤ l → remaining (suc m) l ls ≡ remaining m 0 ls
 unfolding remaining
 remaining-over m l ls h = ap (λ x. x ++ copies m ls) (drop-of-length-le ls h) ∙ remaining-first m ls
 
 module _ (w : List ℕ) where
-  locs-length : length (locsOf w) ≡ locsIn w
+  pub locs-length : length (locsOf w) ≡ locsIn w
   unfolding locsOf
   locs-length = length-listFrom (locName w) 0 (locsIn w)
 
-  loc-at : (l : ℕ) → l < locsIn w → getD (locsOf w) l [] ≡ locName w l
+  pub loc-at : (l : ℕ) → l < locsIn w → getD (locsOf w) l [] ≡ locName w l
   unfolding locsOf
   loc-at l h = getD-listFrom (locName w) [] 0 (locsIn w) l h ∙ ap (locName w) (omega arith)
 
@@ -225,41 +229,27 @@ module _ (w : List ℕ) where
   play-end st round l h p b = let m : 4 - round ≡ 0 = omega arith in last (left-as (ap (λ n. playing (defsOf w) (remaining n l (locsOf w)) (netOf w st)) m) p) b
 
 -- ── the whole ──
--- the questions of a text have the numbers 1 to 7
-abbrev Among : Answer Network → Type 0
-Among (refused n) = (0 < n) × (n < 8)
-Among (accepted m) = Unit {0}
-
-among : (s : List ℕ) → Among (read s)
-unfolding read form
-among s = go (short s) (text (lex s))
-  where
-    tree : (t : Tree) (a b c d f : Bool) → Among (ask 3 a >> (ask 4 b >> (ask 5 c >> (ask 6 d >> (ask 7 f >> accepted (networkOf t))))))
-    tree t false b c d f = (omega arith, omega arith)
-    tree t true false c d f = (omega arith, omega arith)
-    tree t true true false d f = (omega arith, omega arith)
-    tree t true true true false f = (omega arith, omega arith)
-    tree t true true true true false = (omega arith, omega arith)
-    tree t true true true true true = tt
-
-    go : (y : Bool) (x : Rest Tree) → Among (ask 1 y >> (whole x >>= λ t. ask 3 (shallow t) >> (ask 4 (fits t) >> (ask 5 (definedOnce (t .defs)) >> (ask 6 (callsMet t) >> (ask 7 (bound t) >> accepted (networkOf t)))))))
-    go false x = (omega arith, omega arith)
-    go true bad = (omega arith, omega arith)
-    go true (ok t us) = tree t (shallow t) (fits t) (definedOnce (t .defs)) (callsMet t) (bound t)
-
-module _ (s w v : List ℕ) (r : Reading) (x : ReadsAs s w v r) where
+module _ (s u w v : List ℕ) (r : Reading) (x : readsAs s (read s) u w v r) where
   pub whole-refused : (r .code ≡ 0 → ⊥) → refusedText (r .code) ≡ printout s
   unfolding printout
   whole-refused n = go (read s) x
     where
-      go : (y : Answer Network) → readsAs s y w v r → refusedText (r .code) ≡ printed (locationsIn (form s)) y
+      go : (y : Answer Network) → readsAs s y u w v r → refusedText (r .code) ≡ printed (locationsIn (form s)) y
       go (refused m) k = ap refusedText (ap (λ q. q .code) (k .0))
+      go (accepted m) k = absurd (n (k .code))
+
+  pub whole-stopped : (r .code ≡ 0 → ⊥) → refusedText (r .code) ∷ [] ≡ pieces s
+  unfolding pieces
+  whole-stopped n = go (read s) x
+    where
+      go : (y : Answer Network) → readsAs s y u w v r → refusedText (r .code) ∷ [] ≡ piecesOf (locationsIn (form s)) y
+      go (refused m) k = ap (λ n. refusedText n ∷ []) (ap (λ q. q .code) (k .0))
       go (accepted m) k = absurd (n (k .code))
 
   pub whole-number : (r .code ≡ 0 → ⊥) → r .code < 8
   whole-number n = go (read s) (among s) x
     where
-      go : (y : Answer Network) → Among y → readsAs s y w v r → r .code < 8
+      go : (y : Answer Network) → Among y → readsAs s y u w v r → r .code < 8
       go (refused m) a k = let h : r .code ≡ m = ap (λ q. q .code) (k .0) in omega arith
       go (accepted m) a k = absurd (n (k .code))
 
@@ -270,7 +260,7 @@ module _ (s w v : List ℕ) (r : Reading) (x : ReadsAs s w v r) where
     pub whole-good : valid v (r .state) ≡ true
     whole-good = go (read s) refl x
       where
-        go : (y : Answer Network) → read s ≡ y → readsAs s y w v r → valid v (r .state) ≡ true
+        go : (y : Answer Network) → read s ≡ y → readsAs s y u w v r → valid v (r .state) ≡ true
         go (refused m) e k = absurd (not-refused m e (k .0))
         go (accepted m) e k = k .good
 
@@ -278,6 +268,14 @@ module _ (s w v : List ℕ) (r : Reading) (x : ReadsAs s w v r) where
     unfolding printout tableNetwork
     whole-printed = go (read s) refl x
       where
-        go : (y : Answer Network) → read s ≡ y → readsAs s y w v r → playing (defsOf v) (four (locsOf v)) (netOf v (r .state)) ≡ printed (locationsIn (form s)) y
+        go : (y : Answer Network) → read s ≡ y → readsAs s y u w v r → playing (defsOf v) (four (locsOf v)) (netOf v (r .state)) ≡ printed (locationsIn (form s)) y
+        go (refused m) e k = absurd (not-refused m e (k .0))
+        go (accepted m) e k = rw (k .locs, ← k .network)
+
+    pub whole-playingPieces : playingPieces (defsOf v) (four (locsOf v)) (netOf v (r .state)) ≡ pieces s
+    unfolding pieces tableNetwork
+    whole-playingPieces = go (read s) refl x
+      where
+        go : (y : Answer Network) → read s ≡ y → readsAs s y u w v r → playingPieces (defsOf v) (four (locsOf v)) (netOf v (r .state)) ≡ piecesOf (locationsIn (form s)) y
         go (refused m) e k = absurd (not-refused m e (k .0))
         go (accepted m) e k = rw (k .locs, ← k .network)

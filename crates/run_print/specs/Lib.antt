@@ -1,3 +1,4 @@
 pub mod Print
 pub mod Turned
+pub mod Pieces
 pub mod Examples

@@ -1,4 +1,5 @@
 -- What the code's answer to a step stands for.
+-- Serves inner contracts only.
 use Prim.Native.Nat.{ℕ}
 use mathlib.Core.List.{List}
 use mathlib.Core.Bool.{true}

@@ -33,11 +33,11 @@ abbrev pub okA : {A : Type 0} → (A → Bool) → Answer A → Bool
 okA f (refused n) = true
 okA f (accepted a) = f a
 
-abbrev inRange : List ℕ → ℕ → Bool
+abbrev pub inRange : List ℕ → ℕ → Bool
 inRange w v = ltb v (locsIn w)
 
 -- ── values ──
-value-in : (w : List ℕ) (ys : List Name) (vs : List ℕ) (v : ℕ) → refOk w ys v ≡ true → length ys ≤ length vs → every (inRange w) vs ≡ true → valueIn vs v < locsIn w
+pub value-in : (w : List ℕ) (ys : List Name) (vs : List ℕ) (v : ℕ) → refOk w ys v ≡ true → length ys ≤ length vs → every (inRange w) vs ≡ true → valueIn vs v < locsIn w
 unfolding refOk slotOk valueIn
 value-in w ys vs v e h f = go (ltb v 64) e
   where
@@ -86,7 +86,7 @@ left-ok w l k i vs a b c n e = comp-ok w (leftAt l k i vs) (record { loc = b; ma
     or-right false y q = q
 
 module _ (w : List ℕ) (good : scriptOk w ≡ true) where
-  enough : (c : Comp) → CompFine w c → length (namesAt w (c .place)) ≤ length (c .vals)
+  pub enough : (c : Comp) → CompFine w c → length (namesAt w (c .place)) ≤ length (c .vals)
   enough c f = omega (arith, f .slots, names-length w (c .place), scope-length w (c .place))
 
   becomes-kept : (k : Kind) (c : Comp) (h : Head) → headOk w (c .place) h ≡ true → CompFine w c → okA (goodLeft w) (becomesAt w k c h) ≡ true

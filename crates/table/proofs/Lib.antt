@@ -6,6 +6,7 @@ pub mod Splits
 pub mod Fires
 pub mod Ticks
 pub mod Kept
+pub mod Tags
 pub mod Names
 pub mod WordsHead
 pub mod NamesForm
@@ -15,6 +16,8 @@ pub mod InUse
 pub mod Stores
 pub mod ValidScopes
 pub mod ValidParts
+pub mod ValidLeaves
+pub mod ValidRoots
 pub mod NamesRows
 pub mod ValidDefs
 pub mod ValidWhole

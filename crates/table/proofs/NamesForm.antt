@@ -3,18 +3,18 @@
 use Prim.Native.Nat.{ℕ, _/_, _%_, _≤_, _<_}
 use native.Mathlib.Omega.{arith}
 use mathlib.Core.List.{List, [], _∷_, cons≢nil}
-use mathlib.Core.Bool.{Bool, true, false, cond, _&&_, not}
+use mathlib.Core.Bool.{Bool, true, false, cond, _&&_, not, false≢true}
 use mathlib.Core.Logic.{_⊎_, inl, inr}
-use mathlib.Core.Path.{_≡_, refl, ap, sym, _∙_}
+use mathlib.Core.Path.{_≡_, refl, ap, sym, subst, _∙_}
 use lib.Dec.{eqb, leb}
 use lib.ListN.{length}
 use borrow.Author.Tests.{le-leb}
 use Rattle.terms.specs.Names.{Name, sameName}
 use Rattle.terms.specs.Rules.{some}
 use Rattle.terms.specs.Same.{every}
-use Rattle.terms.specs.Characters.Class.{other}
+use Rattle.terms.specs.Characters.Class.{capital, small, digit, bracket, blank, other}
 use Rattle.terms.proofs.Names.{eqb-eq}
-use Rattle.terms.specs.Characters.{Class, classOf, isAlnum}
+use Rattle.terms.specs.Characters.{Class, classOf, alnum, isAlnum}
 use Rattle.terms.specs.Letters.{firstIs, member, reserved, isName}
 use Rattle.table.specs.declared.Key.{Key}
 use Rattle.table.specs.declared.Sort.{Sort}
@@ -262,3 +262,35 @@ pub name-is : (s : Sort) (k : Key)
     → isName (firstOf s) (keyName k) ≡ (firstOf s (classOf (k .a % 256)) && (every isAlnum (keyName k) && not (member (keyName k) reserved)))
 unfolding isName
 name-is s k = rw (first-is (firstOf s) (no-mark s) (k .a) (k .b) (k .c) (k .d), short-enough k)
+
+-- ── a first letter ──
+first-class : (s : Sort) (c : Class) → firstOf s c ≡ true → alnum c ≡ true
+first-class Location capital e = refl
+first-class Location small e = absurd (false≢true e)
+first-class Location digit e = refl
+first-class Location bracket e = absurd (false≢true e)
+first-class Location blank e = absurd (false≢true e)
+first-class Location other e = absurd (false≢true e)
+first-class Small capital e = absurd (false≢true e)
+first-class Small small e = refl
+first-class Small digit e = refl
+first-class Small bracket e = absurd (false≢true e)
+first-class Small blank e = absurd (false≢true e)
+first-class Small other e = absurd (false≢true e)
+first-class Identifier capital e = refl
+first-class Identifier small e = refl
+first-class Identifier digit e = refl
+first-class Identifier bracket e = absurd (false≢true e)
+first-class Identifier blank e = absurd (false≢true e)
+first-class Identifier other e = absurd (false≢true e)
+
+pub first-alnum : (s : Sort) (b : ℕ) → firstOf s (classOf b) ≡ true → isAlnum b ≡ true
+first-alnum s b e = first-class s (classOf b) e
+
+-- of a word that starts with a letter or a digit, the rest decides
+starts : (a : ℕ) → isAlnum (a % 256) ≡ true → a ≡ 0 → ⊥
+unfolding classOf
+starts a e z = false≢true (subst (λ n. isAlnum (n % 256) ≡ true) z e)
+
+pub solid-after : (a : ℕ) → a < 4_294_967_296 → isAlnum (a % 256) ≡ true → solid a ≡ solid (a / 256)
+solid-after a h e = solid-turn a h (starts a e) ∙ rw e

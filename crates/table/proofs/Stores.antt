@@ -13,7 +13,7 @@ use Rattle.terms.specs.Rules as R
 use Rattle.table.specs.declared.Comp.{Comp}
 use Rattle.table.specs.declared.State.{State}
 use Rattle.table.specs.Words.{word}
-use Rattle.table.specs.Meaning.{listFrom, compIn, wordsIn, compsOf}
+use Rattle.table.specs.Meaning.{listFrom, compIn, wordsIn, PastKept, compsOf}
 
 pub set-out : (l : List ℕ) (i j a : ℕ) → (j ≡ i → ⊥) → word (set l i a) j ≡ word l j
 set-out l i j a h = getD-set-other l i j a 0 h
@@ -103,6 +103,16 @@ module _ (c : List ℕ) (p : ℕ) (x : Comp) where
         rw
         (head, stored 1 (omega arith), stored 2 (omega arith), stored 3 (omega arith), stored 4 (omega arith), stored 5 (omega arith), stored 6 (omega arith), stored 7 (omega arith), stored 8 (omega arith), stored 9 (omega arith), stored 10 (omega arith), stored 11 (omega arith))
         (ap (λ v. record { loc = x .loc; mark = x .mark; place = x .place; timer = x .timer; vals = v }) (eight (x .vals) e))
+
+-- ── past the components in use ──
+pub past-put : (c : List ℕ) (k p : ℕ) (x : Comp) → p < k → PastKept k c (sets c (p * 12) (wordsIn x))
+past-put c k p x h = record { words = λ o b. sets-past (wordsIn x) c (p * 12) o (omega arith) }
+
+pub past-none : (k : ℕ) (c : List ℕ) → PastKept k c c
+past-none k c = record { words = λ o b. refl }
+
+pub past-then : {j k : ℕ} {a b c : List ℕ} → j ≤ k → PastKept j a b → PastKept k b c → PastKept k a c
+past-then h p q = record { words = λ o b. q .words o b ∙ p .words o (omega arith) }
 
 -- ── a list by numbers, of which one is another ──
 pub listFrom-same : {A : Type 0} (k n : ℕ) (f g : ℕ → A) → ((j : ℕ) → k ≤ j → g j ≡ f j) → listFrom k n g ≡ listFrom k n f

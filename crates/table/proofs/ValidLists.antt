@@ -1,17 +1,19 @@
 -- What a loop that goes through a list has shown when it stops early, and when it does not: one pair of laws for each question asked of a list.
 -- By induction on the list.
-use Prim.Native.Nat.{ℕ, zero, suc, _+_, _<_}
+use Prim.Native.Nat.{ℕ, zero, suc, _+_, _-_, _≤_, _<_}
 use native.Mathlib.Omega.{arith}
 use mathlib.Core.List.{List, [], _∷_}
-use mathlib.Core.Bool.{Bool, true, false, _&&_, _||_, not}
+use mathlib.Core.Bool.{Bool, true, false, cond, _&&_, _||_, not}
 use mathlib.Core.Path.{_≡_, refl, ap, sym, _∙_}
 use lib.Dec.{eqb}
-use lib.ListN.{length, getD, drop}
+use lib.ListN.{length, getD, drop, length-drop}
+use lib.Seq.{getD-drop}
 use borrow.Author.Tests.{eq-eqb, ne-eqb, eqb-true, eqb-false}
 use Rattle.terms.specs.Names.{Name, sameName}
 use Rattle.terms.specs.Rules.{some}
 use Rattle.terms.specs.Same.{every}
 use Rattle.terms.specs.Letters.{member, distinct}
+use Rattle.terms.proofs.Names.{name-refl}
 use Rattle.table.specs.Meaning.{listFrom}
 use Rattle.table.specs.Valid.{below, alike, index}
 use Rattle.table.proofs.ValidBool.{and-false}
@@ -120,3 +122,55 @@ unfolding listFrom
 listFrom-at k zero f j d b = absurd (omega arith)
 listFrom-at k (suc n) f zero d b = ap f (omega arith)
 listFrom-at k (suc n) f (suc j) d b = listFrom-at (suc k) n f j d (omega arith) ∙ ap f (omega arith)
+
+-- ── each name is the first of its name exactly if all differ ──
+pub index-below : (ys : List Name) (x : Name) (k : ℕ) → k < length ys → sameName (getD ys k []) x ≡ true → index ys x ≤ k
+unfolding index
+index-below [] x k b e = absurd (omega arith)
+index-below (y ∷ ys) x zero b e = rw e (omega arith)
+index-below (y ∷ ys) x (suc k) b e = go (sameName y x) (index-below ys x k (omega arith) e)
+  where
+    go : (t : Bool) → index ys x ≤ k → cond t 0 (suc (index ys x)) ≤ suc k
+    go true h = omega arith
+    go false h = omega arith
+
+pub index-same : (ys : List Name) (x : Name) → index ys x < length ys → sameName (getD ys (index ys x) []) x ≡ true
+unfolding index
+index-same [] x b = absurd (omega arith)
+index-same (y ∷ ys) x b = go (sameName y x) refl b (index-same ys x)
+  where
+    go : (t : Bool) → sameName y x ≡ t → cond t 0 (suc (index ys x)) < suc (length ys) → (index ys x < length ys → sameName (getD ys (index ys x) []) x ≡ true)
+        → sameName (getD (y ∷ ys) (cond t 0 (suc (index ys x))) []) x ≡ true
+    go true e h k = e
+    go false e h k = k (omega arith)
+
+dropped-at : (ys : List Name) (i j : ℕ) → getD (drop (suc i) ys) j [] ≡ getD ys (suc i + j) []
+dropped-at ys i j = getD-drop (suc i) ys j []
+
+pub firsts-differ : (ys : List Name) → ((k : ℕ) → k < length ys → index ys (getD ys k []) ≡ k) → distinct ys ≡ true
+firsts-differ ys h =
+    distinct-all ys
+    (λ k b. member-none (getD ys k []) (drop (suc k) ys)
+    (λ j c. let l : suc k + j < length ys = omega (arith, length-drop (suc k) ys) in other k (suc k + j) b l (omega arith) (dropped-at ys k j)))
+  where
+    other : (k m : ℕ) → k < length ys → m < length ys → k < m → {z : Name} → z ≡ getD ys m [] → sameName (getD ys k []) z ≡ false
+    other k m b l d {z} e = go (sameName (getD ys k []) z) refl
+      where
+        go : (t : Bool) → sameName (getD ys k []) z ≡ t → t ≡ false
+        go false q = refl
+        go true q = absurd (omega (arith, h m l, index-below ys (getD ys m []) k b (ap (sameName (getD ys k [])) (sym e) ∙ q)))
+
+pub again-alike : (ys : List Name) (k : ℕ) → k < length ys → (index ys (getD ys k []) ≡ k → ⊥) → distinct ys ≡ false
+again-alike ys k b n =
+    let x = getD ys k [] in
+    let i = index ys x in
+    let l : i ≤ k = index-below ys x k b (name-refl x) in
+    let m : i < k = strict l n in
+    let e : sameName (getD ys i []) x ≡ true = index-same ys x (omega arith) in
+    let z : suc i + (k - suc i) ≡ k = omega arith in
+    distinct-miss ys i (omega arith)
+    (member-hit (getD ys i []) (drop (suc i) ys) (k - suc i) (omega (arith, length-drop (suc i) ys))
+    (ap (sameName (getD ys i [])) (dropped-at ys i (k - suc i) ∙ ap (λ m. getD ys m []) z) ∙ e))
+  where
+    strict : {i k : ℕ} → i ≤ k → (i ≡ k → ⊥) → i < k
+    strict l n = omega arith

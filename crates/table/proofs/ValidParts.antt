@@ -13,8 +13,8 @@ use Rattle.terms.specs.Same.{every}
 use Rattle.terms.proofs.Names.{and-inv}
 use Rattle.table.specs.declared.Head.the-variants.{Stop}
 use Rattle.table.specs.Words.{field, headAt, nextAt, lowAt, scopeAt}
-use Rattle.table.specs.Valid.{alike, innerOk, nextOk, lowOk, scopeOk, treeOk, partOk, stacked, floor, headOk}
-use Rattle.table.specs.Tests.{restOk, endOk}
+use Rattle.table.specs.Valid.{alike, innerOk, nextOk, lowOk, treeOk, stacked, floor, headOk}
+use Rattle.table.specs.Tests.{slotsOk, rowOk, restOk, endOk}
 use Rattle.table.proofs.ValidBool.{and-false}
 use Rattle.table.proofs.ValidLists.{every-all, every-miss}
 
@@ -67,30 +67,30 @@ module _ (w : List ℕ) (i : ℕ) (f : ℕ → Bool) (m : ℕ) where
 
 -- ── the whole part ──
 module _ (w : List ℕ) (i : ℕ) where
-  pub part-is : leb (field w i 0) 4 ≡ true → scopeOk w i ≡ true → partOk w i ≡ restOk w i (headAt w i)
-  unfolding partOk treeOk restOk
+  pub part-is : leb (field w i 0) 4 ≡ true → slotsOk w i ≡ true → rowOk w i ≡ restOk w i (headAt w i)
+  unfolding rowOk treeOk restOk
   part-is p q = rw (p, q)
 
-  pub part-scope : scopeOk w i ≡ false → partOk w i ≡ false
-  unfolding partOk
+  pub part-scope : slotsOk w i ≡ false → rowOk w i ≡ false
+  unfolding rowOk
   part-scope e = simp (e, and-false)
 
-  pub part-kind : leb (field w i 0) 4 ≡ false → partOk w i ≡ false
-  unfolding partOk
+  pub part-kind : leb (field w i 0) 4 ≡ false → rowOk w i ≡ false
+  unfolding rowOk
   part-kind e = rw e
 
   pub rest-stop : restOk w i Stop ≡ endOk w i i
   unfolding restOk headOk stacked floor endOk
   rest-stop = refl
 
-  pub scope-passes : field w i 8 ≤ 8 → every (λ o. ltb o 99_589) (scopeAt w i) ≡ true → scopeOk w i ≡ true
-  unfolding scopeOk
+  pub scope-passes : field w i 8 ≤ 8 → every (λ o. ltb o 99_589) (scopeAt w i) ≡ true → slotsOk w i ≡ true
+  unfolding slotsOk
   scope-passes h e = rw (le-leb (field w i 8) 8 h, e)
 
-  pub scope-large : 8 < field w i 8 → scopeOk w i ≡ false
-  unfolding scopeOk
+  pub scope-large : 8 < field w i 8 → slotsOk w i ≡ false
+  unfolding slotsOk
   scope-large h = rw (lt-leb (field w i 8) 8 h)
 
-  pub scope-outside : every (λ o. ltb o 99_589) (scopeAt w i) ≡ false → scopeOk w i ≡ false
-  unfolding scopeOk
+  pub scope-outside : every (λ o. ltb o 99_589) (scopeAt w i) ≡ false → slotsOk w i ≡ false
+  unfolding slotsOk
   scope-outside e = simp (e, and-false)

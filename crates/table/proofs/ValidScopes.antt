@@ -9,14 +9,16 @@ use mathlib.Core.Path.{_≡_, refl, ap, sym, _∙_}
 use lib.Dec.{eqb, leb, ltb}
 use lib.ListN.{length, getD, take, length-append, length-map}
 use lib.Seq.{length-take-le, getD-take, take-suc}
-use borrow.Author.Tests.{le-leb, lt-ltb, le-ltb, leb-true}
+use borrow.Author.Tests.{le-leb, lt-ltb, le-ltb, leb-true, eqb-true, eqb-false}
 use Rattle.terms.specs.Names.{Name, sameName}
 use Rattle.terms.specs.Same.{every}
+use Rattle.terms.specs.Letters.{isSmall, distinct}
+use Rattle.terms.proofs.Names.{and-inv, and-in}
 use Rattle.table.specs.Words.{locsIn, nameAt, field, atMost8, ownAt, scopeAt, namesAt}
-use Rattle.table.specs.Valid.{alike, index, slotOk, refOk, innerOk, entered}
-use Rattle.table.specs.Tests.{Scoped, slots}
+use Rattle.table.specs.Valid.{alike, index, sortOk, slotOk, refOk, innerOk, entered}
+use Rattle.table.specs.Tests.{Scoped, slots, slotNamed, scopeNamed}
 use Rattle.table.proofs.ValidBool.{and-false, and-true}
-use Rattle.table.proofs.ValidLists.{every-all, every-miss, alike-all, alike-miss, alike-uneven, index-hit, index-none}
+use Rattle.table.proofs.ValidLists.{every-all, every-miss, alike-all, alike-miss, alike-uneven, index-hit, index-none, firsts-differ, again-alike}
 
 -- ── the eight words ──
 pub slots-at : (w : List ℕ) (i k : ℕ) → k < 8 → getD (slots w i) k 0 ≡ field w i (9 + k)
@@ -112,6 +114,25 @@ module _ (w : List ℕ) (i n : ℕ) (s : Scoped w i n) where
   slot-none x h =
       index-none (namesAt w i) x (λ j c. let b : j < n = omega (arith, names-length) in ap (λ y. sameName y x) (names-at j b) ∙ h j b)
       ∙ names-length
+
+  -- ── forms, and names that differ ──
+  pub slots-named : ((k : ℕ) → k < n → slotNamed w i k ≡ true) → scopeNamed w i ≡ true
+  unfolding scopeNamed sortOk slotNamed
+  slots-named g =
+      and-in _ _ (every-all isSmall [] (namesAt w i) (λ k b. let c : k < n = omega (arith, names-length) in ap isSmall (names-at k c) ∙ and-inv (isSmall (nameAt w (field w i (9 + k)))) _ (g k c) .0))
+      (firsts-differ (namesAt w i) (λ k b. let c : k < n = omega (arith, names-length) in ap (index (namesAt w i)) (names-at k c) ∙ eqb-true _ k (and-inv (isSmall (nameAt w (field w i (9 + k)))) _ (g k c) .1)))
+
+  pub slots-unnamed : (k : ℕ) → k < n → slotNamed w i k ≡ false → scopeNamed w i ≡ false
+  unfolding scopeNamed sortOk slotNamed
+  slots-unnamed k b e = go (isSmall (nameAt w (field w i (9 + k)))) refl e
+    where
+      at : getD (namesAt w i) k [] ≡ nameAt w (field w i (9 + k))
+      at = names-at k b
+
+      go : (t : Bool) → isSmall (nameAt w (field w i (9 + k))) ≡ t → (t && eqb (index (namesAt w i) (nameAt w (field w i (9 + k)))) k) ≡ false
+          → (every isSmall (namesAt w i) && distinct (namesAt w i)) ≡ false
+      go false q z = rw (every-miss isSmall [] (namesAt w i) k (omega (arith, names-length)) (ap isSmall at ∙ q))
+      go true q z = simp (again-alike (namesAt w i) k (omega (arith, names-length)) (λ d. eqb-false _ k z (ap (index (namesAt w i)) (sym at) ∙ d)), and-false)
 
   pub slot-out : (k : ℕ) → n ≤ k → slotOk (namesAt w i) k ≡ false
   unfolding slotOk

@@ -6,6 +6,7 @@ use mathlib.Core.Bool.{Bool, true, false, cond, _&&_, _||_, not}
 use lib.Dec.{eqb, ltb}
 use lib.ListN.{getD}
 use lib.ListN as L
+use Rattle.terms.specs.Names.{Name}
 use Rattle.terms.specs.Terms.{Label}
 use Rattle.terms.specs.Terms.Label.{called, moved, sent}
 use Rattle.terms.specs.Rules.{Answer, Kind, Action, _>>=_, at, setAll, positions, some}
@@ -15,18 +16,48 @@ use Rattle.terms.specs.Rules.Action.{single, pair}
 use Rattle.table.specs.declared.Head.{Head}
 use Rattle.table.specs.declared.Head.the-variants.{Stop, Go, Out, In, Call}
 use Rattle.table.specs.declared.Comp.{Comp}
-use Rattle.table.specs.Words.{locName, chanName, defName, bodyOf, headAt}
+use Rattle.table.specs.Words.{locsIn, chansIn, defsIn, locName, chanName, defName, bodyOf, headAt}
+use Rattle.table.specs.Meaning.{listFrom}
+use Rattle.table.specs.Valid.{index}
 use Rattle.table.specs.Split.{passed}
 
--- a label in numbers
-pub data Tag : Type 0 where
-  callTag moveTag : ℕ → ℕ → Tag
-  sendTag : ℕ → ℕ → ℕ → Tag
+-- a label in numbers: kind 1, the definition a is called; kind 2, the location a is moved to; kind 3, the value b is sent on the channel a.
+-- It fires at the location `spot`; b is 0 for kinds 1 and 2.
+pub record Tag : Type 0 where
+  pub kind : ℕ
+  pub a : ℕ
+  pub b : ℕ
+  pub spot : ℕ
+
+abbrev pub callTag : ℕ → ℕ → Tag
+callTag d l = record { kind = 1; a = d; b = 0; spot = l }
+
+abbrev pub moveTag : ℕ → ℕ → Tag
+moveTag v l = record { kind = 2; a = v; b = 0; spot = l }
+
+abbrev pub sendTag : ℕ → ℕ → ℕ → Tag
+sendTag c v l = record { kind = 3; a = c; b = v; spot = l }
 
 unfoldable pub labelOf : List ℕ → Tag → Label
-labelOf w (callTag d l) = called (defName w d) (locName w l)
-labelOf w (moveTag v l) = moved (locName w v) (locName w l)
-labelOf w (sendTag c v l) = sent (chanName w c) (locName w v) (locName w l)
+labelOf w t =
+    cond (eqb (t .kind) 1) (called (defName w (t .a)) (locName w (t .spot)))
+    (cond (eqb (t .kind) 2) (moved (locName w (t .a)) (locName w (t .spot)))
+    (sent (chanName w (t .a)) (locName w (t .b)) (locName w (t .spot))))
+
+-- the numbers of a label's names: a name's number is its first place among those of its sort
+abbrev pub locNumber : List ℕ → Name → ℕ
+locNumber w x = index (listFrom 0 (locsIn w) (locName w)) x
+
+unfoldable pub tagIn : List ℕ → Label → Tag
+tagIn w (called i l) = callTag (index (listFrom 0 (defsIn w) (defName w)) i) (locNumber w l)
+tagIn w (moved v l) = moveTag (locNumber w v) (locNumber w l)
+tagIn w (sent c v l) = sendTag (index (listFrom 0 (chansIn w) (chanName w)) c) (locNumber w v) (locNumber w l)
+
+-- each number of a tag names something that the script holds
+unfoldable pub tagHeld : List ℕ → Tag → Bool
+tagHeld w t =
+    ltb (t .spot) (locsIn w)
+    && cond (eqb (t .kind) 1) (ltb (t .a) (defsIn w)) (cond (eqb (t .kind) 2) (ltb (t .a) (locsIn w)) (ltb (t .a) (chansIn w) && ltb (t .b) (locsIn w)))
 
 -- what a value's word stands for, with the slots' values
 unfoldable pub valueIn : List ℕ → ℕ → ℕ

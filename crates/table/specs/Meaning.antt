@@ -1,7 +1,8 @@
 -- What a table stands for: a network in letters, values put in. Document 01, *The term and the network*.
-use Prim.Native.Nat.{ℕ, zero, suc, _+_, _-_, _*_}
+use Prim.Native.Nat.{ℕ, zero, suc, _+_, _-_, _*_, _≤_}
 use mathlib.Core.List.{List, [], _∷_, map}
 use mathlib.Core.Bool.{cond}
+use mathlib.Core.Path.{_≡_}
 use lib.Dec.{ltb}
 use lib.ListN.{getD, take}
 use Rattle.terms.specs.Names.{Name}
@@ -111,6 +112,10 @@ abbrev pub wordsIn : Comp → List ℕ
 wordsIn x =
     x .loc ∷ x .mark ∷ x .place ∷ x .timer ∷ word (x .vals) 0 ∷ word (x .vals) 1 ∷ word (x .vals) 2 ∷ word (x .vals) 3 ∷ word (x .vals) 4 ∷ word (x .vals) 5
     ∷ word (x .vals) 6 ∷ word (x .vals) 7 ∷ []
+
+-- past the first k components every word of b is that of a
+pub record PastKept (k : ℕ) (a b : List ℕ) : Type 0 where
+  pub words : (o : ℕ) → k * 12 ≤ o → word b o ≡ word a o
 
 -- the components in use
 unfoldable pub compsOf : State → List Comp

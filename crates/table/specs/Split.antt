@@ -1,4 +1,5 @@
 -- What a tick makes of the components that it splits, ticks or lets pass, on the table. Document 01, *The tick at l*; Meaning says what these stand for.
+-- Serves inner contracts only.
 use Prim.Native.Nat.{ℕ, zero, suc}
 use mathlib.Core.List.{List, [], _∷_}
 use mathlib.Core.Bool.{cond}

@@ -1,19 +1,22 @@
 -- What the contracts of internal functions cite: a name by its four words, names at equal distances, and the parts of a part's test.
+-- Serves inner contracts only.
 use Prim.Native.Nat.{ℕ, suc, _+_, _*_, _%_, _≤_, _<_}
 use mathlib.Core.List.{List, [], _∷_}
 use mathlib.Core.Bool.{Bool, _&&_}
 use mathlib.Core.Path.{_≡_}
+use Rattle.terms.specs.Same.{every}
 use lib.Bits.{bitXor}
 use lib.Dec.{eqb, leb, ltb}
 use lib.ListN.{getD}
 use Rattle.terms.specs.Names.{Name}
+use Rattle.terms.specs.Letters.{isSmall}
 use Rattle.terms.specs.Characters.{Class, isCapital, isLower, isLetter}
 use Rattle.table.specs.declared.Head.{Head}
 use Rattle.table.specs.declared.Key.{Key}
 use Rattle.table.specs.declared.Sort.{Sort}
 use Rattle.table.specs.declared.Sort.the-variants.{Location, Small, Identifier}
-use Rattle.table.specs.Words.{partsIn, locsIn, chansIn, defsIn, letters, nameAt, field, nextAt, lowAt, scopeAt}
-use Rattle.table.specs.Valid.{timerOk, innerOk, headOk, nextOk, stacked, floor, lowOk}
+use Rattle.table.specs.Words.{partsIn, locsIn, chansIn, defsIn, letters, nameAt, arityOf, field, headAt, nextAt, lowAt, scopeAt, namesAt}
+use Rattle.table.specs.Valid.{index, sortOk, timerOk, innerOk, headOk, nextOk, stacked, floor, lowOk, treeOk}
 
 -- ── names ──
 -- the name of four words
@@ -55,10 +58,31 @@ pub record Scoped (w : List ℕ) (i n : ℕ) : Type 0 where
   pub count : n ≡ field w i 8
   pub small : n ≤ 8
 
+-- a call of a held definition with its number of arguments, all of which are locations
+pub record PlainCall (w : List ℕ) (i : ℕ) : Type 0 where
+  pub held : field w i 1 < defsIn w
+  pub count : field w i 3 ≡ arityOf w (field w i 1)
+  pub located : (k : ℕ) → k < field w i 3 → k < 4 → field w i (17 + k) < locsIn w
+
 -- the eight words that may name what is in scope
 unfoldable pub slots : List ℕ → ℕ → List ℕ
 slots w i =
     field w i 9 ∷ field w i 10 ∷ field w i 11 ∷ field w i 12 ∷ field w i 13 ∷ field w i 14 ∷ field w i 15 ∷ field w i 16 ∷ []
+
+-- the name at the slot k of the scope has the form of a variable, and no slot before it has that name
+unfoldable pub slotNamed : List ℕ → ℕ → ℕ → Bool
+slotNamed w i k = isSmall (nameAt w (field w i (9 + k))) && eqb (index (namesAt w i) (nameAt w (field w i (9 + k)))) k
+
+-- the names in scope at i
+unfoldable pub scopeNamed : List ℕ → ℕ → Bool
+scopeNamed w i = sortOk isSmall (namesAt w i)
+
+-- the tests of a part but for the names in its scope
+unfoldable pub slotsOk : List ℕ → ℕ → Bool
+slotsOk w i = leb (field w i 8) 8 && every (λ o. ltb o 99_589) (scopeAt w i)
+
+unfoldable pub rowOk : List ℕ → ℕ → Bool
+rowOk w i = leb (field w i 0) 4 && (slotsOk w i && (headOk w i (headAt w i) && (nextOk w i (nextAt w i) && treeOk w i)))
 
 -- the tests of a part of head h, but for its kind and scope
 unfoldable pub restOk : List ℕ → ℕ → Head → Bool

@@ -31,6 +31,10 @@ unfoldable pub index : List Name → Name → ℕ
 index [] x = 0
 index (y ∷ ys) x = cond (sameName y x) 0 (suc (index ys x))
 
+-- ── names: each of its sort's form and held once in its sort. (A variable's name stands only where it is bound.) ──
+unfoldable pub sortOk : (Name → Bool) → List Name → Bool
+sortOk form xs = every form xs && distinct xs
+
 -- ── parts ──
 -- 0 to 1,000,000, or 1,000,001 for inf
 unfoldable pub timerOk : ℕ → Bool
@@ -67,9 +71,9 @@ unfoldable pub nextOk : List ℕ → ℕ → ℕ → Bool
 nextOk w i zero = true
 nextOk w i (suc j) = innerOk w i j (scopeAt w i)
 
--- at most 8 variables in scope, with names that stand in the script
+-- at most 8 variables in scope, with names that stand in the script, each of the form of a variable, all different
 unfoldable pub scopeOk : List ℕ → ℕ → Bool
-scopeOk w i = leb (field w i 8) 8 && every (λ o. ltb o 99_589) (scopeAt w i)
+scopeOk w i = leb (field w i 8) 8 && (every (λ o. ltb o 99_589) (scopeAt w i) && sortOk isSmall (namesAt w i))
 
 -- The range of a place: P lies directly below its part, Q directly below P's last part, the next part directly below these, and `low` is the least
 -- place of them all. So nothing is shared, and no term is larger than its table.
@@ -103,10 +107,6 @@ unfoldable pub defOk : List ℕ → ℕ → Bool
 defOk w d =
     leb (arityOf w d) 4 && (ltb (bodyOf w d) (partsIn w)
     && (alike (scopeAt w (bodyOf w d)) (paramsAt w d) && (every isSmall (paramsOf w d) && distinct (paramsOf w d))))
-
--- ── names: each of its sort's form and held once in its sort. (A variable's name stands only where it is bound.) ──
-unfoldable pub sortOk : (Name → Bool) → List Name → Bool
-sortOk form xs = every form xs && distinct xs
 
 unfoldable pub scriptOk : List ℕ → Bool
 scriptOk w =

@@ -1,6 +1,7 @@
 -- The words of a script. A script has 99,592 words, written once by reading and then only lent; no content is without a meaning.
 --
---   0 .. 7         how many parts, locations, channels and definitions it holds; four words not used
+--   0 .. 7         how many parts, locations, channels and definitions it holds; a word in which reading notes that a name or a variable did not fit, 0 in
+--                  what it accepts, and which nothing else looks at; three words not used
 --   8 .. 775       32 definitions of 24 words: number of parameters, place of the body, identifier (4), four parameters (4 each), two not used
 --   776 .. 1031    64 locations' names of 4 words
 --   1032 .. 1287   64 channels' names of 4 words

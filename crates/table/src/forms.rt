@@ -1,5 +1,6 @@
 // The form of a name, told by its words: most names are one word, of which the highest bytes are zero.
 ghost use mathlib.Core.Path.{_≡_};
+ghost use mathlib.Core.Bool.{true};
 ghost use mathlib.Core.List.{[]};
 ghost use Prim.Native.Nat.{_%_};
 ghost use Rattle.terms.specs.Same.{every};
@@ -45,8 +46,9 @@ fn full_word(x: u32) -> bool
     solid_word(x)
 }
 
-// Letters and digits? Every word before the last that is not zero is full.
+// Letters and digits, where the first is one? Every word before the last that is not zero is full.
 fn solid_key(k: Key) -> bool
+    requires { ⌜ isAlnum (k .a % 256) ≡ true ⌝ }
     ensures { λ r. ⌜ r ≡ every isAlnum (keyName k) ⌝ }
 {
     if k.d != 0 {
@@ -76,7 +78,7 @@ fn solid_key(k: Key) -> bool
         }
         return solid_word(k.b);
     }
-    solid_word(k.a)
+    solid_word(k.a / 256)
 }
 
 // stop, go, in, out, inf, S

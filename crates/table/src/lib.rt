@@ -12,6 +12,30 @@
 //   words           reading a script's words, names, heads
 //   forms           the form of a name of each sort
 //   valid           question 17, answered
+//
+//   proofs/Tests        what the tests of question 17 give
+//   proofs/Places       the process at a place is its part and the process at its next
+//   proofs/Scopes       setting a slot is substitution, shadowing included
+//   proofs/Fires        an action on the table is the rules' action on what it stands for
+//   proofs/Splits       what a tick makes of a component, likewise
+//   proofs/Ticks        when a tick is allowed, and what it leaves, likewise
+//   proofs/Kept         actions and ticks keep what question 17 asks
+//   proofs/Tags         the label of an action in numbers: in range, and those of its names
+//   proofs/Size         no term is larger than its table
+//   proofs/InUse        the components in use, by position
+//   proofs/Stores       words after a run of stores
+//   proofs/Names        a name's letters determine its words
+//   proofs/NamesForm    the form of a name by its words
+//   proofs/NamesRows    names at equal distances
+//   proofs/WordsHead    the head of a part by its kind
+//   proofs/ValidBool    tests and conjunctions
+//   proofs/ValidLists   what a loop over a list has shown
+//   proofs/ValidScopes  scopes as the words of a part have them
+//   proofs/ValidParts   the tests of a part by its kind
+//   proofs/ValidLeaves  a part with no scope and nothing after it
+//   proofs/ValidRoots   the names in scopes, from the first row of a process to all of them
+//   proofs/ValidDefs    the parameters of a definition
+//   proofs/ValidWhole   the tests of a script and of a state
 pub mod comps;
 mod forms;
 pub mod valid;

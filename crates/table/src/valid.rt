@@ -1,16 +1,16 @@
 // Question 17, answered: is a table valid? Every function answers for one definition; the counts are checked first, so that every index is in range.
 ghost use mathlib.Core.Path.{_≡_};
-ghost use mathlib.Core.Bool.{false, _&&_, _||_};
+ghost use mathlib.Core.Bool.{true, false, _&&_, _||_};
 ghost use mathlib.Core.List.{[], _∷_};
 ghost use Prim.Native.Nat.{ℕ, _+_, _*_, _<_, _≤_};
 ghost use lib.Dec.{eqb, ltb};
 ghost use lib.ListN.{take, drop};
 ghost use Rattle.terms.specs.Same.{every};
 ghost use Rattle.terms.specs.Letters.{member, isName, distinct};
-ghost use Rattle.table.specs.Words.{partsIn, defsIn, field, scopeAt, nameAt, namesAt, paramsAt, arityOf, atMost8};
+ghost use Rattle.table.specs.Words.{partsIn, locsIn, defsIn, field, scopeAt, nameAt, namesAt, paramsAt, arityOf, atMost8};
 ghost use Rattle.table.specs.Meaning.{listFrom};
 ghost use Rattle.table.specs.Valid.{alike, index, below, timerOk, slotOk, refOk, innerOk, entered, partOk, defOk, scriptOk, compOk, stateOk, valid};
-ghost use Rattle.table.specs.Tests.{keyName, firstOf, rowName, Mixed, Noted, Scoped, slots, restOk, endOk, sendOk, countsOk};
+ghost use Rattle.table.specs.Tests.{keyName, firstOf, rowName, Mixed, Noted, Scoped, PlainCall, slots, slotNamed, scopeNamed, rowOk, restOk, endOk, sendOk, countsOk};
 ghost use Rattle.table.specs.declared.Head.the-variants.{Go, Out, In, Call};
 use super::Comp;
 use super::Key;
@@ -36,21 +36,6 @@ fn at_most_8(x: u32) -> usize
         return wide(x);
     }
     8
-}
-
-// Do the names of the scope stand in the script?
-fn slots_in(w: &[u32; 99592], i: usize, n: usize) -> bool
-    requires { ⌜ Scoped (now w) i n ⌝ }
-    ensures { λ r. ⌜ r ≡ every (λ o. ltb o 99589) (scopeAt (now (w .entry)) i) ⌝ }
-{
-    let mut k = 0;
-    while k < n {
-        if 99589 <= field(w, i, 9 + k) {
-            return false;
-        }
-        k += 1;
-    }
-    true
 }
 
 // Are the first n words of the scopes of p and i the same?
@@ -81,6 +66,48 @@ fn find_slot(w: &[u32; 99592], i: usize, n: usize, x: Key) -> usize
         k += 1;
     }
     n
+}
+
+// Has the name at a slot the form of a variable, and is it the first of its name?
+fn slot_named(w: &[u32; 99592], i: usize, n: usize, k: usize) -> bool
+    requires { ⌜ Scoped (now w) i n × (k < n) ⌝ }
+    ensures { λ r. ⌜ r ≡ slotNamed (now (w .entry)) i k ⌝ }
+{
+    let x = key_at(w, wide(field(w, i, 9 + k)));
+    if !is_name(Sort::Small, x) {
+        return false;
+    }
+    find_slot(w, i, n, x) == k
+}
+
+// Have the names of the scope their form, and do they differ?
+fn scope_named(w: &[u32; 99592], i: usize, n: usize) -> bool
+    requires { ⌜ Scoped (now w) i n ⌝ }
+    ensures { λ r. ⌜ r ≡ scopeNamed (now (w .entry)) i ⌝ }
+{
+    let mut k = 0;
+    while k < n {
+        if !slot_named(w, i, n, k) {
+            return false;
+        }
+        k += 1;
+    }
+    true
+}
+
+// Do the names of the scope stand in the script?
+fn slots_in(w: &[u32; 99592], i: usize, n: usize) -> bool
+    requires { ⌜ Scoped (now w) i n ⌝ }
+    ensures { λ r. ⌜ r ≡ every (λ o. ltb o 99589) (scopeAt (now (w .entry)) i) ⌝ }
+{
+    let mut k = 0;
+    while k < n {
+        if 99589 <= field(w, i, 9 + k) {
+            return false;
+        }
+        k += 1;
+    }
+    true
 }
 
 fn slot_ok(w: &[u32; 99592], i: usize, n: usize, k: usize) -> bool
@@ -288,7 +315,7 @@ fn call_ok(w: &[u32; 99592], i: usize, n: usize) -> bool
 
 fn part_ok(w: &[u32; 99592], i: usize) -> bool
     requires { ⌜ (i < 4096) × (defsIn (now w) ≤ 32) ⌝ }
-    ensures { λ r. ⌜ r ≡ partOk (now (w .entry)) i ⌝ }
+    ensures { λ r. ⌜ r ≡ rowOk (now (w .entry)) i ⌝ }
 {
     let n = wide(field(w, i, 8));
     if 8 < n {
@@ -308,19 +335,122 @@ fn part_ok(w: &[u32; 99592], i: usize) -> bool
     }
 }
 
-fn parts_ok(w: &[u32; 99592]) -> bool
-    requires { ⌜ (partsIn (now w) ≤ 4096) × (defsIn (now w) ≤ 32) ⌝ }
-    ensures { λ r. ⌜ r ≡ below (partsIn (now (w .entry))) (partOk (now (w .entry))) ⌝ }
+// Are the first m arguments locations?
+fn plain_args(w: &[u32; 99592], i: usize, m: u32) -> bool
+    requires { ⌜ i < 4096 ⌝ }
+    ensures { λ r. ⌜ (r ≡ true → (k : ℕ) → k < m → k < 4 → field (now (w .entry)) i (17 + k) < locsIn (now (w .entry))) ⌝ }
+{
+    let l = word(w, 1);
+    let e = wide(m);
+    let mut k = 0;
+    while k < 4 {
+        if e <= k {
+            return true;
+        }
+        if l <= field(w, i, 17 + k) {
+            return false;
+        }
+        k += 1;
+    }
+    true
+}
+
+// A held definition with its number of arguments, all of which are locations?
+fn plain_call(w: &[u32; 99592], i: usize) -> bool
+    requires { ⌜ (i < 4096) × (defsIn (now w) ≤ 32) ⌝ }
+    ensures { λ r. ⌜ (r ≡ true → PlainCall (now (w .entry)) i) ⌝ }
+{
+    let d = field(w, i, 1);
+    if word(w, 3) <= d {
+        return false;
+    }
+    let m = field(w, i, 3);
+    if m != arity_of(w, wide(d)) {
+        return false;
+    }
+    plain_args(w, i, m)
+}
+
+// Is it stop or such a call, with no variable in scope and nothing after it? Most parts are, and pass by few tests; any other has to pass `part_ok`.
+fn leaf_ok(w: &[u32; 99592], i: usize) -> bool
+    requires { ⌜ (i < 4096) × (defsIn (now w) ≤ 32) × (locsIn (now w) ≤ 64) ⌝ }
+    ensures { λ r. ⌜ (r ≡ true → rowOk (now (w .entry)) i ≡ true) ⌝ }
+{
+    if wide(low_at(w, i)) != i {
+        return false;
+    }
+    if field(w, i, 8) != 0 {
+        return false;
+    }
+    if next_at(w, i) != 0 {
+        return false;
+    }
+    let k = field(w, i, 0);
+    if k == 0 {
+        return true;
+    }
+    if k != 4 {
+        return false;
+    }
+    plain_call(w, i)
+}
+
+// The first part from i on that is no such one, or n.
+fn after_leaves(w: &[u32; 99592], i: usize, n: usize) -> usize
+    requires { ⌜ (i ≤ n) × (n ≤ 4096) × (defsIn (now w) ≤ 32) × (locsIn (now w) ≤ 64) ⌝ }
+    ensures { λ r. ⌜ (i ≤ r) × (r ≤ n) × ((k : ℕ) → k < r → i ≤ k → rowOk (now (w .entry)) k ≡ true) ⌝ }
+{
+    let mut j = i;
+    while j < n {
+        if !leaf_ok(w, j) {
+            return j;
+        }
+        j += 1;
+    }
+    j
+}
+
+// Every part, but for the names in its scope.
+fn rows_ok(w: &[u32; 99592]) -> bool
+    requires { ⌜ (partsIn (now w) ≤ 4096) × (defsIn (now w) ≤ 32) × (locsIn (now w) ≤ 64) ⌝ }
+    ensures { λ r. ⌜ r ≡ below (partsIn (now (w .entry))) (rowOk (now (w .entry))) ⌝ }
 {
     let n = wide(word(w, 0));
-    let mut i = 0;
+    let mut i = after_leaves(w, 0, n);
     while i < n {
         if !part_ok(w, i) {
             return false;
         }
-        i += 1;
+        i = after_leaves(w, i + 1, n);
     }
     true
+}
+
+// The names in the scopes of all parts. An inner process has the scope of its part, or one name more, which was tested with the part; so only the
+// first part of each process that is in no other is looked at, from the highest place down.
+fn scopes_named(w: &[u32; 99592]) -> bool
+    requires { ⌜ (partsIn (now w) ≤ 4096) × (below (partsIn (now w)) (rowOk (now w)) ≡ true) ⌝ }
+    ensures { λ r. ⌜ r ≡ below (partsIn (now (w .entry))) (scopeNamed (now (w .entry))) ⌝ }
+{
+    let mut i = wide(word(w, 0));
+    while 0 < i {
+        let r = i - 1;
+        if !scope_named(w, r, wide(field(w, r, 8))) {
+            return false;
+        }
+        i = wide(low_at(w, r));
+    }
+    true
+}
+
+fn parts_ok(w: &[u32; 99592]) -> bool
+    requires { ⌜ (partsIn (now w) ≤ 4096) × (defsIn (now w) ≤ 32) × (locsIn (now w) ≤ 64) ⌝ }
+    ensures { λ r. ⌜ r ≡ below (partsIn (now (w .entry))) (partOk (now (w .entry))) ⌝ }
+{
+    if !rows_ok(w) {
+        return false;
+    }
+    scopes_named(w)
 }
 
 // ── names ──

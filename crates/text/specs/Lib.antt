@@ -5,3 +5,4 @@ pub mod Write
 pub mod Questions
 pub mod WellFormed
 pub mod Examples
+pub mod LimitExamples

@@ -20,7 +20,7 @@ use Rattle.text_build.proofs.RowWords.{Eight}
 use Rattle.text_build.proofs.Entering.{Settled}
 use Rattle.text_build.proofs.Puts.{Puts, puts}
 use Rattle.text_build.proofs.Stands.{process-means}
-use Rattle.text_build.proofs.Passes.{InScript, pass}
+use Rattle.text_build.proofs.Passes.{GoodScope, pass}
 
 module _ (p : Process) (i d : ℕ) (sc : Scope) (w : List ℕ) (m : Making w) (e : Eight sc) (s : Settled i (offsets sc)) (f : WellProcess p) (n : sizeP p ≤ suc i) (h : i < 4_096)
     (z : word (put p i sc w) 4 ≡ 0) (k : Fit (placeKnown (put p i sc w)) p d (scopeNames (put p i sc w) (offsets sc))) where
@@ -30,5 +30,5 @@ module _ (p : Process) (i d : ℕ) (sc : Scope) (w : List ℕ) (m : Making w) (e
   pub built-means : processAt (put p i sc w) i ≡ p
   built-means = process-means (put p i sc w) (done .grew .making .locs) p i d (offsets sc) (done .stands) n k
 
-  pub built-passes : InScript (offsets sc) → (j : ℕ) → suc i ≤ j + sizeP p → j ≤ i → partOk (put p i sc w) j ≡ true
+  pub built-passes : GoodScope (put p i sc w) (offsets sc) → (j : ℕ) → suc i ≤ j + sizeP p → j ≤ i → partOk (put p i sc w) j ≡ true
   built-passes o j a b = pass (put p i sc w) (done .grew .making .locs) p i d (offsets sc) (done .stands) n h k o j a b

@@ -2,6 +2,7 @@ pub mod Letters
 pub mod Numbers
 pub mod Places
 pub mod Stands
+pub mod Into
 pub mod Passes
 pub mod Kept
 pub mod Writes

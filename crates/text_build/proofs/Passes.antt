@@ -9,21 +9,23 @@ use lib.Dec.{eqb, ltb}
 use lib.ListN.{length}
 use borrow.Author.Tests.{leb-true, ltb-true, ltb-false, lt-ltb, eq-eqb}
 use Rattle.terms.specs.Names.{Name}
-use Rattle.terms.specs.Terms.{Part, Process}
+use Rattle.terms.specs.Letters.{isSmall, distinct}
+use Rattle.terms.specs.Terms.{Timer, Part, Process}
 use Rattle.terms.specs.Terms.Part.{stop, go, out, inp, call}
 use Rattle.terms.specs.Terms.Process.{one, _∥_}
 use Rattle.terms.specs.Same.{every}
 use Rattle.terms.proofs.Names.{and-inv, and-in}
 use Rattle.text.specs.Questions.{processPlaces}
 use Rattle.table.specs.declared.Head.{Head}
-use Rattle.table.specs.Words.{locsIn, defsIn, arityOf, lowAt, ownAt, scopeAt, namesAt}
-use Rattle.table.specs.Valid.{alike, index, innerOk, entered, headOk, nextOk, scopeOk, stacked, floor, lowOk, treeOk, partOk}
+use Rattle.table.specs.Words.{locsIn, defsIn, arityOf, lowAt, ownAt, boundAt, scopeAt, namesAt}
+use Rattle.table.specs.Valid.{alike, index, sortOk, innerOk, entered, headOk, nextOk, scopeOk, stacked, floor, lowOk, treeOk, partOk}
 use Rattle.table.proofs.Tests.{every-append}
 use Rattle.table.specs.Size.{size, sizeP}
-use Rattle.text_build.specs.Rows.{Row, Below, Stands, idsOf, scopeNames, headOf, firstPlace, secondPlace, entering, chanKnown, callKnown, partKnown, placeKnown}
+use Rattle.text_build.specs.Rows.{Row, Below, Stands, idsOf, scopeNames, headOf, firstPlace, secondPlace, entering, timed, chanKnown, callKnown, partKnown, placeKnown}
 use Rattle.text_build.proofs.Numbers.{timer-ok, value-ok, args-ok, args-in, names-entered}
 use Rattle.text_build.proofs.Places.{PartFit, Fit, size-some, sizeP-some, fit-go, fit-out, fit-in, fit-par}
 use Rattle.text_build.proofs.Stands.{known-first}
+use Rattle.text_build.proofs.Into.{into-differ, into-every}
 
 alike-same : (xs : List ℕ) → alike xs xs ≡ true
 unfolding alike
@@ -33,6 +35,15 @@ alike-same (x ∷ xs) = and-in _ _ (eq-eqb x x refl) (alike-same xs)
 -- words where a name may stand
 abbrev pub InScript : List ℕ → Type 0
 InScript os = every (λ o. ltb o 99_589) os ≡ true
+
+-- a scope that passes question 17: its names stand in the script, have the form of a variable, and differ
+pub record GoodScope (w os : List ℕ) : Type 0 where
+  pub inside : InScript os
+  pub names : sortOk isSmall (scopeNames w os) ≡ true
+
+pub no-scope : (w : List ℕ) → GoodScope w []
+unfolding sortOk every distinct
+no-scope w = record { inside = refl; names = refl }
 
 module _ (w : List ℕ) where
   -- ── the first row of a process ──
@@ -57,6 +68,19 @@ module _ (w : List ℕ) where
       go : (b : Bool) → InScript (cond b os (os ++ (ownAt i ∷ [])))
       go true = e
       go false = every-append (λ o. ltb o 99_589) os _ e (and-in _ _ (lt-ltb (1_305 + i * 24) 99_589 (omega arith)) refl)
+
+  entered-good : (i : ℕ) (os : List ℕ) (y : Name) → i < 4_096 → boundAt w i ≡ y → isSmall y ≡ true → GoodScope w os → GoodScope w (entering w i os y)
+  unfolding sortOk
+  entered-good i os y h b f g =
+      let r = and-inv (every isSmall (scopeNames w os)) _ (g .names) in
+      record { inside = in-script i os y h (g .inside); names = rw (names-entered w i os y b) (and-in _ _ (into-every isSmall (scopeNames w os) y (r .0) f) (into-differ (scopeNames w os) y (r .1))) }
+
+  -- the name that an input binds
+  bound-small : (c : Name) (t : Timer) (y : Name) (p q : Process) (d : ℕ) (ys : List Name) → PartFit (placeKnown w) (inp c t y p q) d ys → isSmall y ≡ true
+  unfolding partKnown chanKnown
+  bound-small c t y p q d ys e =
+      let k = and-inv (chanKnown w c) _ (known-first w (inp c t y p q) d ys e) in
+      and-inv (timed t) _ (k .1) .1
 
   module _ (few : locsIn w ≤ 64) where
     -- ── a row's head ──
@@ -126,17 +150,17 @@ module _ (w : List ℕ) where
 
     -- ── one row ──
     -- what is left of a part's test once its head, its scope and its place are known
-    row-ok : (i n l : ℕ) (h : Head) (os : List ℕ) → Row w i h n l os → InScript os → headOk w i h ≡ true → nextOk w i n ≡ true
+    row-ok : (i n l : ℕ) (h : Head) (os : List ℕ) → Row w i h n l os → GoodScope w os → headOk w i h ≡ true → nextOk w i n ≡ true
         → stacked w i h ≡ true
         → lowOk w l (floor w i h) n ≡ true
         → partOk w i ≡ true
     unfolding partOk scopeOk treeOk
     row-ok i n l h os r o a b c d =
-        rw (r .head, r .next, r .low, r .scope)
-        (and-in _ _ (r .kind) (and-in _ _ (and-in _ _ (r .few) o) (and-in _ _ a (and-in _ _ b (and-in _ _ c d)))))
+        rw (r .head, r .next, r .low, names-row i os (r .scope), r .scope)
+        (and-in _ _ (r .kind) (and-in _ _ (and-in _ _ (r .few) (and-in _ _ (o .inside) (o .names))) (and-in _ _ a (and-in _ _ b (and-in _ _ c d)))))
 
     -- the first row of a process
-    first-ok : (p : Process) (i d : ℕ) (os : List ℕ) → Stands w p i os → sizeP p ≤ suc i → Fit (placeKnown w) p d (scopeNames w os) → InScript os → partOk w i ≡ true
+    first-ok : (p : Process) (i d : ℕ) (os : List ℕ) → Stands w p i os → sizeP p ≤ suc i → Fit (placeKnown w) p d (scopeNames w os) → GoodScope w os → partOk w i ≡ true
     unfolding sizeP nextOk lowOk processPlaces
     first-ok (one a) i d os b s e o =
         row-ok i _ _ _ os (b .0) o (head-ok i os (b .0 .scope) a d (b .1) s e) refl (stacked-ok a i os (b .1) s)
@@ -161,14 +185,14 @@ module _ (w : List ℕ) where
         go true e = x (ltb-true j k e)
         go false e = y (ltb-false j k e)
 
-    at-first : (p : Process) (i d : ℕ) (os : List ℕ) → Stands w p i os → sizeP p ≤ suc i → Fit (placeKnown w) p d (scopeNames w os) → InScript os → (j : ℕ) → j ≡ i → partOk w j ≡ true
+    at-first : (p : Process) (i d : ℕ) (os : List ℕ) → Stands w p i os → sizeP p ≤ suc i → Fit (placeKnown w) p d (scopeNames w os) → GoodScope w os → (j : ℕ) → j ≡ i → partOk w j ≡ true
     at-first p i d os b s e o j q = rw q (first-ok p i d os b s e o)
 
     mutual
       unfolding size sizeP processPlaces
 
       -- the rows below the part at i
-      inner-pass : (a : Part) (i d : ℕ) (os : List ℕ) → Below w a i os → size a ≤ suc i → i < 4_096 → PartFit (placeKnown w) a d (scopeNames w os) → InScript os
+      inner-pass : (a : Part) (i d : ℕ) (os : List ℕ) → Below w a i os → size a ≤ suc i → i < 4_096 → PartFit (placeKnown w) a d (scopeNames w os) → GoodScope w os
           → (j : ℕ) → suc i ≤ j + size a → j < i → partOk w j ≡ true
       inner-pass stop i d os b s m e o j h g = absurd (omega arith)
       inner-pass (go t v p) i d os b s m e o j h g = pass p (firstPlace i) (suc d) os b (omega arith) (omega arith) (fit-go (placeKnown w) t v p d _ e) o j (omega arith) (omega arith)
@@ -183,11 +207,11 @@ module _ (w : List ℕ) where
           let k = fit-in (placeKnown w) c t y p q d _ e in
           side j (i - sizeP p)
           (λ l. pass q (secondPlace i p) (suc d) os (b .2) (omega arith) (omega arith) (k .1) o j (omega arith) (omega arith))
-          (λ l. pass p (firstPlace i) (suc d) (entering w i os y) (b .1) (omega arith) (omega arith) (rw (names-entered w i os y (b .0)) (k .0)) (in-script i os y m o) j (omega arith) (omega arith))
+          (λ l. pass p (firstPlace i) (suc d) (entering w i os y) (b .1) (omega arith) (omega arith) (rw (names-entered w i os y (b .0)) (k .0)) (entered-good i os y m (b .0) (bound-small c t y p q d _ e) o) j (omega arith) (omega arith))
       inner-pass (call n vs) i d os b s m e o j h g = absurd (omega arith)
 
       -- the rows of the process at i
-      pub pass : (p : Process) (i d : ℕ) (os : List ℕ) → Stands w p i os → sizeP p ≤ suc i → i < 4_096 → Fit (placeKnown w) p d (scopeNames w os) → InScript os
+      pub pass : (p : Process) (i d : ℕ) (os : List ℕ) → Stands w p i os → sizeP p ≤ suc i → i < 4_096 → Fit (placeKnown w) p d (scopeNames w os) → GoodScope w os
           → (j : ℕ) → suc i ≤ j + sizeP p → j ≤ i → partOk w j ≡ true
       pass (one a) i d os b s m e o j h g =
           side j i (λ l. inner-pass a i d os (b .1) s m e o j h l) (λ l. at-first (one a) i d os b s e o j (omega arith))

@@ -1,4 +1,5 @@
 -- What later writes of the second pass keep: rows already written, and the numbers that names already have.
+-- Serves inner contracts only.
 use Prim.Native.Nat.{ℕ, suc, _+_, _*_, _≤_, _<_}
 use mathlib.Core.List.{List}
 use mathlib.Core.Bool.{Bool, true, _&&_}

@@ -1,4 +1,5 @@
 -- A word of the text as a name: four words of four bytes, the first letter lowest, zeros after the last.
+-- Serves inner contracts only.
 use Prim.Native.Nat.{ℕ, _+_, _*_, _<_}
 use mathlib.Core.List.{List}
 use mathlib.Core.Path.{_≡_}

@@ -1,6 +1,7 @@
 -- The second pass of reading, on the words of a script: what it writes for a process at a place. proofs/Puts: the process stands there then.
 -- A part's row is written first, with its names entered into the tables; then its P, its Q and the next part; then what depends on how large these are:
 -- the place of Q, the next part, the least place.
+-- Serves inner contracts only.
 use Prim.Native.Nat.{ℕ, suc, _+_, _-_, _*_, min}
 use mathlib.Core.List.{List, [], _∷_, _++_}
 use mathlib.Core.Bool.{cond}

@@ -1,4 +1,5 @@
 -- Names that a script holds, looked up or added: document 01, *Reading* (numbered by first place) and question 4 (at most 64).
+-- Serves inner contracts only.
 use Prim.Native.Nat.{ℕ, _+_, _*_, min}
 use mathlib.Core.List.{List, [], _∷_}
 use mathlib.Core.Bool.{cond}

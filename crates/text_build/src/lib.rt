@@ -6,11 +6,11 @@
 // specs/Growth        what later writes keep
 // specs/Put           the second pass on the words of a script: what it writes for a process
 //
-// proofs/Forms        a name has a form in `text` exactly if it has it in question 17
 // proofs/Letters      the four words of a word are its letters
 // proofs/Numbers      the numbers of names stand for the names
 // proofs/Places       a test of every place of a process, taken apart
 // proofs/Stands       rows that stand for a process mean it
+// proofs/Into         names entered in order, each where it is not there yet
 // proofs/Passes       they pass the local tests of question 17
 // proofs/Kept         they go on standing while other rows and names are written
 // proofs/Finding      looking a name up, name by name

@@ -1,4 +1,5 @@
 -- What the answers of the code stand for, over a text s.
+-- Serves inner contracts only.
 use Prim.Native.Nat.{ℕ, _+_, min, max}
 use mathlib.Core.List.{List}
 use lib.ListN.{drop}

@@ -1,4 +1,5 @@
 -- The grammar's readers, giving the numbers of what they read.
+-- Serves inner contracts only.
 use Prim.Native.Nat.{ℕ, min}
 use mathlib.Core.Bool.{Bool}
 use mathlib.Core.List.{List}

@@ -1,4 +1,5 @@
 -- The numbers of a process that questions 3 and 4 limit, added up part by part.
+-- Serves inner contracts only.
 use Prim.Native.Nat.{ℕ, _+_, min, max}
 use Rattle.terms.specs.Terms.{Part, Process}
 use Rattle.terms.specs.Terms.Part.{stop, go, out, inp, call}

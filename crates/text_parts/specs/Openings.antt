@@ -1,4 +1,5 @@
 -- A part up to its first process, with the tree forgotten: what the code reads before the two readers call each other.
+-- Serves inner contracts only.
 use mathlib.Core.Bool.{Bool}
 use Rattle.terms.specs.Names.{Name}
 use Rattle.terms.specs.Letters.{isSmall, isIdentifier}

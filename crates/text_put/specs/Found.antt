@@ -1,4 +1,5 @@
 -- What the code finds at a position of a text s, where the tokens from there on are known.
+-- Serves inner contracts only.
 use Prim.Native.Nat.{ℕ, zero, suc, _+_, _≤_, min}
 use mathlib.Core.List.{List, _∷_}
 use mathlib.Core.Bool.{Bool, true, false, cond}

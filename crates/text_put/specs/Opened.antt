@@ -1,4 +1,5 @@
 -- A part up to its first process: what is written of it, and what is left to read; parts and processes put into their rows.
+-- Serves inner contracts only.
 use Prim.Native.Nat.{ℕ, suc, _-_}
 use mathlib.Core.List.{List, _∷_}
 use mathlib.Core.Bool.{false}

@@ -7,8 +7,8 @@ use mathlib.Core.List.{List, [], _∷_, map}
 use mathlib.Core.Path.{_≡_, refl, sym, ap, _∙_}
 use borrow.Author.Tests.{leb-true, eqb-true}
 use lib.Dec.{leb}
-use lib.ListN.{length, take, drop, set, replicate}
-use Rattle.terms.specs.Terms.{Def}
+use lib.ListN.{length, take, drop, set}
+use Rattle.terms.specs.Terms.{Def, Network}
 use Rattle.terms.specs.Terms.Def.{define}
 use Rattle.terms.specs.Rules.{Answer, _>>=_}
 use Rattle.terms.specs.Rules.Answer.{refused, accepted}
@@ -16,10 +16,11 @@ use Rattle.terms.specs.Same.{every}
 use Rattle.terms.proofs.Names.{and-inv}
 use Rattle.text.specs.Tokens.{lex}
 use Rattle.text.specs.Tree.{Located, Tree, networkOf}
+use Rattle.text.specs.Tree.Located.{at}
 use Rattle.text.specs.Grammar.{Rest, text}
 use Rattle.text.specs.Grammar.Rest.{ok, bad}
 use Rattle.text.specs.Write.{networkT}
-use Rattle.text.specs.WellFormed.{Each, NonEmpty, WellLocated}
+use Rattle.text.specs.WellFormed.{Each, NonEmpty, WellLocated, WellTree}
 use Rattle.text.specs.Questions.{ask, _>>_, places, short, whole, form, shallow, fits, definedOnce, callsMet, bound, read, nesting, definitionCount, parameterCount, partCount, componentCount, channels, locations, scopeSize}
 use Rattle.text.proofs.Exact.{form-tokens}
 use Rattle.text_scan.specs.declared.Scanned.{Scanned}
@@ -30,8 +31,10 @@ use Rattle.table.specs.Words.{word}
 use Rattle.table.specs.Size.{sizeP}
 use Rattle.table.specs.Meaning.{compsOf}
 use Rattle.text_build.specs.Rows.{placeKnown}
+use Rattle.text_build.proofs.Places.{sizeP-some}
 use Rattle.text_tree.specs.Pass.{Within, Blank, heads, afterBodies, brackets, spots, started, top, defined, behind, scriptOf, spotsOf}
 use Rattle.text_tree.specs.Asked.{roomy, apart, callsHeld, allBound, compOf}
+use Rattle.text_tree.proofs.Sizes.{sizeLocated, parts-are}
 use Rattle.text_tree.proofs.Whole.{Whole}
 use Rattle.text_tree.proofs.Heads.{heads-under, heads-stand}
 use Rattle.text_tree.proofs.Reading.{few-params, started-long, started-parts, started-defs, whole as stands}
@@ -42,16 +45,17 @@ use Rattle.text_tree.proofs.AskedCalls.{calls-is}
 use Rattle.text_tree.proofs.AskedBound.{bound-is}
 use Rattle.text_tree.proofs.AskedKnown.{known}
 use Rattle.text_read.specs.declared.Passed.{Passed}
+use Rattle.text_read.specs.declared.Entry.{Entry}
 use Rattle.text_read.specs.declared.Reading.{Reading}
 use Rattle.text_read.specs.Ready.{Ready, BodiesPut, bodiesBy, Filled, defined as definedBy}
 use Rattle.text_read.specs.Located.{NetworkAt, NetworkPut}
 use Rattle.text_read.specs.Spread.{Spread}
-use Rattle.text_read.specs.Answer.{StateIs, limits, asked, refusal, locationsIn, channelsIn, Took, readsAs}
+use Rattle.text_read.specs.Answer.{StateIs, limits, asked, refusal, locationsIn, channelsIn, Took, readsAs, Answered, Entered}
 use Rattle.text_read.proofs.Spreading.{spread-all}
 use Rattle.text_read.proofs.Quiet.{Quiet, quiet-then, bodies-quiet, brackets-quiet, bodies-same}
 use Rattle.text_read.specs.Front.{Front}
 use Rattle.text_read.proofs.Beyond.{Beyond, filled-beyond}
-use Rattle.text_read.proofs.Kept.{zeros-blank, front-blank}
+use Rattle.text_read.proofs.Kept.{front-blank}
 
 -- ── 1 to 4 by the scan ──
 -- the text has the form of a tree and keeps the limits that the scan knows
@@ -225,6 +229,12 @@ module _ {s : List ℕ} (x : Passing s) (base : List ℕ) (blank : Blank base (p
   abbrev S : List ℕ
   S = scriptOf base T
 
+  -- what an accepted text leaves: the words of the script w behind the last row, and zeros past the components
+  pub record Around (w : List ℕ) (st : State) : Type 0 where
+    pub size : length S ≡ 99_592
+    pub behind : (o : ℕ) → 1_288 + partCount T * 24 ≤ o → word S o ≡ word w o
+    pub past : (k : ℕ) → st .n * 12 ≤ k → word (st .c) k ≡ 0
+
   read-is : read s ≡ (ask 4 (fits T) >> (ask 5 (definedOnce (T .defs)) >> (ask 6 (callsMet T) >> (ask 7 (bound T) >> accepted (networkOf T)))))
   unfolding read
   read-is = rw (x .short-is, x .form-is, x .shallow-is)
@@ -267,13 +277,16 @@ module _ {s : List ℕ} (x : Passing s) (base : List ℕ) (blank : Blank base (p
           known-yes : every (placeKnown S) (places T) ≡ true
           known-yes = known T S W (x .ready .within .parameters) distinct-yes (x .ready .well) calls-yes bound-yes
 
-          took : (st : State) → st .n ≡ length (spotsOf base T) → compsOf st ≡ map (compOf S) (spotsOf base T) → Took s S (networkOf T) (record { code = 0; state = st })
-          took st n c = record {
-            code = refl;
-            network = network-is base T blank (x .ready .within) (x .ready .well) flag distinct-yes known-yes st n c;
-            good = valid-is base T blank (x .ready .within) (x .ready .well) flag distinct-yes known-yes st n c;
+          took : (q : Reading) → q .code ≡ 0 → q .state .n ≡ length (spotsOf base T) → compsOf (q .state) ≡ map (compOf S) (spotsOf base T) → (w : List ℕ) → Around w (q .state) → Took s w S (networkOf T) q
+          took q z n c w a = record {
+            code = z;
+            network = network-is base T blank (x .ready .within) (x .ready .well) flag distinct-yes known-yes (q .state) n c;
+            good = valid-is base T blank (x .ready .within) (x .ready .well) flag distinct-yes known-yes (q .state) n c;
             locs = W .locs ∙ sym (ap locationsIn (x .form-is));
             chans = W .chans ∙ sym (ap channelsIn (x .form-is));
+            size = a .size;
+            behind = λ o h. a .behind o (omega (arith, parts-kept base T blank));
+            past = a .past;
           }
 
   pub asked-no : (asked S ≡ 0 → ⊥) → read s ≡ refused (asked S)
@@ -286,26 +299,36 @@ module _ {s : List ℕ} (x : Passing s) (base : List ℕ) (blank : Blank base (p
       go₁ true true true false e f g h n = read-6 e f g ∙ rw h
       go₁ true true true true e f g h n = absurd (n refl)
 
-  pub asked-yes : asked S ≡ 0 → (st : State) → st .n ≡ length (spotsOf base T) → compsOf st ≡ map (compOf S) (spotsOf base T) → (w : List ℕ) → readsAs s (read s) w S (record { code = 0; state = st })
-  asked-yes z st n c w = go₁ (roomy S) (apart S) (callsHeld S) (allBound S) refl refl refl refl z
+  pub asked-yes : asked S ≡ 0 → (q : Reading) → q .code ≡ 0 → q .state .n ≡ length (spotsOf base T) → compsOf (q .state) ≡ map (compOf S) (spotsOf base T) → (u w : List ℕ) → Around w (q .state) → readsAs s (read s) u w S q
+  asked-yes z q y n c u w l = go₁ (roomy S) (apart S) (callsHeld S) (allBound S) refl refl refl refl z
     where
-      go₁ : (a b c d : Bool) → roomy S ≡ a → apart S ≡ b → callsHeld S ≡ c → allBound S ≡ d → _≡_ {A = ℕ} (cond a (cond b (cond c (cond d 0 7) 6) 5) 4) 0 → readsAs s (read s) w S (record { code = 0; state = st })
+      go₁ : (a b c d : Bool) → roomy S ≡ a → apart S ≡ b → callsHeld S ≡ c → allBound S ≡ d → _≡_ {A = ℕ} (cond a (cond b (cond c (cond d 0 7) 6) 5) 4) 0 → readsAs s (read s) u w S q
       go₁ false b c d e f g h z = absurd (omega arith)
       go₁ true false c d e f g h z = absurd (omega arith)
       go₁ true true false d e f g h z = absurd (omega arith)
       go₁ true true true false e f g h z = absurd (omega arith)
-      go₁ true true true true e f g h z = rw (read-7 e f g h) (took e f g h st n c)
+      go₁ true true true true e f g h z = rw (read-7 e f g h) (took e f g h q y n c w l)
 
 -- ── the code's ways to its answer ──
+-- a text has a part
+located-some : (ls : List Located) → NonEmpty ls → 1 ≤ sizeLocated ls
+unfolding sizeLocated
+located-some [] n = absurd n
+located-some (at l p ∷ ls) n = omega (arith, sizeP-some p)
+
+some-parts : (t : Tree) → WellTree t → 1 ≤ partCount t
+some-parts t f = omega (arith, parts-are t, located-some (t .located) (f .some-located))
+
 module _ (s : List ℕ) (c : Scanned) (e : c ≡ scanOf s) (q : ℕ) (l : q ≡ limits c) where
-  refused-is : (n : ℕ) (w : List ℕ) (r : Reading) → read s ≡ refused n → r ≡ refusal n → readsAs s (read s) w w r
-  refused-is n w r f g = rw f (g, refl)
+  refused-is : (n : ℕ) (u w v : List ℕ) (r : Reading) → read s ≡ refused n → r ≡ refusal n → v ≡ u → readsAs s (read s) u w v r
+  refused-is n u w v r f g k = rw f (g, k)
 
   limits-is : q ≡ limits (scanOf s)
   limits-is = l ∙ ap limits e
 
-  pub way-1 : (q ≡ 0 → ⊥) → (w : List ℕ) (r : Reading) → r ≡ refusal q → readsAs s (read s) w w r
-  way-1 n w r g = refused-is (limits (scanOf s)) w r (limited s (λ z. n (limits-is ∙ z))) (g ∙ ap refusal limits-is)
+  -- the scan's refusal
+  pub way-1 : (q ≡ 0 → ⊥) → (u w v : List ℕ) (r : Reading) → r ≡ refusal q → v ≡ u → readsAs s (read s) u w v r
+  way-1 n u w v r g k = refused-is (limits (scanOf s)) u w v r (limited s (λ z. n (limits-is ∙ z))) (g ∙ ap refusal limits-is) k
 
   module _ (z : q ≡ 0) where
     pub pass : Passing s
@@ -326,20 +349,23 @@ module _ (s : List ℕ) (c : Scanned) (e : c ≡ scanOf s) (q : ℕ) (l : q ≡ 
         (omega arith, omega arith, pass .ready)
 
     -- what lies behind the rows stays
-    pub beyond-now : {w₀ v : List ℕ} {out after : List (List ℕ)} {n : ℕ} → ((x : Ready s) → Filled w₀ v (c .parts) (c .definitions) out after n (x .tree)) → Beyond (c .parts - 1) w₀ v
+    beyond-now : {w₀ v : List ℕ} {out after : List (List ℕ)} {n : ℕ} → ((x : Ready s) → Filled w₀ v (c .parts) (c .definitions) out after n (x .tree)) → Beyond (c .parts - 1) w₀ v
     unfolding parameterCount definitionCount
     beyond-now {w₀} h =
         let t = pass .ready .tree in
         rw (h (pass .ready) .script) (filled-beyond t w₀ (c .parts) (c .definitions) (few-params (t .defs) (pass .ready .within .parameters)) (pass .ready .within .definitions))
 
-    -- a script of zeros, or with zeros in front
-    pub zeros-now : {w : List ℕ} → w ≡ replicate 99_592 0 → Blank w (partCount (pass .ready .tree))
-    zeros-now e = zeros-blank _ _ e (pass .ready .within .parts)
+    -- into a script w whose first m words are set to zero, as many as the rows need and no more
+    module _ {w w₀ : List ℕ} (size : length w ≡ 99_592) (m : ℕ) (enough : 1_288 + c .parts * 24 ≤ m) (zeros : Front m (λ o. 0) w w₀) {v : List ℕ} {out after : List (List ℕ)} {n : ℕ} (h : (x : Ready s) → Filled w₀ v (c .parts) (c .definitions) out after n (x .tree)) where
+      blank : Blank w₀ (partCount (pass .ready .tree))
+      blank = rw parts-now at (front-blank m (c .parts) w w₀ size enough zeros)
 
-    pub front-now : (m : ℕ) {w v : List ℕ} → length w ≡ 99_592 → m ≡ 1_312 + (c .parts - 1) * 24 → Front m (λ o. 0) w v → Blank v (partCount (pass .ready .tree))
-    front-now m e d p = let n = parts-now in front-blank m _ _ _ e (omega arith) p
+      rest-now : m ≤ 1_288 + c .parts * 24 → (o : ℕ) → 1_288 + c .parts * 24 ≤ o → word v o ≡ word w o
+      rest-now l o b = beyond-now h .same o (omega (arith, parts-now, some-parts (pass .ready .tree) (pass .ready .well))) ∙ zeros .rest o (omega arith)
 
-    module _ {w₀ v : List ℕ} (blank : Blank w₀ (partCount (pass .ready .tree))) {out after : List (List ℕ)} {n : ℕ} (h : (x : Ready s) → Filled w₀ v (c .parts) (c .definitions) out after n (x .tree)) where
+      long-now : length v ≡ length w
+      long-now = beyond-now h .size ∙ zeros .size
+
       now-script : v ≡ scriptOf w₀ (pass .ready .tree)
       now-script = script-is (pass .ready) blank parts-now defs-now (h (pass .ready))
 
@@ -355,14 +381,48 @@ module _ (s : List ℕ) (c : Scanned) (e : c ≡ scanOf s) (q : ℕ) (l : q ≡ 
         asked-is : a ≡ asked (scriptOf w₀ (pass .ready .tree))
         asked-is = f ∙ ap asked now-script
 
-        pub way-2 : (a ≡ 0 → ⊥) → (w : List ℕ) (r : Reading) → r ≡ refusal a → readsAs s (read s) w w r
-        way-2 m w r g = refused-is (asked (scriptOf w₀ (pass .ready .tree))) w r (asked-no pass w₀ blank (λ y. m (asked-is ∙ y))) (g ∙ ap refusal asked-is)
+        module _ (wide : length out ≡ 256) (fewest : m ≤ 1_288 + c .parts * 24) where
+          -- the script's refusal, or the network
+          pub entered : Entered s (c .parts) w v after (record { code = a; n = n })
+          entered = record {
+            answer = record {
+              few = places-few (pass .ready) blank parts-now defs-now (h (pass .ready)) wide;
+              no = λ x. asked-no pass w₀ blank (λ y. x (asked-is ∙ y)) ∙ ap refused (sym asked-is);
+              yes = λ y u q z k.
+                  let p = state-is (pass .ready) blank parts-now defs-now (h (pass .ready)) wide (q .state) k in
+                  let around : Around pass w₀ blank w (q .state) = record { size = rw now-script at (long-now ∙ size); behind = rw (parts-now, now-script) at (rest-now fewest); past = k .past } in
+                  rw now-script (asked-yes pass w₀ blank (sym asked-is ∙ y) q z (p .0) (p .1) u w around);
+            };
+            rest = rest-now fewest;
+            size = long-now;
+          }
 
-        module _ (wide : length out ≡ 256) where
-          pub may-make : n ≤ 256
-          may-make = places-few (pass .ready) blank parts-now defs-now (h (pass .ready)) wide
+-- ── after the questions ──
+pub answer-no : {s w v : List ℕ} {after : List (List ℕ)} {e : Entry} → Answered s w v after e → (e .code ≡ 0 → ⊥) → (u x : List ℕ) (r : Reading) → r ≡ refusal (e .code) → x ≡ u → readsAs s (read s) u w x r
+answer-no a m u x r g k = rw (a .no m) (g, k)
 
-          pub way-3 : a ≡ 0 → (w u : List ℕ) → u ≡ v → (st : State) → StateIs v (take n after) st → readsAs s (read s) w u (record { code = 0; state = st })
-          way-3 y w u g st k =
-              let p = state-is (pass .ready) blank parts-now defs-now (h (pass .ready)) wide st k in
-              rw (g ∙ now-script) (asked-yes pass w₀ blank (sym asked-is ∙ y) st (p .0) (p .1) w)
+-- after a refusal the script may be another
+pub answer-back : {s w v : List ℕ} {after : List (List ℕ)} {e : Entry} → Answered s w v after e → (e .code ≡ 0 → ⊥) → (x : List ℕ) → Answered s w x after e
+answer-back a m x = record { few = a .few; no = a .no; yes = λ z. absurd (m z) }
+
+-- questions have the numbers 1 to 7
+abbrev pub Among : Answer Network → Type 0
+Among (refused n) = (0 < n) × (n < 8)
+Among (accepted m) = Unit {0}
+
+pub among : (s : List ℕ) → Among (read s)
+unfolding read form
+among s = go (short s) (text (lex s))
+  where
+    tree : (t : Tree) (a b c d f : Bool) → Among (ask 3 a >> (ask 4 b >> (ask 5 c >> (ask 6 d >> (ask 7 f >> accepted (networkOf t))))))
+    tree t false b c d f = (omega arith, omega arith)
+    tree t true false c d f = (omega arith, omega arith)
+    tree t true true false d f = (omega arith, omega arith)
+    tree t true true true false f = (omega arith, omega arith)
+    tree t true true true true false = (omega arith, omega arith)
+    tree t true true true true true = tt
+
+    go : (y : Bool) (x : Rest Tree) → Among (ask 1 y >> (whole x >>= λ t. ask 3 (shallow t) >> (ask 4 (fits t) >> (ask 5 (definedOnce (t .defs)) >> (ask 6 (callsMet t) >> (ask 7 (bound t) >> accepted (networkOf t)))))))
+    go false x = (omega arith, omega arith)
+    go true bad = (omega arith, omega arith)
+    go true (ok t us) = tree t (shallow t) (fits t) (definedOnce (t .defs)) (callsMet t) (bound t)

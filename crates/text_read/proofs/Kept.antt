@@ -1,5 +1,5 @@
 -- The first words of a list written one after the other; a script of zeros in front; and a script put back as it was.
-use Prim.Native.Nat.{ℕ, _+_, _-_, _*_, _≤_, _<_}
+use Prim.Native.Nat.{ℕ, _+_, _*_, _≤_, _<_}
 use native.Mathlib.Omega.{arith}
 use mathlib.Core.Bool.{Bool, true, false}
 use mathlib.Core.List.{List}
@@ -12,7 +12,6 @@ use Rattle.table.specs.Words.{word}
 use Rattle.table.proofs.Stores.{set-out}
 use Rattle.text_tree.specs.Pass.{Blank}
 use Rattle.text_read.specs.Front.{Front}
-use Rattle.text_read.proofs.Beyond.{Beyond}
 
 -- ── one word more ──
 pub front-none : (f : ℕ → ℕ) (w : List ℕ) → Front 0 f w w
@@ -31,16 +30,16 @@ pub front-all : (i m : ℕ) (f : ℕ → ℕ) (w v : List ℕ) → i ≡ m → F
 front-all i m f w v e p = record { front = λ o h. p .front o (omega arith); rest = λ o h. p .rest o (omega arith); size = p .size }
 
 -- ── zeros ──
-pub zeros-blank : (w : List ℕ) (n : ℕ) → w ≡ replicate 99_592 0 → n ≤ 4_096 → Blank w n
-zeros-blank w n e b = record { long = ap length e ∙ length-replicate {A = ℕ} 99_592 0; none = λ o h. ap (λ x. word x o) e ∙ getD-replicate 99_592 o 0 0 (omega arith) }
-
 pub front-blank : (m n : ℕ) (w v : List ℕ) → length w ≡ 99_592 → 1_288 + n * 24 ≤ m → Front m (λ o. 0) w v → Blank v n
 front-blank m n w v e b p = record { long = p .size ∙ e; none = λ o h. p .front o (omega arith) }
 
+pub front-zeros : (w v : List ℕ) → length w ≡ 99_592 → Front 99_592 (λ o. 0) w v → v ≡ replicate 99_592 0
+front-zeros w v e p = ext-getD 0 v (replicate 99_592 0) (p .size ∙ e ∙ sym (length-replicate {A = ℕ} 99_592 0)) (λ o h. let b : o < 99_592 = omega (arith, p .size) in p .front o b ∙ sym (getD-replicate 99_592 o 0 0 b))
+
 -- ── put back ──
-pub back-again : (i m : ℕ) (w v u k₀ k x : List ℕ) → m ≡ 1_312 + i * 24 → Front m (word w) k₀ k → Front m (λ o. 0) w v → Beyond i v u → Front m (word k) u x → x ≡ w
-back-again i m w v u k₀ k x e a b c d = ext-getD 0 x w (d .size ∙ c .size ∙ b .size) (λ o h. go o (ltb o m) refl)
+pub back-again : (m : ℕ) (w v k₀ k x : List ℕ) → Front m (word w) k₀ k → ((o : ℕ) → m ≤ o → word v o ≡ word w o) → length v ≡ length w → Front m (word k) v x → x ≡ w
+back-again m w v k₀ k x a b c d = ext-getD 0 x w (d .size ∙ c) (λ o h. go o (ltb o m) refl)
   where
     go : (o : ℕ) (t : Bool) → ltb o m ≡ t → word x o ≡ word w o
     go o true q = let h = ltb-true o m q in d .front o h ∙ a .front o h
-    go o false q = let h = ltb-false o m q in d .rest o h ∙ c .same o (omega arith) ∙ b .rest o h
+    go o false q = let h = ltb-false o m q in d .rest o h ∙ b o h

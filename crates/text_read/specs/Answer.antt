@@ -1,10 +1,11 @@
--- What the call `read` answers: document 01, *Reading* and questions 1 to 7. A refusal leaves the lent script as it was; what is accepted passes question 17.
-use Prim.Native.Nat.{ℕ}
+-- What the call `read` answers: document 01, *Reading* and questions 1 to 7. A refusal leaves the lent script as it was; what is accepted passes question 17,
+-- and leaves the words behind the script's last row.
+use Prim.Native.Nat.{ℕ, _+_, _*_, _≤_}
 use mathlib.Core.List.{List, [], map}
 use mathlib.Core.Bool.{true, cond, _&&_}
 use mathlib.Core.Path.{_≡_}
 use lib.Dec.{leb}
-use lib.ListN.{length, replicate}
+use lib.ListN.{length, take, replicate}
 use Rattle.terms.specs.Names.{Name}
 use Rattle.terms.specs.Terms.{Network}
 use Rattle.terms.specs.Rules.{Answer}
@@ -13,17 +14,20 @@ use Rattle.text.specs.Tree.{Tree}
 use Rattle.text.specs.Questions.{form, channels, locations, read}
 use Rattle.text_scan.specs.declared.Scanned.{Scanned}
 use Rattle.table.specs.declared.State.{State}
+use Rattle.table.specs.Words.{word, partsIn}
 use Rattle.table.specs.Meaning.{compsOf, networkOf}
 use Rattle.table.specs.Valid.{valid}
 use Rattle.text_build.specs.Rows.{locsOf, chansOf}
 use Rattle.text_tree.specs.Asked.{roomy, apart, callsHeld, allBound, compOf}
+use Rattle.text_read.specs.declared.Entry.{Entry}
 use Rattle.text_read.specs.declared.Reading.{Reading}
 
 -- ── components ──
--- the components at the places xs, and no others
+-- the components at the places xs, and no others; the words past those in use are zero
 pub record StateIs (w : List ℕ) (xs : List (List ℕ)) (st : State) : Type 0 where
   pub count : st .n ≡ length xs
   pub comps : compsOf st ≡ map (compOf w) xs
+  pub past : (k : ℕ) → st .n * 12 ≤ k → word (st .c) k ≡ 0
 
 -- ── questions: 0, or the number of the first that is answered by no ──
 -- 1 to 3, and 4 as far as the scan knows it
@@ -51,19 +55,47 @@ abbrev pub channelsIn : Answer Tree → List Name
 channelsIn (refused n) = []
 channelsIn (accepted t) = channels t
 
--- an accepted text s: the script v and the components stand for the network m, pass question 17, and have the text's numbers
-pub record Took (s v : List ℕ) (m : Network) (r : Reading) : Type 0 where
+-- an accepted text s: the script v and the components stand for the network m, pass question 17, and have the text's numbers. The words of the script
+-- behind the row of the last part are those of the script w before the call, and the words of the state past the components are zero: only the places in
+-- use are free.
+pub record Took (s w v : List ℕ) (m : Network) (r : Reading) : Type 0 where
   pub code : r .code ≡ 0
   pub network : networkOf v (r .state) ≡ m
   pub good : valid v (r .state) ≡ true
   pub locs : locsOf v ≡ locationsIn (form s)
   pub chans : chansOf v ≡ channelsIn (form s)
+  pub size : length v ≡ 99_592
+  pub behind : (o : ℕ) → 1_288 + partsIn v * 24 ≤ o → word v o ≡ word w o
+  pub past : (k : ℕ) → r .state .n * 12 ≤ k → word (r .state .c) k ≡ 0
 
--- the code's answer r for the text s, and the lent script before and after, stand for the answer of the definition
-abbrev pub readsAs : List ℕ → Answer Network → List ℕ → List ℕ → Reading → Type 0
-readsAs s (refused n) w v r = (r ≡ refusal n) × (v ≡ w)
-readsAs s (accepted m) w v r = Took s v m r
+-- the code's answer r for the text s, and the lent script before and after, w and v, stand for the answer of the definition; a refusal leaves the script u
+abbrev pub readsAs : List ℕ → Answer Network → List ℕ → List ℕ → List ℕ → Reading → Type 0
+readsAs s (refused n) u w v r = (r ≡ refusal n) × (v ≡ u)
+readsAs s (accepted m) u w v r = Took s w v m r
 
--- document 01, *Reading*
+-- document 01, *Reading*: a refusal leaves the script as it was
 abbrev pub ReadsAs : List ℕ → List ℕ → List ℕ → Reading → Type 0
-ReadsAs s w v r = readsAs s (read s) w v r
+ReadsAs s w v r = readsAs s (read s) w w v r
+
+-- the same, where a refusal leaves zeros
+abbrev pub ReadsOver : List ℕ → List ℕ → List ℕ → Reading → Type 0
+ReadsOver s w v r = readsAs s (read s) (replicate 99_592 0) w v r
+
+-- ── inner contracts ──
+-- the text s was written into the script w, now v, and the places of its components into `after`: the number of the definition's refusal, or a script that
+-- with the components at these places stands for the network
+pub record Answered (s w v : List ℕ) (after : List (List ℕ)) (r : Entry) : Type 0 where
+  pub few : r .n ≤ 256
+  pub no : (r .code ≡ 0 → ⊥) → read s ≡ refused (r .code)
+  pub yes : r .code ≡ 0 → (u : List ℕ) (q : Reading) → q .code ≡ 0 → StateIs v (take (r .n) after) (q .state) → readsAs s (read s) u w v q
+
+-- behind the row of the last of n parts the script is as it was
+pub record Entered (s : List ℕ) (n : ℕ) (w v : List ℕ) (after : List (List ℕ)) (r : Entry) : Type 0 where
+  pub answer : Answered s w v after r
+  pub rest : (o : ℕ) → 1_288 + n * 24 ≤ o → word v o ≡ word w o
+  pub size : length v ≡ length w
+
+-- a refusal leaves all of it as it was
+pub record Tried (s w v : List ℕ) (after : List (List ℕ)) (r : Entry) : Type 0 where
+  pub answer : Answered s w v after r
+  pub back : (r .code ≡ 0 → ⊥) → v ≡ w

@@ -1,4 +1,5 @@
 -- The first words of a list are written, and the others stay: what the contracts of `front` cite.
+-- Serves inner contracts only.
 use Prim.Native.Nat.{ℕ, _≤_, _<_}
 use mathlib.Core.List.{List}
 use mathlib.Core.Path.{_≡_}

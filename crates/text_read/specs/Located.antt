@@ -1,4 +1,5 @@
 -- Located processes at a position of a text, and what is written of them.
+-- Serves inner contracts only.
 use Prim.Native.Nat.{ℕ, _-_}
 use mathlib.Core.List.{List, [], _∷_}
 use mathlib.Core.Path.{_≡_}

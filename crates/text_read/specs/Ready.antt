@@ -1,4 +1,5 @@
 -- A text that has the form (question 2) and keeps the limits that the scan knows, and what stands at a position of it.
+-- Serves inner contracts only.
 use Prim.Native.Nat.{ℕ, _+_, _-_, _≤_}
 use mathlib.Core.List.{List, [], _∷_}
 use mathlib.Core.Bool.{false}

@@ -1,4 +1,5 @@
 -- The places of components, gathered in an array: what goes in behind its end is dropped (question 4 says no before).
+-- Serves inner contracts only.
 use Prim.Native.Nat.{ℕ, _+_, min}
 use mathlib.Core.List.{List, [], _∷_}
 use mathlib.Core.Bool.{cond}

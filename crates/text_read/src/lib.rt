@@ -1,7 +1,9 @@
-// Layer 2, reading and writing: the call `read`. A text is scanned (questions 1 to 4), then written into a script in three passes, which is asked questions
-// 4 to 7; a text that is refused leaves the script that was lent as it was.
+// Layer 2, reading and writing: the call `read`. A text is scanned (questions 1 to 4), then written into the lent script in three passes, which is asked
+// questions 4 to 7. A text that is refused leaves the script as it was: the words that the passes write are kept aside before. An accepted one leaves the
+// words behind its last row as they were.
 //
 // specs/Ready    a text that has the form and keeps the limits that the scan knows
+// specs/Located  located processes at a position of a text
 // specs/Spread   the places of components, gathered in an array
 // specs/Front    the first words of a list, written
 // specs/Answer   what the call answers
@@ -9,22 +11,23 @@
 // definitions  heads and bodies of definitions
 // network      located processes, and where their components stand
 // state        the components of the network
-// front        the first words of a script, kept aside and put back
+// front        the first words of a script, kept aside, set to zero, put back
 //
 // proofs/Defs       definitions, one after the other
 // proofs/Spreading  places gathered in an array
 // proofs/Bracketed  located processes, one after the other
-// proofs/States     components made from their places
+// proofs/States     components made from their places, and zeros past them
 // proofs/Quiet      what the passes leave as it was below the rows
 // proofs/Beyond     and behind the last row
-// proofs/Kept       a script written and put back
+// proofs/Kept       a script set to zero, and one put back
 // proofs/Answering  the answer from the scan, the script and the questions asked of it
 ghost use mathlib.Core.Path.{_≡_};
-ghost use Prim.Native.Nat.{_≤_};
+ghost use Prim.Native.Nat.{_+_, _*_, _≤_};
+ghost use lib.ListN.{length};
 ghost use Rattle.table.specs.Words.{partsIn, defsIn};
 ghost use Rattle.text_scan.specs.Answers.{scanOf};
 ghost use Rattle.text_read.specs.Ready.{Ready, Filled};
-ghost use Rattle.text_read.specs.Answer.{limits, asked, refusal, ReadsAs};
+ghost use Rattle.text_read.specs.Answer.{limits, asked, refusal, Entered, Tried, ReadsAs, ReadsOver};
 use definitions::less;
 use definitions::put_bodies;
 use definitions::put_heads;
@@ -32,9 +35,10 @@ use front::clear;
 use front::keep;
 use front::put_back;
 use front::script_sized;
+use front::wipe;
 use network::put_network;
+use state::accept;
 use state::no_state;
-use state::state_of;
 
 mod definitions;
 mod front;
@@ -51,6 +55,12 @@ pub struct Passed {
 pub struct Spotted {
     pub end: usize,
     pub low: usize,
+    pub n: usize,
+}
+
+// A text written into a script: 0 or the number of the question answered by no, and how many components there are.
+pub struct Entry {
+    pub code: u32,
     pub n: usize,
 }
 
@@ -122,13 +132,6 @@ fn fill(s: &[u8], parts: usize, defs: usize, w: &mut [u32; 99592], out: &mut [[u
     put_network(s, b.end, w, b.place, out)
 }
 
-// The script v as the script w.
-fn copy(v: &[u32; 99592], w: &mut [u32; 99592])
-    ensures { λ r. ⌜ now (w .exit) ≡ now (v .entry) ⌝ }
-{
-    *w = *v;
-}
-
 // A refusal.
 fn refuse(n: u32) -> Reading
     ensures { λ r. ⌜ r ≡ refusal n ⌝ }
@@ -137,49 +140,84 @@ fn refuse(n: u32) -> Reading
     Reading { code: n, state: st }
 }
 
-// A text of few parts is written into the lent script itself, with the words in front kept aside: a refusal puts them back.
-fn read_few(text: &[u8], c: text_scan::Scanned, w: &mut [u32; 99592]) -> Reading
-    requires { ⌜ (c ≡ scanOf (now text)) × (limits c ≡ 0) × (c .parts ≤ 128) ⌝ }
-    ensures { λ r. ⌜ ReadsAs (now (text .entry)) (now (w .entry)) (now (w .exit)) r ⌝ }
+// A text that passes the scan, written into the lent script itself, which is then asked questions 4 to 7: a refusal leaves it written up to the row of its
+// last part.
+fn enter(text: &[u8], c: text_scan::Scanned, w: &mut [u32; 99592], out: &mut [[u32; 2]]) -> Entry
+    requires { ⌜ (c ≡ scanOf (now text)) × (limits c ≡ 0) × (length (now out) ≡ 256) ⌝ }
+    ensures { λ r. ⌜ Entered (now (text .entry)) (c .parts) (now (w .entry)) (now (w .exit)) (now (out .exit)) r ⌝ }
 {
     script_sized(*w);
     let parts = c.parts as usize;
-    let m = 1312 + less(parts, 1) * 24;
-    let mut kept = [0u32; 4360];
-    keep(w, m, &mut kept);
-    clear(w, m);
-    let mut out = [[0; 2]; 256];
-    let n = fill(text, parts, c.definitions as usize, w, &mut out);
+    clear(w, 1288 + parts * 24);
+    let n = fill(text, parts, c.definitions as usize, w, out);
     let a = asked(w);
-    if a != 0 {
-        put_back(&kept, m, w);
-        return refuse(a);
-    }
-    let st = state_of(w, &out, n);
-    Reading { code: 0, state: st }
+    Entry { code: a, n: n }
 }
 
-// Another is written into a script of read's own, which is copied to the lent one when all questions are answered by yes.
-fn read_many(text: &[u8], c: text_scan::Scanned, w: &mut [u32; 99592]) -> Reading
-    requires { ⌜ (c ≡ scanOf (now text)) × (limits c ≡ 0) ⌝ }
-    ensures { λ r. ⌜ ReadsAs (now (text .entry)) (now (w .entry)) (now (w .exit)) r ⌝ }
+// The same, with the words that are written kept aside: a refusal puts them back.
+fn enter_kept(
+    text: &[u8],
+    c: text_scan::Scanned,
+    w: &mut [u32; 99592],
+    out: &mut [[u32; 2]],
+    kept: &mut [u32],
+) -> Entry
+    requires { ⌜ (c ≡ scanOf (now text)) × (limits c ≡ 0) × (length (now out) ≡ 256) × (1288 + c .parts * 24 ≤ length (now kept)) ⌝ }
+    ensures { λ r. ⌜ Tried (now (text .entry)) (now (w .entry)) (now (w .exit)) (now (out .exit)) r ⌝ }
 {
-    let mut v = [0; 99592];
-    let mut out = [[0; 2]; 256];
-    let n = fill(
-        text,
-        c.parts as usize,
-        c.definitions as usize,
-        &mut v,
-        &mut out,
-    );
-    let a = asked(&v);
-    if a != 0 {
-        return refuse(a);
+    script_sized(*w);
+    let m = 1288 + c.parts as usize * 24;
+    keep(w, m, kept);
+    let e = enter(text, c, w, out);
+    if e.code != 0 {
+        put_back(kept, m, w);
+        return e;
     }
-    copy(&v, w);
-    let st = state_of(&v, &out, n);
-    Reading { code: 0, state: st }
+    e
+}
+
+// A text of few parts needs little space to keep words aside.
+fn enter_few(
+    text: &[u8],
+    c: text_scan::Scanned,
+    w: &mut [u32; 99592],
+    out: &mut [[u32; 2]],
+) -> Entry
+    requires { ⌜ (c ≡ scanOf (now text)) × (limits c ≡ 0) × (length (now out) ≡ 256) × (c .parts ≤ 128) ⌝ }
+    ensures { λ r. ⌜ Tried (now (text .entry)) (now (w .entry)) (now (w .exit)) (now (out .exit)) r ⌝ }
+{
+    let mut kept = [0u32; 4360];
+    enter_kept(text, c, w, out, &mut kept)
+}
+
+// Another may need as much as a whole script.
+fn enter_many(
+    text: &[u8],
+    c: text_scan::Scanned,
+    w: &mut [u32; 99592],
+    out: &mut [[u32; 2]],
+) -> Entry
+    requires { ⌜ (c ≡ scanOf (now text)) × (limits c ≡ 0) × (length (now out) ≡ 256) ⌝ }
+    ensures { λ r. ⌜ Tried (now (text .entry)) (now (w .entry)) (now (w .exit)) (now (out .exit)) r ⌝ }
+{
+    let mut kept = [0u32; 99592];
+    enter_kept(text, c, w, out, &mut kept)
+}
+
+// A text that passes the scan, written into the lent script: a refusal leaves the script as it was.
+fn try_enter(
+    text: &[u8],
+    c: text_scan::Scanned,
+    w: &mut [u32; 99592],
+    out: &mut [[u32; 2]],
+) -> Entry
+    requires { ⌜ (c ≡ scanOf (now text)) × (limits c ≡ 0) × (length (now out) ≡ 256) ⌝ }
+    ensures { λ r. ⌜ Tried (now (text .entry)) (now (w .entry)) (now (w .exit)) (now (out .exit)) r ⌝ }
+{
+    if c.parts <= 128 {
+        return enter_few(text, c, w, out);
+    }
+    enter_many(text, c, w, out)
 }
 
 // The call `read`: questions 1 to 7, and the network in the lent script and the answer's components.
@@ -191,8 +229,29 @@ pub fn read(text: &[u8], w: &mut [u32; 99592]) -> Reading
     if q != 0 {
         return refuse(q);
     }
-    if c.parts <= 128 {
-        return read_few(text, c, w);
+    let mut out = [[0; 2]; 256];
+    let e = try_enter(text, c, w, &mut out);
+    if e.code != 0 {
+        return refuse(e.code);
     }
-    read_many(text, c, w)
+    accept(w, &out, e.n)
+}
+
+// The call `read` for a caller that does not need the script's words after a refusal, which sets them all to zero: nothing is kept aside.
+pub fn read_over(text: &[u8], w: &mut [u32; 99592]) -> Reading
+    ensures { λ r. ⌜ ReadsOver (now (text .entry)) (now (w .entry)) (now (w .exit)) r ⌝ }
+{
+    let c = text_scan::scan(text);
+    let q = limits(c);
+    if q != 0 {
+        wipe(w);
+        return refuse(q);
+    }
+    let mut out = [[0; 2]; 256];
+    let e = enter(text, c, w, &mut out);
+    if e.code != 0 {
+        wipe(w);
+        return refuse(e.code);
+    }
+    accept(w, &out, e.n)
 }

@@ -5,6 +5,7 @@ ghost use mathlib.Core.Path.{_≡_};
 ghost use lib.ListN.{length, take, replicate};
 ghost use Rattle.text_tree.specs.Asked.{compOf};
 ghost use Rattle.text_read.specs.Answer.{StateIs};
+use crate::Reading;
 use table::Comp;
 use table::State;
 use table::comps::put_comp;
@@ -30,18 +31,21 @@ pub fn no_state() -> State
     State { c: [0; 3072], n: 0 }
 }
 
-// The components at the first n places.
-pub(crate) fn state_of(w: &[u32; 99592], out: &[[u32; 2]], n: usize) -> State
+// The components at the first n places, as an accepted answer.
+pub(crate) fn accept(w: &[u32; 99592], out: &[[u32; 2]], n: usize) -> Reading
     requires { ⌜ (n ≤ 256) × (n ≤ length (now out)) ⌝ }
-    ensures { λ r. ⌜ StateIs (now (w .entry)) (take n (now (out .entry))) r ⌝ }
+    ensures { λ r. ⌜ (r .code ≡ 0) × StateIs (now (w .entry)) (take n (now (out .entry))) (r .state) ⌝ }
 {
-    let mut st = State { c: [0; 3072], n: n };
+    let mut r = Reading {
+        code: 0,
+        state: State { c: [0; 3072], n: n },
+    };
     let mut j = 0;
     while j < n {
         let y = out[j];
         let x = comp_of(w, y[0], y[1]);
-        put_comp(&mut st.c, j, x);
+        put_comp(&mut r.state.c, j, x);
         j += 1;
     }
-    st
+    r
 }

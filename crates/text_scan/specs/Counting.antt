@@ -1,4 +1,5 @@
 -- The grammar's readers of definitions, located processes and texts, giving the numbers of what they read.
+-- Serves inner contracts only.
 use Prim.Native.Nat.{ℕ}
 use Rattle.text.specs.Tokens.{bar}
 use Rattle.text.specs.Grammar.{Reader, give, the, sepBy, aDef, aLocated, aNetwork, text, _>>=_, _>>_}

@@ -1,5 +1,6 @@
 -- The numbers of a text that questions 3 and 4 limit, added up over definitions and located processes.
 -- proofs/Places: they are the numbers that `text` defines by places.
+-- Serves inner contracts only.
 use Prim.Native.Nat.{ℕ, _+_, min, max}
 use mathlib.Core.List.{List, [], _∷_}
 use lib.ListN.{length}

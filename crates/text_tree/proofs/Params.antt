@@ -30,7 +30,7 @@ use Rattle.text_build.proofs.Entering.Clear.{param}
 use Rattle.text_build.proofs.Numbers.{member-index}
 use Rattle.text_build.proofs.Passes.{InScript}
 use Rattle.text_tree.specs.Pass.{noScope, enterAt, paramsFrom, paramScope}
-use Rattle.text_tree.proofs.Once.{differ-none}
+use Rattle.text_build.proofs.Into.{differ-none}
 use Rattle.text_tree.proofs.Heads.{name-same, HeadStands, Between}
 
 -- ── names that stand among the definitions' words ──

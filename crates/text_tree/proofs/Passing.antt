@@ -17,7 +17,7 @@ use Rattle.text.specs.Tree.{Located, Tree}
 use Rattle.text.specs.Tree.Located.{at}
 use Rattle.text.specs.WellFormed.{Is, Each, WellDef, WellTree}
 use Rattle.text.specs.Questions as Q
-use Rattle.text.specs.Questions.{params, identifier, defPlaces, locatedPlaces, places, partCount, definitionCount}
+use Rattle.text.specs.Questions.{params, identifier, firsts, defPlaces, locatedPlaces, places, partCount, definitionCount}
 use Rattle.table.specs.Words.{word, partsIn, locsIn, chansIn, defsIn, locName, chanName, defName, bodyOf}
 use Rattle.table.specs.Meaning.{listFrom, processAt, defOf, defsOf}
 use Rattle.table.specs.Valid.{below, sortOk, defOk, partOk, scriptOk}
@@ -28,7 +28,8 @@ use Rattle.text_build.specs.Put.{offsets}
 use Rattle.text_build.proofs.Places.{Fit, every-split, sizeP-some}
 use Rattle.text_build.proofs.RowWords.{side}
 use Rattle.text_build.proofs.Stands.{process-means}
-use Rattle.text_build.proofs.Passes.{stands-scope, pass}
+use Rattle.text_build.proofs.Passes.{GoodScope, no-scope, stands-scope, pass}
+use Rattle.text_build.proofs.Into.{firsts-differ, firsts-every}
 use Rattle.text_tree.specs.Pass.{Within, paramScope, top, behind}
 use Rattle.text_tree.proofs.Whole.{Whole, DefStands, DefsStand, AllStand}
 use Rattle.text_tree.proofs.Sizes.{sizeDefs, sizeLocated, parts-are, behind-is}
@@ -76,17 +77,22 @@ module _ (w : List ℕ) (few : locsIn w ≤ 64) where
       let b : processAt w i ≡ p = process-means w few p i 1 (offsets (paramScope w k)) (d .0 .stands) (d .0 .room) (def-known x us p k i (d .0) (s .0)) in
       rw (d .0 .name, d .0 .params, d .0 .body, b) (ap (λ l. define x us p ∷ l) (ap (λ n. listFrom n (length ds) (defOf w)) (sym q) ∙ defs-mean ds (k + 1) (i - sizeP p) (d .1) (s .1)))
 
+  -- the parameters in scope, each once
+  params-good : (x : Name) (us : List Name) (p : Process) (k i : ℕ) → WellDef (define x us p) → DefStands w x us p k i → GoodScope w (offsets (paramScope w k))
+  unfolding every distinct
+  params-good x us p k i f d = record { inside = d .within; names = rw (d .scope) (sort-ok isSmall (firsts [] us) (firsts-every isSmall us [] refl (small-form us (f .1))) (firsts-differ us [] refl)) }
+
   -- n places being left, the rows of the bodies pass
-  defs-pass : (ds : List Def) (k i n : ℕ) → i ≡ n - 1 → sizeDefs ds ≤ n → n ≤ 4_096 → DefsStand w ds k i → every (placeKnown w) (flatMap defPlaces ds) ≡ true
+  defs-pass : (ds : List Def) (k i n : ℕ) → i ≡ n - 1 → sizeDefs ds ≤ n → n ≤ 4_096 → Each WellDef ds → DefsStand w ds k i → every (placeKnown w) (flatMap defPlaces ds) ≡ true
       → (j : ℕ) → n - sizeDefs ds ≤ j → j < n → partOk w j ≡ true
   unfolding sizeDefs flatMap
-  defs-pass [] k i n q z t d e j a b = absurd (omega arith)
-  defs-pass (define x us p ∷ ds) k i n q z t d e j a b =
+  defs-pass [] k i n q z t f d e j a b = absurd (omega arith)
+  defs-pass (define x us p ∷ ds) k i n q z t f d e j a b =
       let r = sizeP-some p in
       let s = every-split (placeKnown w) (defPlaces (define x us p)) (flatMap defPlaces ds) e in
       side j (n - sizeP p)
-      (λ l. defs-pass ds (k + 1) (i - sizeP p) (n - sizeP p) (omega arith) (omega arith) (omega arith) (d .1) (s .1) j (omega arith) l)
-      (λ l. pass w few p i 1 (offsets (paramScope w k)) (d .0 .stands) (d .0 .room) (omega arith) (def-known x us p k i (d .0) (s .0)) (d .0 .within) j (omega arith) (omega arith))
+      (λ l. defs-pass ds (k + 1) (i - sizeP p) (n - sizeP p) (omega arith) (omega arith) (omega arith) (f .1) (d .1) (s .1) j (omega arith) l)
+      (λ l. pass w few p i 1 (offsets (paramScope w k)) (d .0 .stands) (d .0 .room) (omega arith) (def-known x us p k i (d .0) (s .0)) (params-good x us p k i (f .0) (d .0)) j (omega arith) (omega arith))
 
   all-pass : (ls : List Located) (i n : ℕ) → i ≡ n - 1 → sizeLocated ls ≤ n → n ≤ 4_096 → AllStand w ls i → every (placeKnown w) (flatMap locatedPlaces ls) ≡ true
       → (j : ℕ) → n - sizeLocated ls ≤ j → j < n → partOk w j ≡ true
@@ -97,7 +103,7 @@ module _ (w : List ℕ) (few : locsIn w ≤ 64) where
       let s = every-split (placeKnown w) (locatedPlaces (at l p)) (flatMap locatedPlaces ls) e in
       side j (n - sizeP p)
       (λ h. all-pass ls (i - sizeP p) (n - sizeP p) (omega arith) (omega arith) (omega arith) (d .1) (s .1) j (omega arith) h)
-      (λ h. pass w few p i 1 [] (d .0 .stands) (d .0 .room) (omega arith) (s .0) refl j (omega arith) (omega arith))
+      (λ h. pass w few p i 1 [] (d .0 .stands) (d .0 .room) (omega arith) (s .0) (no-scope w) j (omega arith) (omega arith))
 
   -- one definition: different parameters, at most 4, which are what is in scope in its body
   def-ok : (x : Name) (us : List Name) (p : Process) (k i : ℕ) → k < 32 → length us ≤ 4 → i < partsIn w → WellDef (define x us p) → distinct us ≡ true → DefStands w x us p k i → defOk w k ≡ true
@@ -177,7 +183,7 @@ module _ (t : Tree) (w : List ℕ) (h : Whole t w) (f : WellTree t) (l : Within 
       below-all (partOk w) (partsIn w)
       (λ j b. side j (partCount t - sizeDefs (t .defs))
       (λ a. all-pass w (h .making .locs) (t .located) (behind t) (partCount t - sizeDefs (t .defs)) (behind-is (t .defs) (top t) (partCount t) refl) (omega arith) (omega arith) (h .located) known-located j (omega arith) a)
-      (λ a. defs-pass w (h .making .locs) (t .defs) 0 (top t) (partCount t) refl (omega arith) m (h .bodies) known-defs j a (omega arith)))
+      (λ a. defs-pass w (h .making .locs) (t .defs) 0 (top t) (partCount t) refl (omega arith) m (f .defs-well) (h .bodies) known-defs j a (omega arith)))
 
   -- the script passes question 17
   pub script-ok : scriptOk w ≡ true

@@ -1,4 +1,5 @@
 -- Questions 4 to 7 over what the second pass wrote, and the components of the network. proofs: they are the questions of `text`.
+-- Serves inner contracts only.
 use Prim.Native.Nat.{ℕ, _+_}
 use mathlib.Core.List.{List, [], _∷_}
 use mathlib.Core.Bool.{Bool, true, _&&_}

@@ -1,5 +1,6 @@
 -- The second pass of reading over a whole text: document 01, *Reading*. First the heads of all definitions, so that every call finds its definition;
 -- then their bodies, then the located processes, in text order: the first part of the text stands at the highest place.
+-- Serves inner contracts only.
 use Prim.Native.Nat.{ℕ, zero, suc, _+_, _-_, _*_, _≤_, _<_}
 use mathlib.Core.List.{List, [], _∷_, _++_}
 use mathlib.Core.Bool.{cond}

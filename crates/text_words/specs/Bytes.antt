@@ -1,4 +1,5 @@
 -- What the positions that the code answers with stand for: what is left of a text s, as bytes and as tokens.
+-- Serves inner contracts only.
 use Prim.Native.Nat.{ℕ, _-_, _≤_, _<_}
 use mathlib.Core.Bool.{Bool, cond}
 use mathlib.Core.List.{List, [], _∷_}

@@ -1,4 +1,5 @@
 -- What the code's classes, sorts and fields stand for, in the definitions of `text`.
+-- Serves inner contracts only.
 use mathlib.Core.Bool.{Bool, true, false, cond, _||_}
 use Rattle.terms.specs.Names.{Name, bytes, sameName}
 use Rattle.terms.specs.Characters.Class.{capital, small, digit, bracket, blank, other}

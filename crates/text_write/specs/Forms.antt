@@ -1,5 +1,6 @@
 -- The bytes of each form that is written: what the contracts of the writer's inner functions cite.
 -- Each is the spelling of the form's tokens (proofs/Spelled), so that document 01's text is still that of the crate `text`.
+-- Serves inner contracts only.
 use Prim.Native.Nat.{ℕ}
 use mathlib.Core.List.{List, [], _∷_, _++_, map}
 use Rattle.terms.specs.Names.{Name, bytes}

@@ -1,5 +1,6 @@
 -- A place of the table under the values of some of its slots, as the writer carries them: eight numbers,
 -- where one below 64 is the location that the slot holds, and one of 64 or more says that it holds none and its own name is written.
+-- Serves inner contracts only.
 use Prim.Native.Nat.{ℕ, _<_}
 use mathlib.Core.List.{List, [], _∷_, map}
 use mathlib.Core.Bool.{true, cond}

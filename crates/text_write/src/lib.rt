@@ -8,6 +8,16 @@
 // put      bytes, numbers, names
 // parts    parts and processes, which are written in turn
 // network  definitions, components, the whole text
+//
+// proofs/Spelled   the bytes of each form are the spelling of its tokens
+// proofs/Puts      bytes put one after the other
+// proofs/Numbers   digits as the code puts them
+// proofs/Letters   the letters of a name by its words
+// proofs/Lists     names between brackets
+// proofs/Values    slots with values are a substitution
+// proofs/Heads     the text of a part by its head, under the values of slots
+// proofs/Networks  the text of a table
+// proofs/Answered  the answers of the call
 mod network;
 mod parts;
 pub mod put;

@@ -1,6 +1,7 @@
 // The engine as a library for programs in other languages: the outward calls under names of their own, as include/timo.h declares them.
-// Each has the contract of the call that it hands on.
+// Each has the contract of the call that it hands on; of the printout it is said in plainer words.
 ghost use mathlib.Core.Path.{_≡_};
+ghost use Prim.Native.Nat.{_≤_};
 ghost use lib.ListN.{length};
 ghost use Rattle.table.specs.Valid.{valid};
 ghost use Rattle.calls_act.specs.Acted.{actionAnswer, actsAs};
@@ -11,6 +12,8 @@ ghost use Rattle.calls_forced.specs.Report.{forcedReport};
 ghost use Rattle.calls_same.specs.Answer.{compared, sameAnswer};
 ghost use Rattle.text_read.specs.Answer.{ReadsAs};
 ghost use Rattle.text_write.specs.Answer.{Answers, writeAnswer};
+ghost use Rattle.run_print.specs.Print.{printout};
+ghost use Rattle.host.specs.Shown.{locationsAnswer, counted, nameAnswer, labelAnswer, lineAnswer, Shows};
 use calls::action;
 use calls::forced_report;
 use calls::step_at;
@@ -23,6 +26,11 @@ use calls_same::Compared;
 use calls_same::same;
 use calls_step::Stepped;
 use calls_tick::Ticked;
+use host::Counted;
+use host::action_label;
+use host::location_name;
+use host::locations;
+use host::step_line;
 use table::State;
 use table::valid::is_valid;
 use text_read::Reading;
@@ -112,4 +120,66 @@ pub extern "C" fn timo_same(
     ensures { λ r. ⌜ r ≡ compared (sameAnswer (now (w .entry)) (record { c = now (a .entry); n = n }) (now (v .entry)) (record { c = now (b .entry); n = m })) ⌝ }
 {
     same(w, a, n, v, b, m)
+}
+
+// How many locations there are: question 17.
+#[no_mangle]
+pub extern "C" fn timo_locations(w: &[u32; 99592], c: &[u32; 3072], n: usize) -> Counted
+    ensures { λ r. ⌜ r ≡ counted (locationsAnswer (now (w .entry)) (record { c = now (c .entry); n = n })) ⌝ }
+{
+    locations(w, c, n)
+}
+
+// The name of the location numbered l: questions 17, 8, 15.
+#[no_mangle]
+pub extern "C" fn timo_location_name(
+    w: &[u32; 99592],
+    c: &[u32; 3072],
+    n: usize,
+    l: u32,
+    buf: &mut [u8],
+) -> Written
+    ensures { λ r. ⌜ Answers (nameAnswer (now (w .entry)) (record { c = now (c .entry); n = n }) l (length (now (buf .entry)))) (now (buf .entry)) r (now (buf .exit)) ⌝ }
+{
+    location_name(w, c, n, l, buf)
+}
+
+// The label of an action: questions 17, 8, 9, 10, 11, 15. An action of a step has the same label in the network before the step, which is the law
+// step-before of run_line; so the records of a step are shown with the components as they were before it (host/proofs/Records).
+#[no_mangle]
+pub extern "C" fn timo_action_label(
+    w: &[u32; 99592],
+    c: &[u32; 3072],
+    n: usize,
+    kind: u32,
+    p: usize,
+    q: usize,
+    buf: &mut [u8],
+) -> Written
+    ensures { λ r. ⌜ Answers (labelAnswer (now (w .entry)) (record { c = now (c .entry); n = n }) kind p q (length (now (buf .entry)))) (now (buf .entry)) r (now (buf .exit)) ⌝ }
+{
+    action_label(w, c, n, kind, p, q, buf)
+}
+
+// The line of the step at a location, from the components before it: questions 17, 8, 13, 15.
+#[no_mangle]
+pub extern "C" fn timo_step_line(
+    w: &[u32; 99592],
+    c: &[u32; 3072],
+    n: usize,
+    l: u32,
+    buf: &mut [u8],
+) -> Written
+    ensures { λ r. ⌜ Answers (lineAnswer (now (w .entry)) (record { c = now (c .entry); n = n }) l (length (now (buf .entry)))) (now (buf .entry)) r (now (buf .exit)) ⌝ }
+{
+    step_line(w, c, n, l, buf)
+}
+
+// The whole printout of a text, as `timorun` prints it: its length, which is at most 3,477,760, and as much of it as the buffer holds. What `run_print`
+// promises of its place and bytes, said without its way of counting.
+#[no_mangle]
+pub extern "C" fn timo_printout(text: &[u8], buf: &mut [u8]) -> usize
+    ensures { λ r. ⌜ Shows (printout (now (text .entry))) (now (buf .entry)) r (now (buf .exit)) × (r ≤ 3477760) ⌝ }
+{
+    run_print::printout(text, buf)
 }

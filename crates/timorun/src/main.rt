@@ -1,22 +1,42 @@
-// Layer 4, the program: reads a text from standard input and writes its printout, which `run_print` promises byte by byte.
+// Layer 4, the program: reads a text from standard input and writes its printout by pieces, a line as its step is done. `run_print` promises the pieces byte
+// by byte, and that joined they are the printout.
 //
-// A text of 65,536 bytes or more fills the buffer, and so is refused by question 1, in however many pieces it comes.
-// A printout has at most 3,477,760 bytes, which `run_print` promises too, so that the buffer below holds it whole and `run_emit` may write it.
-
+// A text of 65,536 bytes or more fills the buffer, and so is refused by question 1, in however many parts it comes. Each piece has at most 65,536 bytes and
+// goes through the buffer that the text came in. A read or a write that fails is told on standard error: the language has no exit status.
 ghost use mathlib.Core.Path.{_≡_};
 ghost use lib.ListN.{length};
+ghost use Rattle.run_print.specs.Pieces.{ProgressOk};
+use run_print::Progress;
 
-// Space for a printout.
-fn space() -> [u8; 3477760]
-    ensures { λ r. ⌜ 3477760 ≡ length r ⌝ }
+// The pieces that are left, one after the other, each written before the next is made: whether all were written.
+fn show(w: &[u32; 99592], start: Progress, buf: &mut [u8]) -> bool
+    requires { ⌜ ProgressOk (now w) start × (length (now buf) ≡ 65536) ⌝ }
 {
-    [0; 3477760]
+    let mut now = start;
+    loop {
+        if now.over {
+            return true;
+        }
+        let p = run_print::next_piece(w, now, buf);
+        if !run_emit::emit(buf, p.len) {
+            return false;
+        }
+        let next = p.next;
+        now = next;
+    }
 }
 
 fn main() {
     let mut text = io::large_buffer();
-    let n = io::read_full(0, &mut text);
-    let mut out = space();
-    let k = run_print::printout(&text[..n], &mut out);
-    run_emit::emit(&out, k);
+    let r = run_emit::read_input(&mut text);
+    if r.failed {
+        run_emit::report(b"timorun: standard input could not be read\n");
+        return;
+    }
+    let n = r.len;
+    let mut w = [0; 99592];
+    let start = run_print::begin(&text[..n], &mut w);
+    if !show(&w, start, &mut text) {
+        run_emit::report(b"timorun: the printout could not be written\n");
+    }
 }

@@ -2,7 +2,7 @@
 -- By what the answer of an action stands for.
 use Rattle.calls_act.specs.Acted.{actionRule}
 use Rattle.text_write.proofs.Puts.{then, same}
-use Rattle.run_line.proofs.Lines.{action-text}
+use Rattle.run_line.proofs.Lines.{rule-spoken, action-text}
 use borrow.Author.Needs.{needs}
 use Rattle.run_line.proofs.put_action.Statement.{statement}
 use Rattle.run_line.proofs.put_action.Tie as tie
@@ -29,7 +29,7 @@ returns : tie.Need-returns
 returns c =
     let k = c .before .before .before .before .before .before .before .before .before .before .before .before .before .args in
     let e = rw (c .before .before .before .before .before .before .before .before .before .before .before .wide .ensures, c .before .before .before .before .before .before .before .before .before .before .wide2 .ensures) at (c .before .before .before .before .before .before .before .before .before .act-valid .ensures) in
-    same (action-text (k .w .now) (k .st) (actionRule (k .w .now) (k .st) (k .kind) (k .p) (k .q)) (c .before .before .before .before .before .before .before .before .before .act-valid .result) e (c .before .before .before .before .before .before .before .before .before .before .before .before .before .pre .1)) (then (c .before .before .before .before .before .before .put .ensures) (c .before .before .put-label .ensures))
+    same (action-text (k .w .now) (k .st) (actionRule (k .w .now) (k .st) (k .kind) (k .p) (k .q)) (c .before .before .before .before .before .before .before .before .before .act-valid .result) e (c .before .before .before .before .before .before .before .before .before .before .before .before .before .pre .1) (rule-spoken (k .w .now) (k .st) (c .before .before .before .before .before .before .before .before .before .before .before .before .before .pre .0) (k .kind) (k .p) (k .q))) (then (c .before .before .before .before .before .before .put .ensures) (c .before .before .put-label .ensures))
 
 pub put-action-spec : {M : Type 1} → statement M
 put-action-spec =

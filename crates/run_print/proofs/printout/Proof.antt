@@ -18,18 +18,18 @@ same-length c = search needs
 
 returns : tie.Need-returns
 returns c =
-    let h = whole-number _ _ _ _ (c .before .before .before .before .before .before .read .ensures) (c .before .before .before .before .if1 .taken) in
+    let h = whole-number _ _ _ _ _ (c .before .before .before .before .before .before .read .ensures) (c .before .before .before .before .if1 .taken) in
     let e = refused-ends _ (omega arith) (c .before .before .put-refused .ensures) in
-    (same (whole-refused _ _ _ _ (c .before .before .before .before .before .before .read .ensures) (c .before .before .before .before .if1 .taken)) (c .before .before .put-refused .ensures), omega arith)
+    (same (whole-refused _ _ _ _ _ (c .before .before .before .before .before .before .read .ensures) (c .before .before .before .before .if1 .taken)) (c .before .before .put-refused .ensures), omega arith)
 
 play-requires : tie.Need-play-requires
-play-requires c κs = whole-good _ _ _ _ (c .before .before .before .before .before .read .ensures) (omega (arith, c .before .before .before .if1 .left))
+play-requires c κs = whole-good _ _ _ _ _ (c .before .before .before .before .before .read .ensures) (omega (arith, c .before .before .before .if1 .left))
 
 same-length-2 : tie.Need-same-length-2
 same-length-2 c = search needs
 
 returns-2 : tie.Need-returns-2
-returns-2 c = (same (whole-printed _ _ _ _ (c .before .before .before .before .before .before .before .before .read .ensures) (omega (arith, c .before .before .before .before .before .before .if1 .left))) (c .before .before .play .ensures .0), c .before .before .play .ensures .1)
+returns-2 c = (same (whole-printed _ _ _ _ _ (c .before .before .before .before .before .before .before .before .read .ensures) (omega (arith, c .before .before .before .before .before .before .if1 .left))) (c .before .before .play .ensures .0), c .before .before .play .ensures .1)
 
 pub printout-spec : {M : Type 1} → statement M
 printout-spec =

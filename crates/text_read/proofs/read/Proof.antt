@@ -1,8 +1,8 @@
--- The scan's refusal, or the answer of a text that passes the scan.
-use native.Mathlib.Omega.{arith}
-use mathlib.Core.Path.{sym, _∙_}
+-- The scan's refusal, that of the script, or the network.
 use borrow.Author.Needs.{needs}
-use Rattle.text_read.proofs.Answering.{way-1}
+use native.Mathlib.Omega.{arith}
+use mathlib.Core.Path.{refl}
+use Rattle.text_read.proofs.Answering.{way-1, answer-no}
 use Rattle.text_read.proofs.read.Statement.{statement}
 use Rattle.text_read.proofs.read.Tie as tie
 
@@ -16,19 +16,28 @@ refuse-requires : tie.Need-refuse-requires
 refuse-requires c κs = search needs
 
 returns : tie.Need-returns
-returns c = way-1 _ _ (c .before .before .before .scan .ensures) _ (c .before .before .limits .ensures) (c .before .if1 .taken) _ _ (c .refuse .ensures)
+returns c = way-1 _ _ (c .before .before .before .scan .ensures) _ (c .before .before .limits .ensures) (c .before .if1 .taken) _ _ _ _ (c .refuse .ensures) refl
 
-read-few-requires : tie.Need-read-few-requires
-read-few-requires c κs = (c .before .before .before .before .before .scan .ensures, sym (c .before .before .before .before .limits .ensures) ∙ omega (arith, c .before .before .before .if1 .left), c .before .if2 .taken)
+slice-aggregate-try-enter : tie.Need-slice-aggregate-try-enter
+slice-aggregate-try-enter c = search needs
+
+try-enter-requires : tie.Need-try-enter-requires
+try-enter-requires c κs = search needs
+
+refuse-requires-2 : tie.Need-refuse-requires-2
+refuse-requires-2 c κs = search needs
 
 returns-2 : tie.Need-returns-2
-returns-2 c = search needs
+returns-2 c = answer-no (c .before .before .before .before .try-enter .ensures .answer) (c .before .if2 .taken) _ _ _ (c .refuse2 .ensures) (c .before .before .before .before .try-enter .ensures .back (c .before .if2 .taken))
 
-read-many-requires : tie.Need-read-many-requires
-read-many-requires c κs = (c .before .before .before .before .before .scan .ensures, sym (c .before .before .before .before .limits .ensures) ∙ omega (arith, c .before .before .before .if1 .left))
+slice-aggregate-accept : tie.Need-slice-aggregate-accept
+slice-aggregate-accept c = search needs
+
+accept-requires : tie.Need-accept-requires
+accept-requires c κs = search needs
 
 returns-3 : tie.Need-returns-3
-returns-3 c = search needs
+returns-3 c = c .before .before .before .before .before .before .try-enter .ensures .answer .yes (omega (arith, c .before .before .before .if2 .left)) _ _ (c .accept .ensures .0) (c .accept .ensures .1)
 
 pub read-spec : {M : Type 1} → statement M
 read-spec =
@@ -38,7 +47,10 @@ read-spec =
     limits-requires
     refuse-requires
     returns
-    read-few-requires
+    slice-aggregate-try-enter
+    try-enter-requires
+    refuse-requires-2
     returns-2
-    read-many-requires
+    slice-aggregate-accept
+    accept-requires
     returns-3)

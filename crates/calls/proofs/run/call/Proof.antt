@@ -2,7 +2,7 @@
 use borrow.Author.Tests.{eq-eqb, ne-eqb}
 use Rattle.calls_act.specs.Acted.{actionAnswer}
 use Rattle.calls_tick.specs.Ticked.{tickAnswer}
-use Rattle.calls.specs.Run.{answerTo}
+use Rattle.calls.specs.Run.{answerTo, givenBy}
 use Rattle.calls.proofs.Calls.{tick-does, act-does}
 use borrow.Author.Needs.{needs}
 use Rattle.calls.proofs.run.call.Statement.{statement}
@@ -12,7 +12,7 @@ tick-at-requires : tie.Need-tick-at-requires
 tick-at-requires c κs = search needs
 
 returns : tie.Need-returns
-unfolding answerTo
+unfolding answerTo givenBy
 returns c =
     let a = c .before .before .args in
     rw (eq-eqb _ _ (c .before .if1 .taken)) (tick-does (a .w .now) (a .st) (tickAnswer (a .w .now) (a .st) (a .p)) (c .tick-at .result) (c .tick-at .ensures))
@@ -27,7 +27,7 @@ action-requires : tie.Need-action-requires
 action-requires c κs = search needs
 
 returns-2 : tie.Need-returns-2
-unfolding answerTo
+unfolding answerTo givenBy
 returns-2 c =
     let a = c .before .before .before .before .before .args in
     let e = rw (c .before .before .before .wide .ensures, c .before .before .wide2 .ensures) at (c .before .action .ensures) in

@@ -4,7 +4,7 @@ use mathlib.Core.Path.{_≡_, refl}
 use borrow.Author.Needs.{needs}
 use Prim.Native.Nat.{_≤_, _-_}
 use lib.ListN.{length}
-use Rattle.calls.proofs.Calls.{Running, running-begin, running-more}
+use Rattle.calls.proofs.Calls.{Running, running-begin, running-more, running-end}
 use Rattle.calls.proofs.run.run.Statement.{statement}
 use Rattle.calls.proofs.run.run.Tie as tie
 
@@ -23,7 +23,7 @@ same-length c = c .before .before .loop .inv .3 .size
 returns : tie.Need-returns Inv-loop μ-loop
 returns c =
     let i = c .before .before .loop .inv in
-    ((i .3 .runs, i .3 .rest), omega (arith, i .3 .few))
+    (running-end (i .3), omega (arith, i .3 .few))
 
 mul-e : tie.Need-mul-e Inv-loop μ-loop
 mul-e c = search needs
@@ -66,7 +66,7 @@ same-length-2 c = c .before .loop .inv .3 .size
 returns-2 : tie.Need-returns-2 Inv-loop μ-loop
 returns-2 c =
     let i = c .before .loop .inv in
-    ((i .3 .runs, i .3 .rest), omega (arith, i .3 .few, i .2))
+    (running-end (i .3), omega (arith, i .3 .few, i .2))
 
 pub run-spec : {M : Type 1} → statement M
 run-spec =

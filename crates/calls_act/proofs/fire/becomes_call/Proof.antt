@@ -3,7 +3,7 @@ use mathlib.Core.Path.{sym, ap, subst}
 use Prim.Native.Nat.{_<_}
 use Rattle.terms.specs.Rules.Kind.{calls}
 use Rattle.table.specs.Fire.{becomesAt, loaded}
-use Rattle.calls_act.specs.Fired.{oneOf, tagOf, callee}
+use Rattle.calls_act.specs.Fired.{oneOf, callee}
 use borrow.Author.Needs.{needs}
 use Rattle.calls_act.proofs.fire.becomes_call.Statement.{statement}
 use Rattle.calls_act.proofs.fire.becomes_call.Tie as tie
@@ -58,23 +58,23 @@ not-fired-requires-4 : tie.Need-not-fired-requires-4
 not-fired-requires-4 c κs = search needs
 
 returns : tie.Need-returns
-unfolding oneOf tagOf becomesAt loaded
+unfolding oneOf becomesAt loaded
 returns c = rw (c .left .ensures, c .before .body-of .ensures, c .before .before .wide .ensures, c .before .before .before .arg-in4 .ensures, c .before .before .before .before .arg-in3 .ensures, c .before .before .before .before .before .arg-in2 .ensures, c .before .before .before .before .before .before .arg-in .ensures) (sym (ap (becomesAt (c .before .before .before .before .before .before .before .before .before .before .before .args .w .now) calls (c .before .before .before .before .before .before .before .before .before .before .before .args .c)) (c .before .before .before .before .before .before .before .before .before .h .given .1)))
 
 returns-2 : tie.Need-returns-2
-unfolding oneOf tagOf becomesAt
+unfolding oneOf becomesAt
 returns-2 c = rw (c .not-fired .ensures) (sym (ap (becomesAt (c .before .before .before .args .w .now) calls (c .before .before .before .args .c)) (c .before .enum-told .given .1)))
 
 returns-3 : tie.Need-returns-3
-unfolding oneOf tagOf becomesAt
+unfolding oneOf becomesAt
 returns-3 c = rw (c .not-fired2 .ensures) (sym (ap (becomesAt (c .before .before .before .args .w .now) calls (c .before .before .before .args .c)) (c .before .enum-told2 .given .1)))
 
 returns-4 : tie.Need-returns-4
-unfolding oneOf tagOf becomesAt
+unfolding oneOf becomesAt
 returns-4 c = rw (c .not-fired3 .ensures) (sym (ap (becomesAt (c .before .before .before .args .w .now) calls (c .before .before .before .args .c)) (c .before .enum-told3 .given .1)))
 
 returns-5 : tie.Need-returns-5
-unfolding oneOf tagOf becomesAt
+unfolding oneOf becomesAt
 returns-5 c = rw (c .not-fired4 .ensures) (sym (ap (becomesAt (c .before .before .before .args .w .now) calls (c .before .before .before .args .c)) (c .before .enum-told4 .given .1)))
 
 pub becomes-call-spec : {M : Type 1} → statement M

@@ -2,7 +2,7 @@
 use mathlib.Core.Path.{sym, ap}
 use Rattle.terms.specs.Rules.Kind.{moves}
 use Rattle.table.specs.Fire.{becomesAt}
-use Rattle.calls_act.specs.Fired.{oneOf, tagOf}
+use Rattle.calls_act.specs.Fired.{oneOf}
 use borrow.Author.Needs.{needs}
 use Rattle.calls_act.proofs.fire.becomes_move.Statement.{statement}
 use Rattle.calls_act.proofs.fire.becomes_move.Tie as tie
@@ -41,23 +41,23 @@ not-fired-requires-4 : tie.Need-not-fired-requires-4
 not-fired-requires-4 c κs = search needs
 
 returns : tie.Need-returns
-unfolding oneOf tagOf becomesAt
+unfolding oneOf becomesAt
 returns c = λ w. rw (c .left .ensures, c .before .value-in .ensures) (sym (ap (becomesAt w moves (c .before .before .before .before .before .before .args .c)) (c .before .before .before .before .h .given .1)))
 
 returns-2 : tie.Need-returns-2
-unfolding oneOf tagOf becomesAt
+unfolding oneOf becomesAt
 returns-2 c = λ w. rw (c .not-fired .ensures) (sym (ap (becomesAt w moves (c .before .before .before .args .c)) (c .before .enum-told .given .1)))
 
 returns-3 : tie.Need-returns-3
-unfolding oneOf tagOf becomesAt
+unfolding oneOf becomesAt
 returns-3 c = λ w. rw (c .not-fired2 .ensures) (sym (ap (becomesAt w moves (c .before .before .before .args .c)) (c .before .enum-told2 .given .1)))
 
 returns-4 : tie.Need-returns-4
-unfolding oneOf tagOf becomesAt
+unfolding oneOf becomesAt
 returns-4 c = λ w. rw (c .not-fired3 .ensures) (sym (ap (becomesAt w moves (c .before .before .before .args .c)) (c .before .enum-told3 .given .1)))
 
 returns-5 : tie.Need-returns-5
-unfolding oneOf tagOf becomesAt
+unfolding oneOf becomesAt
 returns-5 c = λ w. rw (c .not-fired4 .ensures) (sym (ap (becomesAt w moves (c .before .before .before .args .c)) (c .before .enum-told4 .given .1)))
 
 pub becomes-move-spec : {M : Type 1} → statement M

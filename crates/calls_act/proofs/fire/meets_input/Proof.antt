@@ -2,7 +2,7 @@
 use mathlib.Core.Path.{sym, ap, _∙_}
 use borrow.Author.Tests.{eq-eqb, ne-eqb}
 use Rattle.table.specs.Fire.{handed}
-use Rattle.calls_act.specs.Fired.{twoOf, tagOf, meetsInput}
+use Rattle.calls_act.specs.Fired.{twoOf, meetsInput}
 use borrow.Author.Needs.{needs}
 use Rattle.calls_act.proofs.fire.meets_input.Statement.{statement}
 use Rattle.calls_act.proofs.fire.meets_input.Tie as tie
@@ -17,7 +17,7 @@ received-requires : tie.Need-received-requires
 received-requires c κs = search needs
 
 returns : tie.Need-returns
-unfolding twoOf tagOf meetsInput handed
+unfolding twoOf meetsInput handed
 returns c =
     let a = c .before .before .before .before .before .before .before .before .args in
     rw (c .received .ensures, c .before .left .ensures) (sym (ap (meetsInput (a .c) (a .e) (a .d) (a .x) (a .p)) (c .before .before .before .before .before .before .g .given .1) ∙ rw (eq-eqb _ _ (c .before .before .before .before .if1 .taken), eq-eqb _ _ (c .before .before .before .if2 .taken))))
@@ -26,7 +26,7 @@ not-met-requires : tie.Need-not-met-requires
 not-met-requires c κs = search needs
 
 returns-2 : tie.Need-returns-2
-unfolding twoOf tagOf meetsInput
+unfolding twoOf meetsInput
 returns-2 c =
     let a = c .before .before .before .before .before .before .args in
     rw (c .not-met .ensures) (sym (ap (meetsInput (a .c) (a .e) (a .d) (a .x) (a .p)) (c .before .before .before .before .g .given .1) ∙ rw (eq-eqb _ _ (c .before .before .if1 .taken), ne-eqb _ _ (c .before .if2 .left))))
@@ -59,7 +59,7 @@ not-met-requires-6 : tie.Need-not-met-requires-6
 not-met-requires-6 c κs = search needs
 
 returns-3 : tie.Need-returns-3
-unfolding twoOf tagOf meetsInput
+unfolding twoOf meetsInput
 returns-3 c =
     let a = c .before .before .before .before .before .args in
     rw (c .not-met2 .ensures) (sym (ap (meetsInput (a .c) (a .e) (a .d) (a .x) (a .p)) (c .before .before .before .g .given .1) ∙ rw (ne-eqb _ _ (c .before .if1 .left))))

@@ -12,7 +12,7 @@ refuse-requires c κs = search needs
 returns : tie.Need-returns
 returns c =
     let a = c .before .before .before .args in
-    rw (c .refuse .ensures) (last-refused (a .w .now) (a .st) (a .out) (a .l) (c .before .before .before .pre) (λ e. omega arith))
+    rw (c .refuse .ensures) (last-refused (a .w .now) (a .st) (a .out) (a .l) (c .before .before .before .pre .0) (λ e. omega arith))
 
 tick-valid-requires : tie.Need-tick-valid-requires
 tick-valid-requires c κs = search needs
@@ -25,14 +25,14 @@ returns-2 c =
     let a = c .before .before .before .before .before .before .before .args in
     let g = c .before .before .before .before .before .before .before .pre in
     let z : a .out .code ≡ 0 = omega arith in
-    rw (c .refuse2 .ensures) (last-none (a .w .now) (a .st) (a .out) (a .l) g (c .before .before .before .tick-valid .result) z (c .before .before .before .tick-valid .ensures) (λ e. omega arith))
+    rw (c .refuse2 .ensures) (last-none (a .w .now) (a .st) (a .out) (a .l) (g .0) (c .before .before .before .tick-valid .result) z (c .before .before .before .tick-valid .ensures) (λ e. omega arith))
 
 returns-3 : tie.Need-returns-3
 returns-3 c =
     let a = c .before .before .before .before .before .before .args in
     let g = c .before .before .before .before .before .before .pre in
     let z : a .out .code ≡ 0 = omega arith in
-    last-all (a .w .now) (a .st) (a .out) (a .l) g (c .before .before .tick-valid .result) z (c .before .before .tick-valid .ensures) (omega arith)
+    last-all (a .w .now) (a .st) (a .out) (a .l) (g .0) (c .before .before .tick-valid .result) z (c .before .before .tick-valid .ensures) (g .1) (omega arith)
 
 pub finish-spec : {M : Type 1} → statement M
 finish-spec =

@@ -55,8 +55,8 @@ use Rattle.table.specs.Valid.{valid}
 use Rattle.calls_tick.specs.declared.Ticked.{Ticked}
 use Rattle.calls_tick.specs.Ticked.{ticksAs}
 use Rattle.calls_propose.specs.declared.Record.{Record}
-use Rattle.calls_propose.specs.Proposed.{proposeRule, soFar, Held, Next, begun, firedNext, tickedLast}
-use Rattle.calls_propose.proofs.Proposing.{firedAll, zero-record, one-more, all-fired, none-fired, proposal-is}
+use Rattle.calls_propose.specs.Proposed.{proposeRule, soFar, Held, InUseOnly, Next, begun, firedNext, tickedLast}
+use Rattle.calls_propose.proofs.Proposing.{only-then, firedAll, zero-record, one-more, all-fired, none-fired, proposal-is}
 use Rattle.table.proofs.State as S
 use Rattle.table.proofs.State.Laws as S′
 use Rattle.calls_tick.proofs.Ticked as T
@@ -108,6 +108,7 @@ module _ (ws : List ℕ) (s : State) (l : ℕ) (ys : List Record) where
     within : i ≤ length ys
     is : Is T.the-row out (mach-out out ∷ [])
     held : Held ws l out
+    only : InUseOnly s (out .state)
     left : firedAll ws l (dropped i ys) (soFar ws out) ≡ firedAll ws l ys (begun ws s l)
 
   abbrev Less : Turn → Turn → Type 0
@@ -206,8 +207,8 @@ module _ {M : Type 1} (𝓤 : URA M) (H : Heap 𝓤) (A : Atoms 𝓤) (W : Given
         asked : ent 𝓤 (onEntry 𝓤 H A begin.signature (κ, tt) (p, tt) (x, (s, (l, tt))) (script ∷ [], (mach s ∷ [], (vint w32 l ∷ [], tt)))) (Begin 𝓤 H A mem run .pre to-begin)
         asked = qed W (Token ∷ ‵ (owns (ShrRef (named 0) κ Words ∷ S.the-row ∷ u32 ∷ []) (x, (s, (l, tt))) (script ∷ [], (mach s ∷ [], (vint w32 l ∷ [], tt)))) ∷ []) ∵ says ! v $ frame ! $ done !
 
-    said-begin : (r : Ticked) → ent 𝓤 (ensured 𝓤 H A begin.ended (begin.clauses 𝓤 H A mem run) (κ, tt) (x, (s, (l, tt))) tt r) (fact 𝓤 (Next ws l (begun ws s l) r))
-    said-begin r = exE 𝓤 _ (λ es. snd∗ 𝓤 (sem 𝓤 H A (lasts begin.ended (κ, tt) (x, (s, (l, tt))) es)) (fact 𝓤 (Next ws l (begun ws s l) r)))
+    said-begin : (r : Ticked) → ent 𝓤 (ensured 𝓤 H A begin.ended (begin.clauses 𝓤 H A mem run) (κ, tt) (x, (s, (l, tt))) tt r) (fact 𝓤 (Next ws l s (begun ws s l) r))
+    said-begin r = exE 𝓤 _ (λ es. snd∗ 𝓤 (sem 𝓤 H A (lasts begin.ended (κ, tt) (x, (s, (l, tt))) es)) (fact 𝓤 (Next ws l s (begun ws s l) r)))
 
     module _ (k i m : ℕ) (fk : k < 2 ^ 32) (fi : i < 2 ^ 64) (fm : m < 2 ^ 64) where
       abbrev to-going : Going 𝓤 H A mem run .Ghost
@@ -236,21 +237,21 @@ module _ {M : Type 1} (𝓤 : URA M) (H : Heap 𝓤) (A : Atoms 𝓤) (W : Given
             asked : ent 𝓤 (onEntry 𝓤 H A act-next.signature (κ, tt) (p, tt) (x, (y, (l, (r, tt)))) (script ∷ [], (v ∷ [], (vint w32 l ∷ [], (u ∷ [], tt))))) (ActNext 𝓤 H A mem run .pre to-next)
             asked = qed W (Token ∷ ‵ (owns (ShrRef (named 0) κ Words ∷ T.the-row ∷ u32 ∷ R.the-row ∷ []) (x, (y, (l, (r, tt)))) (script ∷ [], (v ∷ [], (vint w32 l ∷ [], (u ∷ [], tt))))) ∷ []) ∵ says ! held $ frame ! $ done !
 
-        said-next : (z : Ticked) → ent 𝓤 (ensured 𝓤 H A act-next.ended (act-next.clauses 𝓤 H A mem run) (κ, tt) (x, (y, (l, (r, tt)))) tt z) (fact 𝓤 (Next ws l (firedNext ws l r (soFar ws y)) z))
-        said-next z = exE 𝓤 _ (λ es. snd∗ 𝓤 (sem 𝓤 H A (lasts act-next.ended (κ, tt) (x, (y, (l, (r, tt)))) es)) (fact 𝓤 (Next ws l (firedNext ws l r (soFar ws y)) z)))
+        said-next : (z : Ticked) → ent 𝓤 (ensured 𝓤 H A act-next.ended (act-next.clauses 𝓤 H A mem run) (κ, tt) (x, (y, (l, (r, tt)))) tt z) (fact 𝓤 (Next ws l (y .state) (firedNext ws l r (soFar ws y)) z))
+        said-next z = exE 𝓤 _ (λ es. snd∗ 𝓤 (sem 𝓤 H A (lasts act-next.ended (κ, tt) (x, (y, (l, (r, tt)))) es)) (fact 𝓤 (Next ws l (y .state) (firedNext ws l r (soFar ws y)) z)))
 
       abbrev to-finish : Finish 𝓤 H A mem run .Ghost
       to-finish = (((κ, tt), (p, tt), tt, (x, (s, (y, (l, tt)))), (script ∷ [], (mach s ∷ [], (v ∷ [], (vint w32 l ∷ [], tt))))), tt)
 
-      goes-finish : ent 𝓤 (⋆ 𝓤 H A (Token ∷ ‵ Own ∷ [])) (sep 𝓤 (Finish 𝓤 H A mem run .pre to-finish) (sem 𝓤 H A Own))
-      goes-finish =
+      goes-finish : InUseOnly s (y .state) → ent 𝓤 (⋆ 𝓤 H A (Token ∷ ‵ Own ∷ [])) (sep 𝓤 (Finish 𝓤 H A mem run .pre to-finish) (sem 𝓤 H A Own))
+      goes-finish only =
           qed W (Token ∷ ‵ Own ∷ []) ∵ move ! (1 ∷ []) $ use1 W (‵ Own ⊛ ‵ Own) (shr-copy 𝓤 H A W (named 0) κ Words .twice x (script ∷ [])) $ split ! $
           nothing ! $ owned ! u32 (Is u32) (uint-makes 𝓤 H A W w32) l _ (refl, fits) $ fjoin ! $ owned ! T.the-row (Is T.the-row) (LL.makes T.the-type T′.the-plain 𝓤 H A) y _ is $ fjoin ! $
           owned ! S.the-row (Is S.the-row) (LL.makes S.the-type S′.the-plain 𝓤 H A) s _ is₀ $ fjoin ! $ move ! (1 ∷ 0 ∷ []) $ fjoin ! $ move ! (2 ∷ 0 ∷ []) $
           use2 W (raw (Finish 𝓤 H A mem run .pre to-finish)) asked $ frame ! $ done !
         where
           asked : ent 𝓤 (onEntry 𝓤 H A finish.signature (κ, tt) (p, tt) (x, (s, (y, (l, tt)))) (script ∷ [], (mach s ∷ [], (v ∷ [], (vint w32 l ∷ [], tt))))) (Finish 𝓤 H A mem run .pre to-finish)
-          asked = qed W (Token ∷ ‵ (owns (ShrRef (named 0) κ Words ∷ S.the-row ∷ T.the-row ∷ u32 ∷ []) (x, (s, (y, (l, tt)))) (script ∷ [], (mach s ∷ [], (v ∷ [], (vint w32 l ∷ [], tt))))) ∷ []) ∵ says ! held $ frame ! $ done !
+          asked = qed W (Token ∷ ‵ (owns (ShrRef (named 0) κ Words ∷ S.the-row ∷ T.the-row ∷ u32 ∷ []) (x, (s, (y, (l, tt)))) (script ∷ [], (mach s ∷ [], (v ∷ [], (vint w32 l ∷ [], tt))))) ∷ []) ∵ says ! (held, only) $ frame ! $ done !
 
       said-finish : (z : Ticked) → ent 𝓤 (ensured 𝓤 H A finish.ended (finish.clauses 𝓤 H A mem run) (κ, tt) (x, (s, (y, (l, tt)))) tt z) (fact 𝓤 (ticksAs ws s (tickedLast ws l (soFar ws y)) z))
       said-finish z = exE 𝓤 _ (λ es. snd∗ 𝓤 (sem 𝓤 H A (lasts finish.ended (κ, tt) (x, (s, (y, (l, tt)))) es)) (fact 𝓤 (ticksAs ws s (tickedLast ws l (soFar ws y)) z)))
@@ -317,8 +318,8 @@ module _ {M : Type 1} (𝓤 : URA M) (H : Heap 𝓤) (A : Atoms 𝓤) (W : Given
             calls-at ! (fmOf 𝓤 H (W .laws) 𝓣) (ActNext 𝓤 H A mem run) known-next (to-next (t .out) (mach-out (t .out)) (t .held) (t .is) elem u ir)
             (and-then ! (load ! (from ! (stop !)) (look ! 4 refl)) (and-then ! (load ! (from ! (stop !)) (look ! 8 refl)) (and-then ! (load ! (from ! (stop !)) (look ! 6 refl)) (and-then ! (load ! (from ! (stop !)) (look ! 13 refl)) (no-more !))))) (λ v′.
             use1 W (later (some (λ (y : Ticked). (Token ⊛ ‵ (T.the-row .own y (v′ ∷ []))) ⊛ raw (ensured 𝓤 H A act-next.ended (act-next.clauses 𝓤 H A mem run) (κ, tt) (x, (t .out, (l, (elem, tt)))) tt y)))) (id⊢ 𝓤 _) $ await ! tt $ pick ! (λ y.
-            split ! $ move ! (1 ∷ []) $ use1 W (raw (fact 𝓤 (Next ws l (firedNext ws l elem (soFar ws (t .out))) y))) (said-next (t .out) (mach-out (t .out)) (t .held) (t .is) elem u ir y) $
-            heard ! (Next ws l (firedNext ws l elem (soFar ws (t .out))) y) (λ a. split ! $ move ! (1 ∷ []) $
+            split ! $ move ! (1 ∷ []) $ use1 W (raw (fact 𝓤 (Next ws l (t .out .state) (firedNext ws l elem (soFar ws (t .out))) y))) (said-next (t .out) (mach-out (t .out)) (t .held) (t .is) elem u ir y) $
+            heard ! (Next ws l (t .out .state) (firedNext ws l elem (soFar ws (t .out))) y) (λ a. split ! $ move ! (1 ∷ []) $
             peeks ! T.the-row (Is T.the-row) (shows 𝓤 H A T.the-row) y (v′ ∷ []) (λ iy. drop ! $
             land ! (from ! (stop !)) (store ! 8 refl (LL.lawful T.the-type T′.the-laws 𝓤 H A W .typed y _ iy .0)) $
             rewrite ! 8 (λ (us : List Val). ‵ (fat fullShare T′.mir l₅ 0 (head us))) (LL.tells T.the-type T′.the-laws y (v′ ∷ []) iy) refl $
@@ -328,7 +329,7 @@ module _ {M : Type 1} (𝓤 : URA M) (H : Heap 𝓤) (A : Atoms 𝓤) (W : Given
             -- the loop is left, and the rest of the body runs
             (λ no. rewrite ! 10 (λ (y : Bool). ‵ (fat fullShare tyBool l₇ 0 (vbool y))) (no .0) refl $
             leaves-loop ! (load ! (from ! (stop !)) (look ! 10 refl)) $ exec ! C Λ E m.t-4 (atRet E Post) $
-            use2 W (raw (Finish 𝓤 H A mem run .pre (to-finish (t .out) (mach-out (t .out)) (t .held) (t .is))) ⊛ ‵ Own) (goes-finish (t .out) (mach-out (t .out)) (t .held) (t .is)) $ split ! $
+            use2 W (raw (Finish 𝓤 H A mem run .pre (to-finish (t .out) (mach-out (t .out)) (t .held) (t .is))) ⊛ ‵ Own) (goes-finish (t .out) (mach-out (t .out)) (t .held) (t .is) (t .only)) $ split ! $
             calls-at ! (fmOf 𝓤 H (W .laws) 𝓣) (Finish 𝓤 H A mem run) known-finish (to-finish (t .out) (mach-out (t .out)) (t .held) (t .is))
             (and-then ! (load ! (from ! (stop !)) (look ! 4 refl)) (and-then ! (load ! (from ! (stop !)) (look ! 5 refl)) (and-then ! (load ! (from ! (stop !)) (look ! 8 refl)) (and-then ! (load ! (from ! (stop !)) (look ! 6 refl)) (no-more !))))) (λ v′.
             use1 W (later (some (λ (y : Ticked). (Token ⊛ ‵ (T.the-row .own y (v′ ∷ []))) ⊛ raw (ensured 𝓤 H A finish.ended (finish.clauses 𝓤 H A mem run) (κ, tt) (x, (s, (t .out, (l, tt)))) tt y)))) (id⊢ 𝓤 _) $ await ! tt $ pick ! (λ y.
@@ -367,21 +368,22 @@ module _ {M : Type 1} (𝓤 : URA M) (H : Heap 𝓤) (A : Atoms 𝓤) (W : Given
             falls : t .i < n → n - (t .i + 1) < n - t .i
             falls small = omega arith
 
-            next : t .i < n → (y : Ticked) → Is T.the-row y (mach-out y ∷ []) → Next ws l (firedNext ws l elem (soFar ws (t .out))) y → Turn ws s l ys
+            next : t .i < n → (y : Ticked) → Is T.the-row y (mach-out y ∷ []) → Next ws l (t .out .state) (firedNext ws l elem (soFar ws (t .out))) y → Turn ws s l ys
             next small y iy a = record {
               i = t .i + 1;
               out = y;
               within = omega arith;
               is = iy;
               held = a .held;
+              only = only-then (t .only) (a .only);
               left = ap (firedAll ws l (dropped (t .i + 1) ys)) (a .far) ∙ sym (one-more ws l ys (soFar ws (t .out)) (t .i) small) ∙ t .left;
             }
 
         -- before the first record
-        abbrev start : (y : Ticked) → Is T.the-row y (mach-out y ∷ []) → Next ws l (begun ws s l) y → Turn ws s l ys
-        start y is e = record { i = 0; out = y; within = omega arith; is = is; held = e .held; left = ap (firedAll ws l ys) (e .far) }
+        abbrev start : (y : Ticked) → Is T.the-row y (mach-out y ∷ []) → Next ws l s (begun ws s l) y → Turn ws s l ys
+        start y is e = record { i = 0; out = y; within = omega arith; is = is; held = e .held; only = e .only; left = ap (firedAll ws l ys) (e .far) }
 
-        rounds : (y : Ticked) (is : Is T.the-row y (mach-out y ∷ [])) (e : Next ws l (begun ws s l) y) → Sq W (Inv (start y is e)) (runs C Λ E m.t-3 (atRet E Post))
+        rounds : (y : Ticked) (is : Is T.the-row y (mach-out y ∷ [])) (e : Next ws l s (begun ws s l) y) → Sq W (Inv (start y is e)) (runs C Λ E m.t-3 (atRet E Post))
         rounds y is e = first ! $ blocks ! $ loops ! 𝓣 (Less ws s l ys) (ends ws s l ys) Inv turn (start y is e)
 
       walk : ent 𝓤 (onEntry 𝓤 H A propose.signature (κ, (κ′, tt)) (p, (q, tt)) (x, (s, (l, (record { ptr = (b, o); name = γ; now = ys }, tt)))) args) (WpFn 𝓤 H (𝓣 .C) (𝓣 .Λ) code.function (script ∷ mach s ∷ vint w32 l ∷ sliceVal (b, o) n ∷ []) Post)
@@ -398,7 +400,7 @@ module _ {M : Type 1} (𝓤 : URA M) (H : Heap 𝓤) (A : Atoms 𝓤) (W : Given
           calls-at ! (fmOf 𝓤 H (W .laws) 𝓣) (Begin 𝓤 H A mem run) known-begin to-begin
           (and-then ! (load ! (from ! (stop !)) (look ! 22 refl)) (and-then ! (load ! (from ! (stop !)) (look ! 20 refl)) (and-then ! (load ! (from ! (stop !)) (look ! 18 refl)) (no-more !)))) (λ v.
           use1 W (later (some (λ (r : Ticked). (Token ⊛ ‵ (T.the-row .own r (v ∷ []))) ⊛ raw (ensured 𝓤 H A begin.ended (begin.clauses 𝓤 H A mem run) (κ, tt) (x, (s, (l, tt))) tt r)))) (id⊢ 𝓤 _) $ await ! tt $ pick ! (λ r.
-          split ! $ move ! (1 ∷ []) $ use1 W (raw (fact 𝓤 (Next ws l (begun ws s l) r))) (said-begin r) $ heard ! (Next ws l (begun ws s l) r) (λ e. split ! $ move ! (1 ∷ []) $
+          split ! $ move ! (1 ∷ []) $ use1 W (raw (fact 𝓤 (Next ws l s (begun ws s l) r))) (said-begin r) $ heard ! (Next ws l s (begun ws s l) r) (λ e. split ! $ move ! (1 ∷ []) $
           peeks ! T.the-row (Is T.the-row) (shows 𝓤 H A T.the-row) r (v ∷ []) (λ is. drop ! $
           land ! (from ! (stop !)) (init ! 14 refl (LL.lawful T.the-type T′.the-laws 𝓤 H A W .typed r _ is .0)) $
           rewrite ! 14 (λ (us : List Val). ‵ (fat fullShare T′.mir l₅ 0 (head us))) (LL.tells T.the-type T′.the-laws r (v ∷ []) is) refl $

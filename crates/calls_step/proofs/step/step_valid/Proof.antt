@@ -71,7 +71,7 @@ returns-4 c =
     let h : a .l < locsIn (a .w .now) = omega (arith, c .before .before .before .before .before .before .before .before .before .before .before .before .before .before .before .word .ensures) in
     let s = c .before .before .before .before .before .before .before .before .sweep .ensures in
     let p = c .before .before .before .before .before .pass-all .ensures .1 (omega arith) in
-    rw (step-done (a .w .now) (record { c = a .c .now; n = a .n }) (a .l) v _ _ _ s h (length (a .records .now)) (omega arith) (omega (arith, p .1))) (step-took (a .w .now) (record { c = a .c .now; n = a .n }) (a .l) v _ _ _ s h _ _ _ _ (p .0) (p .1) (omega (arith, p .1)) (c .before .put-records .ensures))
+    rw (step-done (a .w .now) (record { c = a .c .now; n = a .n }) (a .l) v _ _ _ s h (length (a .records .now)) (omega arith) (omega (arith, p .1))) (step-took (a .w .now) (record { c = a .c .now; n = a .n }) (a .l) v _ _ _ s h _ _ _ _ (p .0) (p .1) (omega (arith, p .1)) (p .2) (c .before .put-records .ensures))
 
 pub step-valid-spec : {M : Type 1} → statement M
 step-valid-spec =

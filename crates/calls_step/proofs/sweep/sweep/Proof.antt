@@ -251,7 +251,7 @@ returns c =
     let st : State = record { c = a .c .now; n = a .n } in
     let i = c .before .loop2 .inv in
     let e = going-end (a .w .now) (a .l) st _ _ _ _ _ _ i (omega arith) (few-comps (a .w .now) st v) in
-    record { room = i .room; records = e .0; number = e .1; few = omega (arith, i .few-count, i .few-p); comps = e .2; slotted = i .size }
+    record { room = i .room; records = e .0; number = e .1; few = omega (arith, i .few-count, i .few-p); comps = e .2; slotted = i .size; past = i .past }
 
 pub sweep-spec : {M : Type 1} → statement M
 sweep-spec =

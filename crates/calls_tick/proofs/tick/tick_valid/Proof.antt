@@ -51,7 +51,7 @@ returns-4 c =
     let v = c .before .before .before .before .before .before .before .before .before .pre in
     let h : a .l < locsIn (a .w .now) = omega (arith, c .before .before .before .before .before .before .before .before .word .ensures) in
     let p = c .before .pass-all .ensures .1 (omega arith) in
-    rw (tick-done (a .w .now) (a .t2) (a .l) v h (sym (c .before .before .before .before .forced-at .ensures) ∙ c .before .before .before .if2 .left) (omega (arith, p .1))) (tick-took (a .w .now) (a .t2) _ (a .l) v (p .0) (p .1) (omega (arith, p .1)))
+    rw (tick-done (a .w .now) (a .t2) (a .l) v h (sym (c .before .before .before .before .forced-at .ensures) ∙ c .before .before .before .if2 .left) (omega (arith, p .1))) (tick-took (a .w .now) (a .t2) _ (a .l) v (p .0) (p .1) (omega (arith, p .1)) (p .2))
 
 pub tick-valid-spec : {M : Type 1} → statement M
 tick-valid-spec =

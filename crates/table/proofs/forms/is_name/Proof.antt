@@ -6,7 +6,7 @@ use mathlib.Core.Bool.{not}
 use borrow.Author.Needs.{needs}
 use Rattle.terms.specs.Characters.{classOf}
 use Rattle.table.specs.Tests.{firstOf}
-use Rattle.table.proofs.NamesForm.{name-is}
+use Rattle.table.proofs.NamesForm.{name-is, first-alnum}
 use Rattle.table.proofs.ValidBool.{failed, passed, and-false}
 use Rattle.table.proofs.forms.is_name.Statement.{statement}
 use Rattle.table.proofs.forms.is_name.Tie as tie
@@ -24,7 +24,10 @@ returns c =
     sym (name-is (k .s) (k .k) ∙ rw (failed (c .if1 .taken) e))
 
 solid-key-requires : tie.Need-solid-key-requires
-solid-key-requires c κs = search needs
+solid-key-requires c κs =
+    let k = c .before .before .before .args in
+    let e : c .before .first-ok .result ≡ firstOf (k .s) (classOf (k .k .a % 256)) = c .before .first-ok .ensures ∙ ap (λ b. firstOf (k .s) (classOf b)) (c .before .before .low-byte .ensures) in
+    first-alnum (k .s) (k .k .a % 256) (passed (c .if1 .left) e)
 
 returns-2 : tie.Need-returns-2
 returns-2 c =

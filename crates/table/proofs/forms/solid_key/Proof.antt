@@ -3,7 +3,7 @@
 use native.Mathlib.Omega.{arith}
 use mathlib.Core.Path.{sym, _∙_}
 use borrow.Author.Needs.{needs}
-use Rattle.table.proofs.NamesForm.{solid-1, solid-2, solid-3, solid-4}
+use Rattle.table.proofs.NamesForm.{solid-1, solid-2, solid-3, solid-4, solid-after}
 use Rattle.table.proofs.ValidBool.{failed, passed, and-false}
 use Rattle.table.proofs.forms.solid_key.Statement.{statement}
 use Rattle.table.proofs.forms.solid_key.Tie as tie
@@ -85,8 +85,8 @@ solid-word-requires-4 c κs = search needs
 
 returns-10 : tie.Need-returns-10
 returns-10 c =
-    let k = c .before .before .before .before .before .before .before .args .k in
-    rw (c .before .before .before .before .before .if1 .left, c .before .before .before .if5 .left, c .before .if8 .left) (c .solid-word4 .ensures ∙ sym (solid-1 (k .a)))
+    let k = c .before .before .before .before .before .before .before .before .args .k in
+    rw (c .before .before .before .before .before .before .if1 .left, c .before .before .before .before .if5 .left, c .before .before .if8 .left) (c .solid-word4 .ensures ∙ sym (solid-1 (k .a) ∙ solid-after (k .a) (omega arith) (c .before .before .before .before .before .before .before .before .pre)))
 
 pub solid-key-spec : {M : Type 1} → statement M
 solid-key-spec =

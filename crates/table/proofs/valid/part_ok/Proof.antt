@@ -8,8 +8,7 @@ use lib.Dec.{leb}
 use borrow.Author.Tests.{lt-leb}
 use borrow.Author.Needs.{needs}
 use Rattle.table.specs.Words.{field}
-use Rattle.table.specs.Valid.{scopeOk}
-use Rattle.table.specs.Tests.{restOk}
+use Rattle.table.specs.Tests.{slotsOk, restOk}
 use Rattle.table.proofs.WordsHead.{head-go, head-out, head-in, head-call, head-stop}
 use Rattle.table.proofs.ValidParts.{part-is, part-scope, part-kind, rest-stop, scope-passes, scope-large, scope-outside}
 use Rattle.table.proofs.ValidBool.{failed, passed}
@@ -66,7 +65,7 @@ returns-3 c =
     let w = a .w .now in
     let i = a .i in
     let k : field w i 0 ≡ 0 = sym (c .before .before .field2 .ensures) ∙ c .before .match .keys1 in
-    let s : scopeOk w i ≡ true = scope-passes w i (omega (arith, c .before .before .before .before .before .if1 .left, c .before .before .before .before .before .before .wide .ensures, c .before .before .before .before .before .before .before .field .ensures)) (passed (c .before .before .before .if2 .left) (c .before .before .before .before .slots-in .ensures)) in
+    let s : slotsOk w i ≡ true = scope-passes w i (omega (arith, c .before .before .before .before .before .if1 .left, c .before .before .before .before .before .before .wide .ensures, c .before .before .before .before .before .before .before .field .ensures)) (passed (c .before .before .before .if2 .left) (c .before .before .before .before .slots-in .ensures)) in
     let t : leb (field w i 0) 4 ≡ true = rw k in
     let z = head-stop w i (λ x. omega (arith, x, k)) (λ x. omega (arith, x, k)) (λ x. omega (arith, x, k)) (λ x. omega (arith, x, k)) in
     c .end-ok .ensures ∙ sym (part-is w i t s ∙ ap (restOk w i) z ∙ rest-stop w i)
@@ -77,7 +76,7 @@ returns-4 c =
     let w = a .w .now in
     let i = a .i in
     let k : field w i 0 ≡ 1 = sym (c .before .before .field2 .ensures) ∙ c .before .match .keys2 in
-    let s : scopeOk w i ≡ true = scope-passes w i (omega (arith, c .before .before .before .before .before .if1 .left, c .before .before .before .before .before .before .wide .ensures, c .before .before .before .before .before .before .before .field .ensures)) (passed (c .before .before .before .if2 .left) (c .before .before .before .before .slots-in .ensures)) in
+    let s : slotsOk w i ≡ true = scope-passes w i (omega (arith, c .before .before .before .before .before .if1 .left, c .before .before .before .before .before .before .wide .ensures, c .before .before .before .before .before .before .before .field .ensures)) (passed (c .before .before .before .if2 .left) (c .before .before .before .before .slots-in .ensures)) in
     let t : leb (field w i 0) 4 ≡ true = rw k in
     c .go-ok .ensures ∙ ap (restOk w i) (sym (head-go w i k)) ∙ sym (part-is w i t s)
 
@@ -87,7 +86,7 @@ returns-5 c =
     let w = a .w .now in
     let i = a .i in
     let k : field w i 0 ≡ 2 = sym (c .before .before .field2 .ensures) ∙ c .before .match .keys3 in
-    let s : scopeOk w i ≡ true = scope-passes w i (omega (arith, c .before .before .before .before .before .if1 .left, c .before .before .before .before .before .before .wide .ensures, c .before .before .before .before .before .before .before .field .ensures)) (passed (c .before .before .before .if2 .left) (c .before .before .before .before .slots-in .ensures)) in
+    let s : slotsOk w i ≡ true = scope-passes w i (omega (arith, c .before .before .before .before .before .if1 .left, c .before .before .before .before .before .before .wide .ensures, c .before .before .before .before .before .before .before .field .ensures)) (passed (c .before .before .before .if2 .left) (c .before .before .before .before .slots-in .ensures)) in
     let t : leb (field w i 0) 4 ≡ true = rw k in
     c .out-ok .ensures ∙ ap (restOk w i) (sym (head-out w i k)) ∙ sym (part-is w i t s)
 
@@ -97,7 +96,7 @@ returns-6 c =
     let w = a .w .now in
     let i = a .i in
     let k : field w i 0 ≡ 3 = sym (c .before .before .field2 .ensures) ∙ c .before .match .keys4 in
-    let s : scopeOk w i ≡ true = scope-passes w i (omega (arith, c .before .before .before .before .before .if1 .left, c .before .before .before .before .before .before .wide .ensures, c .before .before .before .before .before .before .before .field .ensures)) (passed (c .before .before .before .if2 .left) (c .before .before .before .before .slots-in .ensures)) in
+    let s : slotsOk w i ≡ true = scope-passes w i (omega (arith, c .before .before .before .before .before .if1 .left, c .before .before .before .before .before .before .wide .ensures, c .before .before .before .before .before .before .before .field .ensures)) (passed (c .before .before .before .if2 .left) (c .before .before .before .before .slots-in .ensures)) in
     let t : leb (field w i 0) 4 ≡ true = rw k in
     c .in-ok .ensures ∙ ap (restOk w i) (sym (head-in w i k)) ∙ sym (part-is w i t s)
 
@@ -107,7 +106,7 @@ returns-7 c =
     let w = a .w .now in
     let i = a .i in
     let k : field w i 0 ≡ 4 = sym (c .before .before .field2 .ensures) ∙ c .before .match .keys5 in
-    let s : scopeOk w i ≡ true = scope-passes w i (omega (arith, c .before .before .before .before .before .if1 .left, c .before .before .before .before .before .before .wide .ensures, c .before .before .before .before .before .before .before .field .ensures)) (passed (c .before .before .before .if2 .left) (c .before .before .before .before .slots-in .ensures)) in
+    let s : slotsOk w i ≡ true = scope-passes w i (omega (arith, c .before .before .before .before .before .if1 .left, c .before .before .before .before .before .before .wide .ensures, c .before .before .before .before .before .before .before .field .ensures)) (passed (c .before .before .before .if2 .left) (c .before .before .before .before .slots-in .ensures)) in
     let t : leb (field w i 0) 4 ≡ true = rw k in
     c .call-ok .ensures ∙ ap (restOk w i) (sym (head-call w i k)) ∙ sym (part-is w i t s)
 

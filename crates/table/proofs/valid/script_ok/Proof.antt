@@ -98,7 +98,7 @@ parts-ok-requires : tie.Need-parts-ok-requires
 parts-ok-requires c κs =
     let w = c .before .before .before .before .before .before .before .before .before .before .before .before .before .before .before .before .args .w .now in
     let h = counts-hold (c .before .before .before .before .before .before .before .before .before .before .before .before .before .before .before .before .args .w .now) (passed (c .before .before .before .before .before .before .before .before .before .before .before .before .before .before .if1 .left) (c .before .before .before .before .before .before .before .before .before .before .before .before .before .before .before .counts-ok .ensures)) in
-    (h .parts, h .defs)
+    (h .parts, h .defs, h .locs)
 
 returns-6 : tie.Need-returns-6
 unfolding scriptOk countsOk

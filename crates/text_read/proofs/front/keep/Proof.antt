@@ -25,8 +25,8 @@ element-copy-out-kept c = omega (arith, c .before .before .pre .0)
 mul-kept-2 : tie.Need-mul-kept-2 Inv-loop μ-loop
 mul-kept-2 c = omega (arith, c .before .before .before .pre .0)
 
-element-write-kept : tie.Need-element-write-kept Inv-loop μ-loop
-element-write-kept c = omega (arith, c .before .before .before .pre .0)
+slice-write-kept : tie.Need-slice-write-kept Inv-loop μ-loop
+slice-write-kept c = omega (arith, c .before .before .loop .inv .1 .size, c .before .before .before .pre .1)
 
 add-i : tie.Need-add-i Inv-loop μ-loop
 add-i c = omega (arith, c .before .before .before .pre .0)
@@ -40,8 +40,11 @@ loop-again c =
     let l = c .before .before .loop in
     (omega arith, front-more (l .i) (word (a .w .now)) _ _ (omega (arith, c .before .before .before .pre)) (l .inv .1))
 
+same-length : tie.Need-same-length Inv-loop μ-loop
+same-length c = c .before .loop .inv .1 .size
+
 returns : tie.Need-returns Inv-loop μ-loop
 returns c = front-all _ _ _ _ _ (omega (arith, c .before .loop .inv .0)) (c .before .loop .inv .1)
 
 pub keep-spec : {M : Type 1} → statement M
-keep-spec = tie.close (tie.spec Inv-loop μ-loop loop-holds mul-kept element-copy-out-kept mul-kept-2 element-write-kept add-i loop-less loop-again returns)
+keep-spec = tie.close (tie.spec Inv-loop μ-loop loop-holds mul-kept element-copy-out-kept mul-kept-2 slice-write-kept add-i loop-less loop-again same-length returns)

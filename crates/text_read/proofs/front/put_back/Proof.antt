@@ -17,19 +17,19 @@ loop-holds : tie.Need-loop-holds Inv-loop μ-loop
 loop-holds c = (omega arith, front-none _ _)
 
 mul-w : tie.Need-mul-w Inv-loop μ-loop
-mul-w c = omega (arith, c .before .before .pre .0)
+mul-w c = omega (arith, c .before .before .pre)
 
-element-copy-out-w : tie.Need-element-copy-out-w Inv-loop μ-loop
-element-copy-out-w c = omega (arith, c .before .before .pre .0)
+shared-slice-read-w : tie.Need-shared-slice-read-w Inv-loop μ-loop
+shared-slice-read-w c = omega (arith, c .before .before .before .pre)
 
 mul-w-2 : tie.Need-mul-w-2 Inv-loop μ-loop
-mul-w-2 c = omega (arith, c .before .before .before .pre .0)
+mul-w-2 c = omega (arith, c .before .before .before .pre)
 
 element-write-w : tie.Need-element-write-w Inv-loop μ-loop
-element-write-w c = omega (arith, c .before .before .before .pre .0)
+element-write-w c = omega (arith, c .before .before .before .pre)
 
 add-i : tie.Need-add-i Inv-loop μ-loop
-add-i c = omega (arith, c .before .before .before .pre .0)
+add-i c = omega (arith, c .before .before .before .pre)
 
 loop-less : tie.Need-loop-less Inv-loop μ-loop
 loop-less c = omega arith
@@ -44,4 +44,4 @@ returns : tie.Need-returns Inv-loop μ-loop
 returns c = front-all _ _ _ _ _ (omega (arith, c .before .loop .inv .0)) (c .before .loop .inv .1)
 
 pub put-back-spec : {M : Type 1} → statement M
-put-back-spec = tie.close (tie.spec Inv-loop μ-loop loop-holds mul-w element-copy-out-w mul-w-2 element-write-w add-i loop-less loop-again returns)
+put-back-spec = tie.close (tie.spec Inv-loop μ-loop loop-holds mul-w shared-slice-read-w mul-w-2 element-write-w add-i loop-less loop-again returns)

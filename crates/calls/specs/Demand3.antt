@@ -1,0 +1,42 @@
+-- Demand 3, from the text on: document 01, *Mixed runs*. Whatever bytes reading accepts, and whatever calls of any content are given one after another
+-- from what it returned, actions, ticks, steps and proposals at all locations mixed: the engine's last network is that of the grouped run, which begins
+-- at the text's own network. The proof is `demand-3` in proofs/Demand3.
+use Prim.Native.Nat.{ℕ, min}
+use mathlib.Core.List.{List}
+use mathlib.Core.Path.{_≡_}
+use lib.ListN.{length, replicate}
+use Rattle.terms.specs.Terms.{Network}
+use Rattle.terms.specs.Rules.{Answer}
+use Rattle.terms.specs.Rules.Answer.{refused, accepted}
+use Rattle.terms.specs.Runs.{Fed}
+use Rattle.table.specs.declared.State.{State}
+use Rattle.table.specs.Meaning.{defsOf, netOf, networkOf}
+use Rattle.text.specs.Questions.{read}
+use Rattle.text_read.specs.declared.Reading.{Reading}
+use Rattle.text_read.specs.Answer.{ReadsAs}
+use Rattle.calls.specs.declared.RanText.{RanText}
+use Rattle.calls.specs.Run.{Given, Run, Mixed, RunsAs}
+
+-- s the text, w and v the lent script before and after reading it, r what reading returned
+abbrev pub Demand3 : Type 0
+Demand3 =
+    (s w v : List ℕ) (r : Reading) (m : Network) → ReadsAs s w v r → read s ≡ accepted m
+    → (gs : List Given) (ks : List ℕ) (fs : List Fed) (last : State) → Run v (r .state) gs ks fs last
+    → (defsOf v ≡ m .defs) × Mixed m fs (netOf v last)
+
+-- ── the function that reads a text and runs a list ──
+abbrev pub textRefused : ℕ → RanText
+textRefused n = record { code = n; done = 0; state = record { c = replicate 3_072 0; n = 0 } }
+
+-- an accepted text: the list is run from the text's network, and demand 3 holds of it
+pub record TextRan (v : List ℕ) (m : Network) (es : List (List ℕ)) (before after : List ℕ) (r : RanText) : Type 0 where
+  pub code : r .code ≡ 0
+  pub done : r .done ≡ min (length es) (length before)
+  pub first : State
+  pub begins : networkOf v first ≡ m
+  pub ran : RunsAs v first es before after (r .done) (r .state)
+  pub mixed : Mixed m (ran .fs) (netOf v (r .state))
+
+abbrev pub textRuns : Answer Network → List ℕ → List ℕ → List (List ℕ) → List ℕ → List ℕ → RanText → Type 0
+textRuns (refused n) w v es before after r = (r ≡ textRefused n) × (v ≡ w) × (after ≡ before)
+textRuns (accepted m) w v es before after r = TextRan v m es before after r

@@ -1,0 +1,24 @@
+-- Question 17, then the number.
+-- By the answer to question 17.
+use mathlib.Core.Path.{sym, _∙_}
+use Rattle.host.specs.Shown.{locationsAnswer}
+use borrow.Author.Needs.{needs}
+use Rattle.host.proofs.locations.Statement.{statement}
+use Rattle.host.proofs.locations.Tie as tie
+
+is-valid-requires : tie.Need-is-valid-requires
+is-valid-requires c κs = search needs
+
+word-requires : tie.Need-word-requires
+word-requires c κs = search needs
+
+returns : tie.Need-returns
+unfolding locationsAnswer
+returns c = let v = sym (c .before .before .is-valid .ensures) ∙ c .before .if1 .taken in rw (v, c .word .ensures)
+
+returns-2 : tie.Need-returns-2
+unfolding locationsAnswer
+returns-2 c = let v = sym (c .before .is-valid .ensures) ∙ c .if1 .left in rw v
+
+pub locations-spec : {M : Type 1} → statement M
+locations-spec = tie.close (tie.spec is-valid-requires word-requires returns returns-2)

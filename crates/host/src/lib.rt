@@ -1,0 +1,152 @@
+// The library, in letters: what a host asks of a network to show it. No call here changes a network.
+//
+//   specs/Shown      what each call answers
+//   specs/Label      the label of an action, as the code gives it back
+//   proofs/Given     a text that was written beside the lent bytes and is handed over
+//   proofs/Labelled  the label of an action, from its components alone
+//   proofs/Lined     the line of a step, from the step on a copy
+//   proofs/Records   the labels of a step's records are those of the step
+//   proofs/Shows     a text that is never refused, in bytes of any number
+//   proofs/Enough    how many bytes hold every name, label and line
+//   label            the label of an action
+mod label;
+
+ghost use mathlib.Core.Path.{_≡_};
+ghost use Prim.Native.Nat.{_≤_};
+ghost use lib.ListN.{length, take};
+ghost use Rattle.table.specs.Words.{nameAt};
+ghost use Rattle.table.specs.Fire.{labelOf};
+ghost use Rattle.calls_act.specs.Fired.{tagOf};
+ghost use Rattle.text_write.specs.Answer.{Answers};
+ghost use Rattle.run_line.specs.Line.{labelText};
+ghost use Rattle.host.specs.Shown.{holding, locationsAnswer, counted, nameAnswer, labelAnswer, lineAnswer};
+use calls_act::Label;
+use calls_step::step::step_valid;
+use run_line::put_label;
+use run_line::put_line;
+use table::State;
+use table::valid::is_valid;
+use table::words::wide;
+use table::words::word;
+use text_write::Written;
+use text_write::put::put_all;
+use text_write::put::put_name;
+
+// How many: 0 or the number of the question answered by no, and the number, which is 0 with a refusal.
+#[repr(C)]
+pub struct Counted {
+    pub code: u32,
+    pub count: u32,
+}
+
+// The code of a refused action, or 0 and its label in numbers.
+pub struct Named {
+    pub code: u32,
+    pub label: Label,
+}
+
+// How many locations a network has: question 17.
+pub fn locations(w: &[u32; 99592], c: &[u32; 3072], n: usize) -> Counted
+    ensures { λ r. ⌜ r ≡ counted (locationsAnswer (now (w .entry)) (record { c = now (c .entry); n = n })) ⌝ }
+{
+    if is_valid(w, c, n) {
+        return Counted {
+            code: 0,
+            count: word(w, 1),
+        };
+    }
+    Counted { code: 17, count: 0 }
+}
+
+// The first k bytes of s to the front of the lent bytes, or 15.
+fn give(s: &[u8], k: usize, buf: &mut [u8]) -> Written
+    requires { ⌜ k ≤ length (now s) ⌝ }
+    ensures { λ r. ⌜ Answers (holding (take k (now (s .entry))) (length (now (buf .entry)))) (now (buf .entry)) r (now (buf .exit)) ⌝ }
+{
+    if buf.len() < k {
+        return Written { code: 15, len: 0 };
+    }
+    put_all(&s[..k], buf, 0);
+    Written { code: 0, len: k }
+}
+
+// The name that stands at the word o, or 15. A name has at most 16 bytes.
+fn give_name(w: &[u32; 99592], o: usize, buf: &mut [u8]) -> Written
+    ensures { λ r. ⌜ Answers (holding (nameAt (now (w .entry)) o) (length (now (buf .entry)))) (now (buf .entry)) r (now (buf .exit)) ⌝ }
+{
+    let mut text = [0; 16];
+    let k = put_name(w, o, &mut text, 0);
+    give(&text, k, buf)
+}
+
+// The name of the location numbered l: questions 17, 8, 15.
+pub fn location_name(w: &[u32; 99592], c: &[u32; 3072], n: usize, l: u32, buf: &mut [u8]) -> Written
+    ensures { λ r. ⌜ Answers (nameAnswer (now (w .entry)) (record { c = now (c .entry); n = n }) l (length (now (buf .entry)))) (now (buf .entry)) r (now (buf .exit)) ⌝ }
+{
+    if !is_valid(w, c, n) {
+        return Written { code: 17, len: 0 };
+    }
+    if word(w, 1) <= l {
+        return Written { code: 8, len: 0 };
+    }
+    give_name(w, 776 + wide(l) * 4, buf)
+}
+
+// The text of a label, or 15. It has at most 51 bytes.
+fn give_label(w: &[u32; 99592], x: Label, buf: &mut [u8]) -> Written
+    ensures { λ r. ⌜ Answers (holding (labelText (labelOf (now (w .entry)) (tagOf x))) (length (now (buf .entry)))) (now (buf .entry)) r (now (buf .exit)) ⌝ }
+{
+    let mut text = [0; 51];
+    let k = put_label(w, x, &mut text, 0);
+    give(&text, k, buf)
+}
+
+// The label of an action: questions 17, 8 to 11 as for the action itself, 15. Asked of the network before a step, the records of the step have the
+// labels that its actions have when they fire (proofs/Records, by the law step-before of run_line).
+pub fn action_label(
+    w: &[u32; 99592],
+    c: &[u32; 3072],
+    n: usize,
+    kind: u32,
+    p: usize,
+    q: usize,
+    buf: &mut [u8],
+) -> Written
+    ensures { λ r. ⌜ Answers (labelAnswer (now (w .entry)) (record { c = now (c .entry); n = n }) kind p q (length (now (buf .entry)))) (now (buf .entry)) r (now (buf .exit)) ⌝ }
+{
+    if !is_valid(w, c, n) {
+        return Written { code: 17, len: 0 };
+    }
+    let r = label::label_at(w, c, n, kind, p, q);
+    if r.code != 0 {
+        return Written {
+            code: r.code,
+            len: 0,
+        };
+    }
+    let x = r.label;
+    give_label(w, x, buf)
+}
+
+// The line of the step at the location numbered l, as `timorun` prints it: questions 17, 8, 13 as for the step, 15. The step is made on a copy. A line
+// has at most 13,329 bytes.
+pub fn step_line(w: &[u32; 99592], c: &[u32; 3072], n: usize, l: u32, buf: &mut [u8]) -> Written
+    ensures { λ r. ⌜ Answers (lineAnswer (now (w .entry)) (record { c = now (c .entry); n = n }) l (length (now (buf .entry)))) (now (buf .entry)) r (now (buf .exit)) ⌝ }
+{
+    if !is_valid(w, c, n) {
+        return Written { code: 17, len: 0 };
+    }
+    let st = State { c: *c, n: n };
+    let mut next = st;
+    let mut records = [[0; 3]; 256];
+    let s = step_valid(w, &mut next.c, n, l, &mut records);
+    if s.code != 0 {
+        return Written {
+            code: s.code,
+            len: 0,
+        };
+    }
+    let mut text = [0; 13329];
+    let k = put_line(w, st, l, &records, s.count, &mut text, 0);
+    give(&text, k, buf)
+}

@@ -1,0 +1,61 @@
+-- The definition is held, the number of arguments is its own, and they are locations.
+-- By each test's answer, at the fields that it read.
+use native.Mathlib.Omega.{arith}
+use mathlib.Core.Path.{_≡_, sym, ap, _∙_}
+use mathlib.Core.Bool.{false≢true}
+use borrow.Author.Needs.{needs}
+use Rattle.table.specs.Words.{field, arityOf}
+use Rattle.table.proofs.valid.plain_call.Statement.{statement}
+use Rattle.table.proofs.valid.plain_call.Tie as tie
+
+field-requires : tie.Need-field-requires
+field-requires c κs = search needs
+
+word-requires : tie.Need-word-requires
+word-requires c κs = search needs
+
+returns : tie.Need-returns
+returns c = λ e. absurd (false≢true e)
+
+field-requires-2 : tie.Need-field-requires-2
+field-requires-2 c κs = search needs
+
+wide-requires : tie.Need-wide-requires
+wide-requires c κs = search needs
+
+arity-of-requires : tie.Need-arity-of-requires
+arity-of-requires c κs = search needs
+
+returns-2 : tie.Need-returns-2
+returns-2 c = λ e. absurd (false≢true e)
+
+plain-args-requires : tie.Need-plain-args-requires
+plain-args-requires c κs = search needs
+
+returns-3 : tie.Need-returns-3
+returns-3 c =
+    let a = c .before .before .before .before .before .before .before .before .args in
+    let w = a .w .now in
+    let i = a .i in
+    let f = c .before .before .before .before .before .before .before .field .ensures in
+    let m = c .before .before .before .before .field2 .ensures in
+    λ e.
+    record {
+      held = omega (arith, c .before .before .before .before .before .if1 .left, c .before .before .before .before .before .before .word .ensures, f);
+      count = sym m ∙ c .before .if2 .left ∙ c .before .before .arity-of .ensures ∙ ap (arityOf w) (c .before .before .before .wide .ensures ∙ f);
+      located = λ k b d. c .plain-args .ensures e k (omega (arith, m)) d;
+    }
+
+pub plain-call-spec : {M : Type 1} → statement M
+plain-call-spec =
+    tie.close
+    (tie.spec
+    field-requires
+    word-requires
+    returns
+    field-requires-2
+    wide-requires
+    arity-of-requires
+    returns-2
+    plain-args-requires
+    returns-3)
