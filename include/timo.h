@@ -14,6 +14,11 @@
  * that it is lent; what it only reads may: timo_same can be given one network
  * twice. Nothing else may write any of it during the call.
  *
+ * Words that are not in use. After an accepted action, tick, step or proposal
+ * every word past the components in use is as it was; reading returns zeros
+ * there, and leaves every word of the script behind the row of its last part as
+ * it was.
+ *
  * Threads. The calls share nothing and keep nothing, so that several threads
  * may call at the same time, also with one script.
  *
@@ -21,8 +26,8 @@
  * for reading, 4 MiB for the printout, 1 MiB for every other call.
  *
  * The words of a script and of a state, and what they stand for, are set out in
- * docs/LAYOUT.md, the contract of each call in crates/timo/src/lib.rt. The questions, with an example of each, are listed in
- * docs/PRINTOUT.md.
+ * docs/LAYOUT.md, the contract of each call in crates/timo/src/lib.rt. The
+ * questions, with an example of each, are listed in docs/PRINTOUT.md.
  */
 #ifndef TIMO_H
 #define TIMO_H

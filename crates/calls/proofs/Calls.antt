@@ -6,19 +6,23 @@ use native.Mathlib.Numerals.{add-one}
 use lib.ListN.{length, getD, set, take, drop, length-set}
 use lib.Seq.{take-suc, take-suc-set}
 use mathlib.Core.List.{List, [], _∷_, _++_, map, append-assoc, append-nil}
+use mathlib.Core.Bool.{Bool, true, false, cond}
 use mathlib.Core.Path.{_≡_, refl, sym, ap, subst, _∙_}
+use lib.Dec.{eqb}
 use Rattle.terms.specs.Terms.{Component}
 use Rattle.terms.specs.Rules.{Answer, Acted as ActedBy, _>>=_}
 use Rattle.terms.specs.Rules.Answer.{refused, accepted}
 use Rattle.table.specs.declared.State.{State}
+use Rattle.table.specs.Valid.{valid}
 use Rattle.calls_act.specs.declared.Acted.{Acted}
-use Rattle.calls_act.specs.Acted.{actsAs}
+use Rattle.calls_act.specs.Acted.{actionAnswer, actsAs}
 use Rattle.calls_tick.specs.declared.Ticked.{Ticked}
-use Rattle.calls_tick.specs.Ticked.{ticksAs}
+use Rattle.calls_tick.specs.Ticked.{tickAnswer, refusal, ticksAs}
 use Rattle.table.proofs.Fires.{map-append}
 use Rattle.terms.specs.Runs.{Fed}
 use Rattle.calls_step.specs.declared.Stepped.{Stepped}
 use Rattle.calls_step.specs.Stepped.{Step, left, stepsAs}
+use Rattle.calls.specs.Run.Given.{action, tick}
 use Rattle.calls.specs.Run.{Given, answerTo, does, feeds, givenBy, Run, RunsAs}
 use Rattle.calls.proofs.Demand3.{mixed-calls}
 use Rattle.calls.specs.Run.Run.{over, then}
@@ -36,6 +40,26 @@ pub step-does : (w : List ℕ) (st : State) (x : Answer Step) (r : Stepped) (cs 
 step-does w st (refused n) r cs before after e = (ap (λ z. z .code) (e .0), λ i. record { c = e .1 i; n = e .0 i .n })
 step-does w st (accepted s) r cs before after t = record { code = t .code; comps = t .comps; good = t .good; past = t .past }
 
+-- ── question 17 in a list of actions and ticks: no call changes its answer ──
+not-good : (w : List ℕ) (st : State) (e : List ℕ) → valid w st ≡ false → answerTo w st (givenBy e) ≡ refused 17
+unfolding givenBy
+not-good w st e v = go (eqb (getD e 0 0) 4)
+  where
+    go : (b : Bool) → answerTo w st (cond b (tick (getD e 1 0)) (action (getD e 0 0) (getD e 1 0) (getD e 2 0))) ≡ refused 17
+    go true = unfold answerTo tickAnswer in rw v
+    go false = unfold answerTo actionAnswer in rw v
+
+pub refused-17 : (w : List ℕ) (st : State) (e : List ℕ) (r : Ticked) → valid w st ≡ false → r ≡ refusal 17 st → does w st (answerTo w st (givenBy e)) (r .code) (r .state)
+refused-17 w st e r v q = rw (not-good w st e v) (ap (λ z. z .code) q, ap (λ z. z .state) q)
+
+still-good : (w : List ℕ) (st next : State) (e : List ℕ) (k : ℕ) (b : Bool) → valid w st ≡ b → does w st (answerTo w st (givenBy e)) k next → valid w next ≡ b
+still-good w st next e k true v d = go (answerTo w st (givenBy e)) d
+  where
+    go : (x : Answer (List Component)) → does w st x k next → valid w next ≡ true
+    go (refused n) d = ap (valid w) (d .1) ∙ v
+    go (accepted cs) d = d .good
+still-good w st next e k false v d = let f = subst (λ x. does w st x k next) (not-good w st e v) d in ap (valid w) (f .1) ∙ v
+
 run-more : (w : List ℕ) {st mid next : State} {gs : List Given} {ks : List ℕ} {fs : List Fed} (g : Given) (k : ℕ) → Run w st gs ks fs mid → does w mid (answerTo w mid g) k next
     → Run w st (gs ++ (g ∷ [])) (ks ++ (k ∷ [])) (fs ++ feeds w mid g) next
 run-more w {mid = mid} {next = next} g k over d = subst (λ fs. Run w mid (g ∷ []) (k ∷ []) fs next) (append-nil (feeds w mid g)) (then d over)
@@ -49,9 +73,10 @@ pub record Running (w : List ℕ) (st : State) (calls : List (List ℕ)) (before
   pub fs : List Fed
   pub runs : Run w st (map givenBy (take j calls)) (take j after) fs now
   pub rest : drop j after ≡ drop j before
+  pub good : valid w now ≡ valid w st
 
 pub running-begin : (w : List ℕ) (st : State) (calls : List (List ℕ)) (codes : List ℕ) → Running w st calls codes codes 0 st
-running-begin w st calls codes = record { size = refl; few = omega arith; fs = []; runs = over; rest = refl }
+running-begin w st calls codes = record { size = refl; few = omega arith; fs = []; runs = over; rest = refl; good = refl }
 
 -- the call of three numbers is the call of the list that has them first
 same-call : (e : List ℕ) → givenBy (getD e 0 0 ∷ getD e 1 0 ∷ getD e 2 0 ∷ []) ≡ givenBy e
@@ -81,6 +106,7 @@ running-more w st now next calls before after j k h b r d =
       fs = r .fs ++ feeds w now g;
       runs = subst (λ z. Run w st z (take (j + 1) (set after j k)) (r .fs ++ feeds w now g) next) e (subst (λ z. Run w st (map givenBy (take j calls) ++ (g ∷ [])) z (r .fs ++ feeds w now g) next) c one);
       rest = ap (λ m. drop m (set after j k)) (add-one j) ∙ drop-past after j k ∙ one-later j after ∙ ap (drop 1) (r .rest) ∙ sym (one-later j before) ∙ sym (ap (λ m. drop m before) (add-one j));
+      good = still-good w now next _ k (valid w st) (r .good) d;
     }
 
 -- at its end: what `run` gives

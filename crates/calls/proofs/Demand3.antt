@@ -56,19 +56,19 @@ demand-3 s w v r m a e gs ks fs last g =
 
 -- ── reading a text and running a list ──
 module _ (s w v : List ℕ) (r : Reading) (a : ReadsAs s w v r) (es : List (List ℕ)) (before : List ℕ) where
-  pub text-refused : (r .code ≡ 0 → ⊥) → textRuns (read s) w v es before before (record { code = r .code; done = 0; state = r .state })
+  pub text-refused : (r .code ≡ 0 → ⊥) → textRuns s (read s) w v es before before (record { code = r .code; done = 0; state = r .state })
   text-refused n = go (read s) a
     where
-      go : (x : Answer Network) → readsAs s x w w v r → textRuns x w v es before before (record { code = r .code; done = 0; state = r .state })
+      go : (x : Answer Network) → readsAs s x w w v r → textRuns s x w v es before before (record { code = r .code; done = 0; state = r .state })
       go (refused m) t = (ap (λ z. record { code = z .code; done = 0; state = z .state }) (t .0), t .1, refl)
       go (accepted m) t = absurd (n (t .code))
 
   pub text-ran : (after : List ℕ) (done : ℕ) (last : State) → r .code ≡ 0 → RunsAs v (r .state) es before after done last → done ≡ min (length es) (length before)
-      → textRuns (read s) w v es before after (record { code = 0; done = done; state = last })
+      → textRuns s (read s) w v es before after (record { code = 0; done = done; state = last })
   text-ran after done last z x d = go (read s) refl
     where
-      go : (y : Answer Network) → read s ≡ y → textRuns y w v es before after (record { code = 0; done = done; state = last })
+      go : (y : Answer Network) → read s ≡ y → textRuns s y w v es before after (record { code = 0; done = done; state = last })
       go (refused m) e = let b : Among (refused m) = subst Among e (among s) in let t = subst (λ y. readsAs s y w w v r) e a in absurd (omega (arith, b .0, ap (λ q. q .code) (t .0)))
       go (accepted m) e =
           let p = read-plain s w v r m a e in
-          record { code = refl; done = d; first = r .state; begins = p .0; ran = x; mixed = subst (λ n. Mixed n (x .fs) (netOf v last)) (p .0) (x .mixed (p .1)) }
+          record { code = refl; done = d; reading = r; took = subst (λ y. readsAs s y w w v r) e a; ran = x; mixed = subst (λ n. Mixed n (x .fs) (netOf v last)) (p .0) (x .mixed (p .1)) }

@@ -10,12 +10,13 @@ use Rattle.terms.specs.Rules.{Answer}
 use Rattle.terms.specs.Rules.Answer.{refused, accepted}
 use Rattle.terms.specs.Runs.{Fed}
 use Rattle.table.specs.declared.State.{State}
-use Rattle.table.specs.Meaning.{defsOf, netOf, networkOf}
+use Rattle.table.specs.Meaning.{defsOf, netOf}
 use Rattle.text.specs.Questions.{read}
 use Rattle.text_read.specs.declared.Reading.{Reading}
-use Rattle.text_read.specs.Answer.{ReadsAs}
+use Rattle.text_read.specs.Answer.{Took, ReadsAs}
 use Rattle.calls.specs.declared.RanText.{RanText}
 use Rattle.calls.specs.Run.{Given, Run, Mixed, RunsAs}
+use Rattle.table.specs.Words.{stateWords}
 
 -- s the text, w and v the lent script before and after reading it, r what reading returned
 abbrev pub Demand3 : Type 0
@@ -26,17 +27,18 @@ Demand3 =
 
 -- ── the function that reads a text and runs a list ──
 abbrev pub textRefused : ℕ → RanText
-textRefused n = record { code = n; done = 0; state = record { c = replicate 3_072 0; n = 0 } }
+textRefused n = record { code = n; done = 0; state = record { c = replicate stateWords 0; n = 0 } }
 
--- an accepted text: the list is run from the text's network, and demand 3 holds of it
-pub record TextRan (v : List ℕ) (m : Network) (es : List (List ℕ)) (before after : List ℕ) (r : RanText) : Type 0 where
+-- an accepted text: it is read as the read call does it, the list is run from what was read, and demand 3 holds of it
+pub record TextRan (s w v : List ℕ) (m : Network) (es : List (List ℕ)) (before after : List ℕ) (r : RanText) : Type 0 where
   pub code : r .code ≡ 0
   pub done : r .done ≡ min (length es) (length before)
-  pub first : State
-  pub begins : networkOf v first ≡ m
-  pub ran : RunsAs v first es before after (r .done) (r .state)
+  pub reading : Reading
+  pub took : Took s w v m reading
+  pub ran : RunsAs v (reading .state) es before after (r .done) (r .state)
   pub mixed : Mixed m (ran .fs) (netOf v (r .state))
 
-abbrev pub textRuns : Answer Network → List ℕ → List ℕ → List (List ℕ) → List ℕ → List ℕ → RanText → Type 0
-textRuns (refused n) w v es before after r = (r ≡ textRefused n) × (v ≡ w) × (after ≡ before)
-textRuns (accepted m) w v es before after r = TextRan v m es before after r
+-- the text s was read into the lent script, w before and v after, and then the list es was run
+abbrev pub textRuns : List ℕ → Answer Network → List ℕ → List ℕ → List (List ℕ) → List ℕ → List ℕ → RanText → Type 0
+textRuns s (refused n) w v es before after r = (r ≡ textRefused n) × (v ≡ w) × (after ≡ before)
+textRuns s (accepted m) w v es before after r = TextRan s w v m es before after r

@@ -23,7 +23,9 @@ use calls_step::Stepped;
 use calls_step::step;
 use calls_tick::Ticked;
 use calls_tick::tick;
+use table::Script;
 use table::State;
+use table::Words;
 use table::valid;
 
 // How many calls of a list were made, and the last state.
@@ -40,7 +42,7 @@ pub struct RanText {
 }
 
 // An action of the given kind at p, and q for kind 3: questions 17, 8, 9, 10, 11.
-pub fn action(w: &[u32; 99592], st: State, kind: u32, p: usize, q: usize) -> Acted
+pub fn action(w: &Script, st: State, kind: u32, p: usize, q: usize) -> Acted
     ensures { λ r. ⌜ actsAs (now (w .entry)) st (actionAnswer (now (w .entry)) st kind p q) r ⌝ }
 {
     if valid::is_valid(w, &st.c, st.n) {
@@ -50,7 +52,7 @@ pub fn action(w: &[u32; 99592], st: State, kind: u32, p: usize, q: usize) -> Act
 }
 
 // The tick at the location numbered l: questions 17, 8, 12, 13.
-pub fn tick_at(w: &[u32; 99592], st: State, l: u32) -> Ticked
+pub fn tick_at(w: &Script, st: State, l: u32) -> Ticked
     ensures { λ r. ⌜ ticksAs (now (w .entry)) st (tickAnswer (now (w .entry)) st l) r ⌝ }
 {
     if valid::is_valid(w, &st.c, st.n) {
@@ -61,13 +63,7 @@ pub fn tick_at(w: &[u32; 99592], st: State, l: u32) -> Ticked
 
 // The step at the location numbered l: questions 17, 8, 15, 13. The components are lent, n of them in use, and left as the step leaves them; the records
 // of its actions stand in front of what was in the buffer.
-pub fn step_at(
-    w: &[u32; 99592],
-    c: &mut [u32; 3072],
-    n: usize,
-    l: u32,
-    records: &mut [[u32; 3]],
-) -> Stepped
+pub fn step_at(w: &Script, c: &mut Words, n: usize, l: u32, records: &mut [[u32; 3]]) -> Stepped
     ensures { λ r. ⌜ stepsAs (now (w .entry)) (record { c = now (c .entry); n = n }) (stepAnswer (now (w .entry)) (record { c = now (c .entry); n = n }) l (length (now (records .entry)))) r (now (c .exit)) (now (records .entry)) (now (records .exit)) ⌝ }
 {
     if valid::is_valid(w, c, n) {
@@ -77,7 +73,7 @@ pub fn step_at(
 }
 
 // The locations where the tick is not allowed: question 17 first.
-pub fn forced_report(w: &[u32; 99592], c: &[u32; 3072], n: usize) -> Report
+pub fn forced_report(w: &Script, c: &Words, n: usize) -> Report
     ensures { λ r. ⌜ r ≡ forcedReport (now (w .entry)) (record { c = now (c .entry); n = n }) ⌝ }
 {
     if valid::is_valid(w, c, n) {

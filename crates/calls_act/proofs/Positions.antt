@@ -31,6 +31,7 @@ use Rattle.calls_act.specs.Acted.{refusal, Took, actsAs, Leaves, leaves,
 use Rattle.table.proofs.InUse.{comps-length, in-use, valid-script, valid-state, comp-held}
 use Rattle.table.proofs.Tags.{GoodTag, actedTag, act-tagged}
 use Rattle.table.proofs.Stores.{comps-put, past-put, past-then}
+use Rattle.table.specs.Words.{compSize, stateWords}
 
 -- ── lists ──
 at-getD : {A : Type 0} (xs : List A) (p : ℕ) (d : A) → p < length xs → at xs p ≡ accepted (getD xs p d)
@@ -88,7 +89,7 @@ acts-as w st a r e l = subst (λ x. actsAs w st x r) (act-means w (v .0) (compsO
 abbrev placed : List ℕ → List Comp → Answer Left → Answer ActedAt
 placed ps cs x = x >>= λ f. accepted (record { tag = f .tag; comps = setAll ps (f .after) cs })
 
-put-left : (w : List ℕ) (st : State) (p : ℕ) (f : Fired) (x : Answer Left) → oneOf f ≡ x → p < st .n → (st .n ≤ 256) → length (st .c) ≡ 3_072 → okA (goodLeft w) (oneOf f) ≡ true
+put-left : (w : List ℕ) (st : State) (p : ℕ) (f : Fired) (x : Answer Left) → oneOf f ≡ x → p < st .n → (st .n ≤ 256) → length (st .c) ≡ stateWords → okA (goodLeft w) (oneOf f) ≡ true
     → leaves st (placed (p ∷ []) (compsOf st) x) (settledOne st p f)
 unfolding oneOf setAll every
 put-left w st p f x e h n l v = subst (λ x. leaves st (placed (p ∷ []) (compsOf st) x) (settledOne st p f)) e (go (eqb (f .code) 0) v)
@@ -99,13 +100,13 @@ put-left w st p f x e h n l v = subst (λ x. leaves st (placed (p ∷ []) (comps
     go true g = record { code = refl; tag = refl; comps = comps-put st p (f .comp) h n l (comp-fine w (f .comp) (and-inv (compOk w (f .comp)) _ g .0) .slots); size = refl; past = past-put (st .c) (st .n) p (f .comp) h }
     go false g = refl
 
-put-two : (w : List ℕ) (st : State) (p q : ℕ) (m : Met) (x : Answer Left) → twoOf m ≡ x → p < st .n → q < st .n → st .n ≤ 256 → length (st .c) ≡ 3_072 → okA (goodLeft w) (twoOf m) ≡ true
+put-two : (w : List ℕ) (st : State) (p q : ℕ) (m : Met) (x : Answer Left) → twoOf m ≡ x → p < st .n → q < st .n → st .n ≤ 256 → length (st .c) ≡ stateWords → okA (goodLeft w) (twoOf m) ≡ true
     → leaves st (placed (p ∷ q ∷ []) (compsOf st) x) (settledTwo st p q m)
 unfolding twoOf setAll every
 put-two w st p q m x e h k n l v = subst (λ x. leaves st (placed (p ∷ q ∷ []) (compsOf st) x) (settledTwo st p q m)) e (go (eqb (m .code) 0) v)
   where
     both : length (m .sender .vals) ≡ 8 → length (m .receiver .vals) ≡ 8 → compsOf (putAt (putAt st p (m .sender)) q (m .receiver)) ≡ R.set (R.set (compsOf st) p (m .sender)) q (m .receiver)
-    both u v = comps-put (putAt st p (m .sender)) q (m .receiver) k n (length-sets (st .c) (p * 12) (wordsIn (m .sender)) ∙ l) v ∙ ap (λ z. R.set z q (m .receiver)) (comps-put st p (m .sender) h n l u)
+    both u v = comps-put (putAt st p (m .sender)) q (m .receiver) k n (length-sets (st .c) (p * compSize) (wordsIn (m .sender)) ∙ l) v ∙ ap (λ z. R.set z q (m .receiver)) (comps-put st p (m .sender) h n l u)
 
     go : (b : Bool) → okA (goodLeft w) (cond b (accepted (record { tag = tagOf (m .label); after = m .sender ∷ m .receiver ∷ [] })) (refused (m .code))) ≡ true
         → leaves st (placed (p ∷ q ∷ []) (compsOf st) (cond b (accepted (record { tag = tagOf (m .label); after = m .sender ∷ m .receiver ∷ [] })) (refused (m .code))))
@@ -116,7 +117,7 @@ put-two w st p q m x e h k n l v = subst (λ x. leaves st (placed (p ∷ q ∷ [
         record { code = refl; tag = refl; comps = both (comp-fine w (m .sender) (i .0) .slots) (comp-fine w (m .receiver) (j .0) .slots); size = refl; past = past-then (omega arith) (past-put (st .c) (st .n) p (m .sender) h) (past-put (putAt st p (m .sender) .c) (st .n) q (m .receiver) k) }
     go false g = refl
 
-pub one-left : (w : List ℕ) (st : State) (k : Kind) (p : ℕ) (f : Fired) → valid w st ≡ true → length (st .c) ≡ 3_072 → p < st .n → oneOf f ≡ aloneAt w k (compIn (st .c) p)
+pub one-left : (w : List ℕ) (st : State) (k : Kind) (p : ℕ) (f : Fired) → valid w st ≡ true → length (st .c) ≡ stateWords → p < st .n → oneOf f ≡ aloneAt w k (compIn (st .c) p)
     → leaves st (actOn w (single k p) (compsOf st)) (settledOne st p f)
 unfolding actOn leftBy positions
 one-left w st k p f v l h e =
@@ -124,7 +125,7 @@ one-left w st k p f v l h e =
     let z : at (compsOf st) p ≡ accepted (compIn (st .c) p) = at-in-use st p h in
     rw z (put-left w st p f (aloneAt w k (compIn (st .c) p)) e h n l (subst (λ x. okA (goodLeft w) x ≡ true) (sym e) (alone-kept w (valid-parts w st v .0) k (compIn (st .c) p) (comp-fine w _ (comp-good w st v p h)))))
 
-pub two-left : (w : List ℕ) (st : State) (p q : ℕ) (m : Met) → valid w st ≡ true → length (st .c) ≡ 3_072 → p < st .n → q < st .n → twoOf m ≡ togetherAt w (compIn (st .c) p) (compIn (st .c) q)
+pub two-left : (w : List ℕ) (st : State) (p q : ℕ) (m : Met) → valid w st ≡ true → length (st .c) ≡ stateWords → p < st .n → q < st .n → twoOf m ≡ togetherAt w (compIn (st .c) p) (compIn (st .c) q)
     → leaves st (actOn w (pair p q) (compsOf st)) (settledTwo st p q m)
 unfolding actOn leftBy positions
 two-left w st p q m v l h k e =

@@ -18,6 +18,7 @@ use Rattle.calls_act.specs.declared.Fired.{Fired}
 use Rattle.calls_act.specs.declared.Met.{Met}
 use Rattle.calls_act.specs.declared.Acted.{Acted}
 use Rattle.calls_act.specs.Fired.{noLabel, tagOf}
+use Rattle.table.specs.Words.{compSize}
 
 -- x, if question n is answered by yes
 abbrev pub asked : {A : Type 0} → ℕ → Bool → Answer A → Answer A
@@ -72,7 +73,7 @@ leaves st (refused n) r = r ≡ refusal n st
 leaves st (accepted a) r = Leaves st a r
 
 abbrev pub putAt : State → ℕ → Comp → State
-putAt st p v = record { c = sets (st .c) (p * 12) (wordsIn v); n = st .n }
+putAt st p v = record { c = sets (st .c) (p * compSize) (wordsIn v); n = st .n }
 
 -- what one component at p has become
 abbrev pub settledOne : State → ℕ → Fired → Acted

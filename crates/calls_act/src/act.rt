@@ -9,12 +9,14 @@ ghost use Rattle.table.specs.Meaning.{compIn, compsOf};
 ghost use Rattle.table.specs.Valid.{valid};
 ghost use Rattle.table.specs.Fire.{actOn};
 ghost use Rattle.calls_act.specs.Acted.{actionRule, refusal, actsAs, leaves, settledOne, settledTwo};
+ghost use Rattle.table.specs.Words.{stateWords};
 use super::Acted;
 use super::Fired;
 use super::Label;
 use super::Met;
 use super::fire;
 use table::Comp;
+use table::Script;
 use table::State;
 use table::comps::comp_at;
 use table::comps::put_comp;
@@ -36,7 +38,7 @@ pub fn refuse(code: u32, st: State) -> Acted
 
 fn entry(st: State, p: usize) -> Comp
     requires { ⌜ p < 256 ⌝ }
-    ensures { λ r. ⌜ (r ≡ compIn (st .c) p) × (length (st .c) ≡ 3072) ⌝ }
+    ensures { λ r. ⌜ (r ≡ compIn (st .c) p) × (length (st .c) ≡ stateWords) ⌝ }
 {
     comp_at(&st.c, p)
 }
@@ -79,7 +81,7 @@ fn settle_two(st: State, p: usize, q: usize, m: Met) -> Acted
     refuse(m.code, st)
 }
 
-fn act_call(w: &[u32; 99592], st: State, p: usize) -> Acted
+fn act_call(w: &Script, st: State, p: usize) -> Acted
     requires { ⌜ valid (now w) st ≡ true ⌝ }
     ensures { λ r. ⌜ leaves st (actOn (now (w .entry)) (single calls p) (compsOf st)) r ⌝ }
 {
@@ -91,7 +93,7 @@ fn act_call(w: &[u32; 99592], st: State, p: usize) -> Acted
     settle_one(st, p, f)
 }
 
-fn act_move(w: &[u32; 99592], st: State, p: usize) -> Acted
+fn act_move(w: &Script, st: State, p: usize) -> Acted
     requires { ⌜ valid (now w) st ≡ true ⌝ }
     ensures { λ r. ⌜ leaves st (actOn (now (w .entry)) (single moves p) (compsOf st)) r ⌝ }
 {
@@ -103,7 +105,7 @@ fn act_move(w: &[u32; 99592], st: State, p: usize) -> Acted
     settle_one(st, p, f)
 }
 
-fn act_pair(w: &[u32; 99592], st: State, p: usize, q: usize) -> Acted
+fn act_pair(w: &Script, st: State, p: usize, q: usize) -> Acted
     requires { ⌜ valid (now w) st ≡ true ⌝ }
     ensures { λ r. ⌜ leaves st (actOn (now (w .entry)) (pair p q) (compsOf st)) r ⌝ }
 {
@@ -120,7 +122,7 @@ fn act_pair(w: &[u32; 99592], st: State, p: usize, q: usize) -> Acted
 }
 
 // Questions 8 to 11 of an action, and what it leaves.
-pub fn act_valid(w: &[u32; 99592], st: State, kind: u32, p: usize, q: usize) -> Acted
+pub fn act_valid(w: &Script, st: State, kind: u32, p: usize, q: usize) -> Acted
     requires { ⌜ valid (now w) st ≡ true ⌝ }
     ensures { λ r. ⌜ actsAs (now (w .entry)) st (actionRule (now (w .entry)) st kind p q) r ⌝ }
 {

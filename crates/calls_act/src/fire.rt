@@ -13,6 +13,7 @@ use super::Label;
 use super::Met;
 use table::Comp;
 use table::Head;
+use table::Script;
 use table::words;
 
 // What a value's word stands for.
@@ -84,7 +85,7 @@ fn arg_in(vals: [u32; 8], n: u32, k: u32, v: u32) -> u32
 }
 
 // A call by c, whose part is h.
-fn becomes_call(w: &[u32; 99592], c: Comp, h: Head) -> Fired
+fn becomes_call(w: &Script, c: Comp, h: Head) -> Fired
     requires { ⌜ callee h < 32 ⌝ }
     ensures { λ r. ⌜ oneOf r ≡ becomesAt (now (w .entry)) calls c h ⌝ }
 {
@@ -207,7 +208,7 @@ fn meet(c: Comp, e: Comp, h: Head, g: Head) -> Met
 }
 
 // Questions 9 and 10 of a call by c.
-pub fn fire_call(w: &[u32; 99592], c: Comp) -> Fired
+pub fn fire_call(w: &Script, c: Comp) -> Fired
     requires { ⌜ (scriptOk (now w) ≡ true) × (compOk (now w) c ≡ true) ⌝ }
     ensures { λ r. ⌜ oneOf r ≡ aloneAt (now (w .entry)) calls c ⌝ }
 {
@@ -219,7 +220,7 @@ pub fn fire_call(w: &[u32; 99592], c: Comp) -> Fired
 }
 
 // Questions 9 and 10 of a move of c.
-pub fn fire_move(w: &[u32; 99592], c: Comp) -> Fired
+pub fn fire_move(w: &Script, c: Comp) -> Fired
     requires { ⌜ (scriptOk (now w) ≡ true) × (compOk (now w) c ≡ true) ⌝ }
     ensures { λ r. ⌜ oneOf r ≡ aloneAt (now (w .entry)) moves c ⌝ }
 {
@@ -231,7 +232,7 @@ pub fn fire_move(w: &[u32; 99592], c: Comp) -> Fired
 }
 
 // Questions 9 to 11 of a communication of c and e.
-pub fn fire_pair(w: &[u32; 99592], c: Comp, e: Comp) -> Met
+pub fn fire_pair(w: &Script, c: Comp, e: Comp) -> Met
     requires { ⌜ (scriptOk (now w) ≡ true) × (compOk (now w) c ≡ true) × (compOk (now w) e ≡ true) ⌝ }
     ensures { λ r. ⌜ twoOf r ≡ togetherAt (now (w .entry)) c e ⌝ }
 {

@@ -6,6 +6,8 @@ ghost use Rattle.table.specs.Valid.{scriptOk, compOk, valid};
 ghost use Rattle.calls_forced.specs.Marked.{Marked, earIn, earOf};
 use table::Comp;
 use table::Head;
+use table::Script;
+use table::Words;
 use table::comps::comp_at;
 use table::words;
 
@@ -22,7 +24,7 @@ fn ear_in(l: u32, h: Head) -> usize
 }
 
 // The place of what c hears; 4,096 where it hears nothing.
-fn ear_of(w: &[u32; 99592], c: Comp) -> usize
+fn ear_of(w: &Script, c: Comp) -> usize
     requires { ⌜ (scriptOk (now w) ≡ true) × (compOk (now w) c ≡ true) ⌝ }
     ensures { λ r. ⌜ r ≡ earOf (now (w .entry)) c ⌝ }
 {
@@ -33,7 +35,7 @@ fn ear_of(w: &[u32; 99592], c: Comp) -> usize
     ear_in(c.loc, h)
 }
 
-pub(crate) fn ears_in(w: &[u32; 99592], c: &[u32; 3072], n: usize) -> [u32; 4096]
+pub(crate) fn ears_in(w: &Script, c: &Words, n: usize) -> [u32; 4096]
     requires { ⌜ valid (now w) (record { c = now c; n = n }) ≡ true ⌝ }
     ensures { λ r. ⌜ Marked 4096 (earOf (now (w .entry))) (compsOf (record { c = now (c .entry); n = n })) r ⌝ }
 {

@@ -7,6 +7,8 @@ ghost use Rattle.calls_forced.specs.Report.{mask, forcedTest, reportOf};
 use super::Report;
 use super::ears;
 use super::press;
+use table::Script;
+use table::Words;
 
 fn set_of(marks: &[u32; 64]) -> u64
     ensures { λ r. ⌜ r ≡ mask (isMarked (now (marks .entry))) 0 64 ⌝ }
@@ -22,7 +24,7 @@ fn set_of(marks: &[u32; 64]) -> u64
     x
 }
 
-pub fn forced_valid(w: &[u32; 99592], c: &[u32; 3072], n: usize) -> Report
+pub fn forced_valid(w: &Script, c: &Words, n: usize) -> Report
     requires { ⌜ valid (now w) (record { c = now c; n = n }) ≡ true ⌝ }
     ensures { λ r. ⌜ r ≡ reportOf (forcedTest (now (w .entry)) (record { c = now (c .entry); n = n })) ⌝ }
 {

@@ -6,6 +6,8 @@ ghost use Rattle.table.specs.Valid.{scriptOk, compOk, valid};
 ghost use Rattle.calls_forced.specs.Marked.{Marked, isHeard, pressesIn, pressOf};
 use table::Comp;
 use table::Head;
+use table::Script;
+use table::Words;
 use table::comps::comp_at;
 use table::words;
 
@@ -31,7 +33,7 @@ fn presses(ears: &[u32; 4096], l: u32, t: u32, h: Head) -> bool
 }
 
 // The location of c if it presses there, else 64.
-fn press_of(w: &[u32; 99592], ears: &[u32; 4096], c: Comp) -> usize
+fn press_of(w: &Script, ears: &[u32; 4096], c: Comp) -> usize
     requires { ⌜ (scriptOk (now w) ≡ true) × (compOk (now w) c ≡ true) ⌝ }
     ensures { λ r. ⌜ r ≡ pressOf (now (w .entry)) (now (ears .entry)) c ⌝ }
 {
@@ -45,12 +47,7 @@ fn press_of(w: &[u32; 99592], ears: &[u32; 4096], c: Comp) -> usize
     64
 }
 
-pub(crate) fn pressed_in(
-    w: &[u32; 99592],
-    c: &[u32; 3072],
-    n: usize,
-    ears: &[u32; 4096],
-) -> [u32; 64]
+pub(crate) fn pressed_in(w: &Script, c: &Words, n: usize, ears: &[u32; 4096]) -> [u32; 64]
     requires { ⌜ valid (now w) (record { c = now c; n = n }) ≡ true ⌝ }
     ensures { λ r. ⌜ Marked 64 (pressOf (now (w .entry)) (now (ears .entry))) (compsOf (record { c = now (c .entry); n = n })) r ⌝ }
 {

@@ -10,20 +10,21 @@ use super::Record;
 use calls_act::act;
 use calls_tick::Ticked;
 use calls_tick::tick;
+use table::Script;
 use table::State;
 use table::comps::comp_at;
 use table::valid;
 use table::words;
 
 // Question 17.
-pub(crate) fn stands(w: &[u32; 99592], st: State) -> bool
+pub(crate) fn stands(w: &Script, st: State) -> bool
     ensures { λ r. ⌜ r ≡ valid (now (w .entry)) st ⌝ }
 {
     valid::is_valid(w, &st.c, st.n)
 }
 
 // Question 8 of the location.
-pub(crate) fn begin(w: &[u32; 99592], st: State, l: u32) -> Ticked
+pub(crate) fn begin(w: &Script, st: State, l: u32) -> Ticked
     requires { ⌜ valid (now w) st ≡ true ⌝ }
     ensures { λ r. ⌜ Next (now (w .entry)) l st (begun (now (w .entry)) st l) r ⌝ }
 {
@@ -44,7 +45,7 @@ pub fn going(code: u32, i: usize, n: usize) -> bool
 }
 
 // One action, if those before it were accepted: questions 8 to 11, then 16. An action fires where its component at p stands.
-pub(crate) fn act_next(w: &[u32; 99592], out: Ticked, l: u32, r: Record) -> Ticked
+pub(crate) fn act_next(w: &Script, out: Ticked, l: u32, r: Record) -> Ticked
     requires { ⌜ Held (now w) l out ⌝ }
     ensures { λ x. ⌜ Next (now (w .entry)) l (out .state) (firedNext (now (w .entry)) l r (soFar (now (w .entry)) out)) x ⌝ }
 {
@@ -69,7 +70,7 @@ pub(crate) fn act_next(w: &[u32; 99592], out: Ticked, l: u32, r: Record) -> Tick
 }
 
 // The tick, if all actions were accepted. A refusal has the state as it was before the first of them.
-pub(crate) fn finish(w: &[u32; 99592], st: State, out: Ticked, l: u32) -> Ticked
+pub(crate) fn finish(w: &Script, st: State, out: Ticked, l: u32) -> Ticked
     requires { ⌜ Held (now w) l out × InUseOnly st (out .state) ⌝ }
     ensures { λ r. ⌜ ticksAs (now (w .entry)) st (tickedLast (now (w .entry)) l (soFar (now (w .entry)) out)) r ⌝ }
 {

@@ -6,10 +6,11 @@ use super::next;
 use super::propose;
 use calls_tick::Ticked;
 use calls_tick::tick;
+use table::Script;
 use table::State;
 
 // A proposal: question 17, then 8 for the location, the records in order, and the tick; all or none.
-pub fn propose(w: &[u32; 99592], st: State, l: u32, records: &[Record]) -> Ticked
+pub fn propose(w: &Script, st: State, l: u32, records: &[Record]) -> Ticked
     ensures { λ r. ⌜ ticksAs (now (w .entry)) st (proposeAnswer (now (w .entry)) st l (now (records .entry))) r ⌝ }
 {
     if next::stands(w, st) {

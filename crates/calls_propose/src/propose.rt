@@ -7,10 +7,11 @@ ghost use Rattle.calls_propose.specs.Proposed.{proposeRule};
 use super::Record;
 use super::next;
 use calls_tick::Ticked;
+use table::Script;
 use table::State;
 
 // Question 8 of the location; each record in list order, up to the first no; then the tick.
-pub(crate) fn propose_valid(w: &[u32; 99592], st: State, l: u32, records: &[Record]) -> Ticked
+pub(crate) fn propose_valid(w: &Script, st: State, l: u32, records: &[Record]) -> Ticked
     requires { ⌜ valid (now w) st ≡ true ⌝ }
     ensures { λ r. ⌜ ticksAs (now (w .entry)) st (proposeRule (now (w .entry)) st l (now (records .entry))) r ⌝ }
 {

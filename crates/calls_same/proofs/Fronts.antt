@@ -7,7 +7,7 @@ use mathlib.Core.Bool.{true}
 use mathlib.Core.Path.{_≡_, refl, ap, sym, _∙_}
 use lib.ListN.{length, getD, take, length-map}
 use lib.Seq.{getD-take, length-take-le}
-use Rattle.table.specs.Words.{nameAt, arityOf, paramsAt, paramsOf, field, namesAt}
+use Rattle.table.specs.Words.{rowSize, nameAt, arityOf, paramsAt, paramsOf, field, namesAt}
 use Rattle.table.specs.Valid.{refOk}
 use Rattle.table.proofs.Tests.{every-getD}
 use Rattle.text_write.specs.Values.{valueSeen}
@@ -65,9 +65,9 @@ args-long w i vs v j us m n h k e = fronts-long (valueSeen w i vs) (valueSeen v 
 
 -- ── parameters ──
 abbrev paramWords : ℕ → List ℕ
-paramWords d = (14 + d * 24) ∷ (18 + d * 24) ∷ (22 + d * 24) ∷ (26 + d * 24) ∷ []
+paramWords d = (14 + d * rowSize) ∷ (18 + d * rowSize) ∷ (22 + d * rowSize) ∷ (26 + d * rowSize) ∷ []
 
-param-word : (d m : ℕ) → m < 4 → getD (paramWords d) m 0 ≡ 14 + d * 24 + m * 4
+param-word : (d m : ℕ) → m < 4 → getD (paramWords d) m 0 ≡ 14 + d * rowSize + m * 4
 param-word d zero h = omega arith
 param-word d (suc zero) h = omega arith
 param-word d (suc (suc zero)) h = omega arith
@@ -78,14 +78,14 @@ module _ (w : List ℕ) (d : ℕ) (v : List ℕ) (e : ℕ) where
   params-are : (w : List ℕ) (d n : ℕ) → arityOf w d ≡ n → paramsOf w d ≡ map (nameAt w) (take n (paramWords d))
   params-are w d n q = unfold paramsOf paramsAt in rw q
 
-  pub params-same : (n : ℕ) → n ≤ 4 → arityOf w d ≡ n → arityOf v e ≡ n → ((m : ℕ) → m < n → nameAt w (14 + d * 24 + m * 4) ≡ nameAt v (14 + e * 24 + m * 4)) → paramsOf w d ≡ paramsOf v e
+  pub params-same : (n : ℕ) → n ≤ 4 → arityOf w d ≡ n → arityOf v e ≡ n → ((m : ℕ) → m < n → nameAt w (14 + d * rowSize + m * 4) ≡ nameAt v (14 + e * rowSize + m * 4)) → paramsOf w d ≡ paramsOf v e
   params-same n h p q f =
       params-are w d n p
       ∙ fronts-same (nameAt w) (nameAt v) (paramWords d) (paramWords e) n h h
       (λ m l. ap (nameAt w) (param-word d m (omega arith)) ∙ f m l ∙ sym (ap (nameAt v) (param-word e m (omega arith))))
       ∙ sym (params-are v e n q)
 
-  pub params-at : (n : ℕ) → n ≤ 4 → arityOf w d ≡ n → arityOf v e ≡ n → (m : ℕ) → m < n → paramsOf w d ≡ paramsOf v e → nameAt w (14 + d * 24 + m * 4) ≡ nameAt v (14 + e * 24 + m * 4)
+  pub params-at : (n : ℕ) → n ≤ 4 → arityOf w d ≡ n → arityOf v e ≡ n → (m : ℕ) → m < n → paramsOf w d ≡ paramsOf v e → nameAt w (14 + d * rowSize + m * 4) ≡ nameAt v (14 + e * rowSize + m * 4)
   params-at n h p q m l f =
       sym (ap (nameAt w) (param-word d m (omega arith)))
       ∙ fronts-at (nameAt w) (nameAt v) (paramWords d) (paramWords e) n m l h h (sym (params-are w d n p) ∙ f ∙ params-are v e n q)

@@ -24,6 +24,8 @@ ghost use Rattle.table.specs.Valid.{valid};
 ghost use Rattle.calls_same.specs.Answer.{sameAnswer, compared};
 use network::defs_within;
 use network::same_comps;
+use table::Script;
+use table::Words;
 use table::valid::is_valid;
 
 // What the call returns: 0 or the number of the question answered by no, and whether the networks are the same.
@@ -34,14 +36,7 @@ pub struct Compared {
 }
 
 // The call `same`, on the networks of two scripts or of one script twice: 17 of both, then the comparison.
-pub fn same(
-    w: &[u32; 99592],
-    a: &[u32; 3072],
-    n: usize,
-    v: &[u32; 99592],
-    b: &[u32; 3072],
-    m: usize,
-) -> Compared
+pub fn same(w: &Script, a: &Words, n: usize, v: &Script, b: &Words, m: usize) -> Compared
     ensures { λ r. ⌜ r ≡ compared (sameAnswer (now (w .entry)) (record { c = now (a .entry); n = n }) (now (v .entry)) (record { c = now (b .entry); n = m })) ⌝ }
 {
     if !is_valid(w, a, n) {
@@ -63,14 +58,7 @@ pub fn same(
 }
 
 // Two networks that pass question 17: the same definitions as a set, and the same components in any order, each as often.
-fn same_networks(
-    w: &[u32; 99592],
-    a: &[u32; 3072],
-    n: usize,
-    v: &[u32; 99592],
-    b: &[u32; 3072],
-    m: usize,
-) -> bool
+fn same_networks(w: &Script, a: &Words, n: usize, v: &Script, b: &Words, m: usize) -> bool
     requires { ⌜ (valid (now w) (record { c = now a; n = n }) ≡ true) × (valid (now v) (record { c = now b; n = m }) ≡ true) ⌝ }
     ensures { λ r. ⌜ r ≡ same (networkOf (now (w .entry)) (record { c = now (a .entry); n = n })) (networkOf (now (v .entry)) (record { c = now (b .entry); n = m })) ⌝ }
 {

@@ -13,6 +13,10 @@ use super::parts::same_name;
 use super::parts::same_part;
 use super::parts::same_process;
 use table::Comp;
+use table::LOCATIONS;
+use table::ROW_SIZE;
+use table::Script;
+use table::Words;
 use table::comps::comp_at;
 use table::words::arity_of;
 use table::words::body_of;
@@ -21,7 +25,7 @@ use table::words::word;
 
 // ── components ──
 // The owners or their absence, and the processes.
-fn same_held(w: &[u32; 99592], c: Comp, v: &[u32; 99592], d: Comp) -> bool
+fn same_held(w: &Script, c: Comp, v: &Script, d: Comp) -> bool
     requires { ⌜ (scriptOk (now w) ≡ true) × (compOk (now w) c ≡ true) × (scriptOk (now v) ≡ true) × (compOk (now v) d ≡ true) ⌝ }
     ensures { λ r. ⌜ Decides r (parted (now (w .entry)) c) (parted (now (v .entry)) d) ⌝ }
 {
@@ -31,7 +35,12 @@ fn same_held(w: &[u32; 99592], c: Comp, v: &[u32; 99592], d: Comp) -> bool
         if 64 <= d.mark {
             return false;
         }
-        if !same_name(w, 776 + wide(c.mark) * 4, v, 776 + wide(d.mark) * 4) {
+        if !same_name(
+            w,
+            LOCATIONS + wide(c.mark) * 4,
+            v,
+            LOCATIONS + wide(d.mark) * 4,
+        ) {
             return false;
         }
         return same_process(w, wide(c.place), &x, v, wide(d.place), &y);
@@ -43,25 +52,23 @@ fn same_held(w: &[u32; 99592], c: Comp, v: &[u32; 99592], d: Comp) -> bool
 }
 
 // The components c and d: location, owner, parts.
-fn same_comp(w: &[u32; 99592], c: Comp, v: &[u32; 99592], d: Comp) -> bool
+fn same_comp(w: &Script, c: Comp, v: &Script, d: Comp) -> bool
     requires { ⌜ (scriptOk (now w) ≡ true) × (compOk (now w) c ≡ true) × (scriptOk (now v) ≡ true) × (compOk (now v) d ≡ true) ⌝ }
     ensures { λ r. ⌜ r ≡ equal (means (now (w .entry)) c) (means (now (v .entry)) d) ⌝ }
 {
-    if !same_name(w, 776 + wide(c.loc) * 4, v, 776 + wide(d.loc) * 4) {
+    if !same_name(
+        w,
+        LOCATIONS + wide(c.loc) * 4,
+        v,
+        LOCATIONS + wide(d.loc) * 4,
+    ) {
         return false;
     }
     same_held(w, c, v, d)
 }
 
 // The same components in any order, each as often: each of the first n in order uses up the first equal one of the second m.
-pub(crate) fn same_comps(
-    w: &[u32; 99592],
-    a: &[u32; 3072],
-    n: usize,
-    v: &[u32; 99592],
-    b: &[u32; 3072],
-    m: usize,
-) -> bool
+pub(crate) fn same_comps(w: &Script, a: &Words, n: usize, v: &Script, b: &Words, m: usize) -> bool
     requires { ⌜ (valid (now w) (record { c = now a; n = n }) ≡ true) × (valid (now v) (record { c = now b; n = m }) ≡ true) ⌝ }
     ensures { λ r. ⌜ r ≡ reordered (netOf (now (w .entry)) (record { c = now (a .entry); n = n })) (netOf (now (v .entry)) (record { c = now (b .entry); n = m })) ⌝ }
 {
@@ -91,7 +98,7 @@ pub(crate) fn same_comps(
 
 // ── definitions ──
 // The first n parameters of the definitions d and e.
-fn same_params(w: &[u32; 99592], d: usize, v: &[u32; 99592], e: usize) -> bool
+fn same_params(w: &Script, d: usize, v: &Script, e: usize) -> bool
     requires { ⌜ (scriptOk (now w) ≡ true) × (d < defsIn (now w)) × (scriptOk (now v) ≡ true) × (e < defsIn (now v)) ⌝ }
     ensures { λ r. ⌜ Decides r (paramsOf (now (w .entry)) d) (paramsOf (now (v .entry)) e) ⌝ }
 {
@@ -101,7 +108,7 @@ fn same_params(w: &[u32; 99592], d: usize, v: &[u32; 99592], e: usize) -> bool
     }
     let mut k = 0;
     while k < n {
-        if !same_name(w, 14 + d * 24 + k * 4, v, 14 + e * 24 + k * 4) {
+        if !same_name(w, 14 + d * ROW_SIZE + k * 4, v, 14 + e * ROW_SIZE + k * 4) {
             return false;
         }
         k += 1;
@@ -110,11 +117,11 @@ fn same_params(w: &[u32; 99592], d: usize, v: &[u32; 99592], e: usize) -> bool
 }
 
 // The definitions d and e: identifier, parameters, body.
-fn same_def(w: &[u32; 99592], d: usize, v: &[u32; 99592], e: usize) -> bool
+fn same_def(w: &Script, d: usize, v: &Script, e: usize) -> bool
     requires { ⌜ (scriptOk (now w) ≡ true) × (d < defsIn (now w)) × (scriptOk (now v) ≡ true) × (e < defsIn (now v)) ⌝ }
     ensures { λ r. ⌜ r ≡ sameDef (defOf (now (w .entry)) d) (defOf (now (v .entry)) e) ⌝ }
 {
-    if !same_name(w, 10 + d * 24, v, 10 + e * 24) {
+    if !same_name(w, 10 + d * ROW_SIZE, v, 10 + e * ROW_SIZE) {
         return false;
     }
     if !same_params(w, d, v, e) {
@@ -125,7 +132,7 @@ fn same_def(w: &[u32; 99592], d: usize, v: &[u32; 99592], e: usize) -> bool
 }
 
 // Is the definition d of w among those of v?
-fn def_among(w: &[u32; 99592], d: usize, v: &[u32; 99592]) -> bool
+fn def_among(w: &Script, d: usize, v: &Script) -> bool
     requires { ⌜ (scriptOk (now w) ≡ true) × (d < defsIn (now w)) × (scriptOk (now v) ≡ true) ⌝ }
     ensures { λ r. ⌜ r ≡ some (sameDef (defOf (now (w .entry)) d)) (defsOf (now (v .entry))) ⌝ }
 {
@@ -141,7 +148,7 @@ fn def_among(w: &[u32; 99592], d: usize, v: &[u32; 99592]) -> bool
 }
 
 // Is each definition of w among those of v?
-pub(crate) fn defs_within(w: &[u32; 99592], v: &[u32; 99592]) -> bool
+pub(crate) fn defs_within(w: &Script, v: &Script) -> bool
     requires { ⌜ (scriptOk (now w) ≡ true) × (scriptOk (now v) ≡ true) ⌝ }
     ensures { λ r. ⌜ r ≡ within (defsOf (now (w .entry))) (defsOf (now (v .entry))) ⌝ }
 {

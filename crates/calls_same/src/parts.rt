@@ -12,6 +12,12 @@ ghost use Rattle.table.specs.Valid.{refOk};
 ghost use Rattle.text_write.specs.Values.{Places, valueSeen, partSeen, processSeen};
 ghost use Rattle.calls_same.specs.Decides.{Decides};
 ghost use Rattle.calls_same.specs.Pieces.{opening, kindAt, resolved, named, ValueOk, ArgsOk, argsSeen, callSeen, goSeen, innerSeen};
+use table::CHANNELS;
+use table::LOCATIONS;
+use table::OWNS;
+use table::PARTS;
+use table::ROW_SIZE;
+use table::Script;
 use table::words::field;
 use table::words::is_named;
 use table::words::key_at;
@@ -21,7 +27,7 @@ use table::words::word;
 
 // ── names, timers, values ──
 // Are the name at o in w and the name at p in v one?
-pub fn same_name(w: &[u32; 99592], o: usize, v: &[u32; 99592], p: usize) -> bool
+pub fn same_name(w: &Script, o: usize, v: &Script, p: usize) -> bool
     ensures { λ r. ⌜ Decides r (nameAt (now (w .entry)) o) (nameAt (now (v .entry)) p) ⌝ }
 {
     let x = key_at(w, o);
@@ -58,7 +64,7 @@ fn resolve(vals: &[u32; 8], a: u32) -> u32
 }
 
 // Two resolved words at the parts i and j.
-fn same_named(w: &[u32; 99592], i: usize, a: u32, v: &[u32; 99592], j: usize, b: u32) -> bool
+fn same_named(w: &Script, i: usize, a: u32, v: &Script, j: usize, b: u32) -> bool
     requires { ⌜ (i < 4096) × (j < 4096) ⌝ }
     ensures { λ r. ⌜ Decides r (named (now (w .entry)) i a) (named (now (v .entry)) j b) ⌝ }
 {
@@ -68,23 +74,23 @@ fn same_named(w: &[u32; 99592], i: usize, a: u32, v: &[u32; 99592], j: usize, b:
         if 64 <= n {
             return false;
         }
-        return same_name(w, 776 + m * 4, v, 776 + n * 4);
+        return same_name(w, LOCATIONS + m * 4, v, LOCATIONS + n * 4);
     }
     if n < 64 {
         return false;
     }
-    let o = wide(word(w, 1288 + i * 24 + (9 + (m - 64))));
-    let p = wide(word(v, 1288 + j * 24 + (9 + (n - 64))));
+    let o = wide(word(w, PARTS + i * ROW_SIZE + (9 + (m - 64))));
+    let p = wide(word(v, PARTS + j * ROW_SIZE + (9 + (n - 64))));
     same_name(w, o, v, p)
 }
 
 // Two values at the parts i and j.
 fn same_value(
-    w: &[u32; 99592],
+    w: &Script,
     i: usize,
     vals: &[u32; 8],
     a: u32,
-    v: &[u32; 99592],
+    v: &Script,
     j: usize,
     vals2: &[u32; 8],
     b: u32,
@@ -101,10 +107,10 @@ fn same_value(
 // ── parts up to their inner processes ──
 // The first n arguments of the calls at i and j.
 fn same_args(
-    w: &[u32; 99592],
+    w: &Script,
     i: usize,
     vals: &[u32; 8],
-    v: &[u32; 99592],
+    v: &Script,
     j: usize,
     vals2: &[u32; 8],
     n: usize,
@@ -133,14 +139,7 @@ fn same_args(
 }
 
 // The calls at i and j.
-fn same_call(
-    w: &[u32; 99592],
-    i: usize,
-    vals: &[u32; 8],
-    v: &[u32; 99592],
-    j: usize,
-    vals2: &[u32; 8],
-) -> bool
+fn same_call(w: &Script, i: usize, vals: &[u32; 8], v: &Script, j: usize, vals2: &[u32; 8]) -> bool
     requires { ⌜ Places (now w) i (now vals) × Places (now v) j (now vals2) ⌝ }
     requires { ⌜ (kindAt (now w) i ≡ 4) × (kindAt (now v) j ≡ 4) ⌝ }
     ensures { λ r. ⌜ Decides r (callSeen (now (w .entry)) i (now (vals .entry))) (callSeen (now (v .entry)) j (now (vals2 .entry))) ⌝ }
@@ -149,8 +148,8 @@ fn same_call(
     if n != field(v, j, 3) {
         return false;
     }
-    let o = 10 + wide(field(w, i, 1)) * 24;
-    let p = 10 + wide(field(v, j, 1)) * 24;
+    let o = 10 + wide(field(w, i, 1)) * ROW_SIZE;
+    let p = 10 + wide(field(v, j, 1)) * ROW_SIZE;
     if !same_name(w, o, v, p) {
         return false;
     }
@@ -158,22 +157,22 @@ fn same_call(
 }
 
 // The channels of the parts at i and j.
-fn same_channel(w: &[u32; 99592], i: usize, v: &[u32; 99592], j: usize) -> bool
+fn same_channel(w: &Script, i: usize, v: &Script, j: usize) -> bool
     requires { ⌜ (i < 4096) × (j < 4096) ⌝ }
     ensures { λ r. ⌜ Decides r (chanName (now (w .entry)) (field (now (w .entry)) i 1)) (chanName (now (v .entry)) (field (now (v .entry)) j 1)) ⌝ }
 {
-    let o = 1032 + wide(field(w, i, 1)) * 4;
-    let p = 1032 + wide(field(v, j, 1)) * 4;
+    let o = CHANNELS + wide(field(w, i, 1)) * 4;
+    let p = CHANNELS + wide(field(v, j, 1)) * 4;
     same_name(w, o, v, p)
 }
 
 // The timers t and u, and the values of the parts at i and j.
 fn same_timed(
-    w: &[u32; 99592],
+    w: &Script,
     i: usize,
     t: u32,
     vals: &[u32; 8],
-    v: &[u32; 99592],
+    v: &Script,
     j: usize,
     u: u32,
     vals2: &[u32; 8],
@@ -190,11 +189,11 @@ fn same_timed(
 
 // The parts at i and j with the timers t and u, up to their inner processes.
 fn same_open(
-    w: &[u32; 99592],
+    w: &Script,
     i: usize,
     t: u32,
     vals: &[u32; 8],
-    v: &[u32; 99592],
+    v: &Script,
     j: usize,
     u: u32,
     vals2: &[u32; 8],
@@ -221,7 +220,7 @@ fn same_open(
             if !same_channel(w, i, v, j) {
                 return false;
             }
-            same_name(w, 1305 + i * 24, v, 1305 + j * 24)
+            same_name(w, OWNS + i * ROW_SIZE, v, OWNS + j * ROW_SIZE)
         }
         4 => same_call(w, i, vals, v, j, vals2),
         _ => true,
@@ -230,7 +229,7 @@ fn same_open(
 
 // ── parts and processes ──
 // Field k of the part at i, as a place or a slot.
-fn link(w: &[u32; 99592], i: usize, k: usize) -> usize
+fn link(w: &Script, i: usize, k: usize) -> usize
     requires { ⌜ (i < 4096) × (k < 24) ⌝ }
     ensures { λ r. ⌜ r ≡ field (now (w .entry)) i k ⌝ }
 {
@@ -238,7 +237,7 @@ fn link(w: &[u32; 99592], i: usize, k: usize) -> usize
 }
 
 // The values in the P of the input at i: the slot of its name holds none. In place, so that the recursion keeps no second copy.
-fn hide(w: &[u32; 99592], i: usize, vals: &mut [u32; 8])
+fn hide(w: &Script, i: usize, vals: &mut [u32; 8])
     requires { ⌜ (i < 4096) × (length (now vals) ≡ 8) ⌝ }
     ensures { λ _. ⌜ now (vals .exit) ≡ set (now (vals .entry)) (field (now (w .entry)) i 3) 64 ⌝ }
 {
@@ -249,14 +248,7 @@ fn hide(w: &[u32; 99592], i: usize, vals: &mut [u32; 8])
 }
 
 // The inner processes of the parts at i and j, which are of one kind.
-fn same_inner(
-    w: &[u32; 99592],
-    i: usize,
-    vals: &[u32; 8],
-    v: &[u32; 99592],
-    j: usize,
-    vals2: &[u32; 8],
-) -> bool
+fn same_inner(w: &Script, i: usize, vals: &[u32; 8], v: &Script, j: usize, vals2: &[u32; 8]) -> bool
     requires { ⌜ Places (now w) i (now vals) × Places (now v) j (now vals2) × (kindAt (now w) i ≡ kindAt (now v) j) ⌝ }
     ensures { λ r. ⌜ Decides r (innerSeen (now (w .entry)) i (now (vals .entry))) (innerSeen (now (v .entry)) j (now (vals2 .entry))) ⌝ }
 {
@@ -285,10 +277,10 @@ fn same_inner(
 
 // The processes at i and j, part by part.
 pub(crate) fn same_process(
-    w: &[u32; 99592],
+    w: &Script,
     i: usize,
     vals: &[u32; 8],
-    v: &[u32; 99592],
+    v: &Script,
     j: usize,
     vals2: &[u32; 8],
 ) -> bool
@@ -319,11 +311,11 @@ pub(crate) fn same_process(
 
 // The parts at i and j with the timers t and u.
 pub(crate) fn same_part(
-    w: &[u32; 99592],
+    w: &Script,
     i: usize,
     t: u32,
     vals: &[u32; 8],
-    v: &[u32; 99592],
+    v: &Script,
     j: usize,
     u: u32,
     vals2: &[u32; 8],

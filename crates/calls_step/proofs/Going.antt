@@ -19,7 +19,7 @@ use Rattle.table.specs.declared.Comp.{Comp}
 use Rattle.table.specs.declared.State.{State}
 use Rattle.table.specs.declared.Head.{Head}
 use Rattle.table.specs.declared.Head.the-variants.{Stop, Go, Out, In, Call}
-use Rattle.table.specs.Words.{headAt}
+use Rattle.table.specs.Words.{compSize, stateWords, headAt}
 use Rattle.table.specs.Meaning.{compIn, wordsIn, PastKept, compsOf}
 use Rattle.table.specs.Valid.{scriptOk, compOk}
 use Rattle.table.specs.Fire.{ActedAt, actOn, readyAt}
@@ -38,7 +38,7 @@ use Rattle.calls_step.proofs.Sweeping.{recsOf, Turned, turned-none, tur
 pub record Going (w : List ℕ) (l : ℕ) (st now : State) (heads nexts : List ℕ) (acts : List (List ℕ)) (count p : ℕ) : Type 0 where
   pub few-p : p ≤ st .n
   pub few-count : count ≤ p
-  pub size : length (now .c) ≡ 3_072
+  pub size : length (now .c) ≡ stateWords
   pub same : now .n ≡ st .n
   pub past : PastKept (st .n) (st .c) (now .c)
   pub room : length acts ≡ 256
@@ -186,11 +186,11 @@ module _ (w : List ℕ) (good : scriptOk w ≡ true) (l : ℕ) (st now : State) 
     k = kindAt w l c x
 
     abbrev next : State
-    next = record { c = sets (sets (now .c) (p * 12) (wordsIn (v .x))) (q * 12) (wordsIn (v .y)); n = now .n }
+    next = record { c = sets (sets (now .c) (p * compSize) (wordsIn (v .x))) (q * compSize) (wordsIn (v .y)); n = now .n }
 
     comps-next : compsOf next ≡ R.set (R.set (compsOf now) p (v .x)) q (v .y)
     comps-next =
-        comps-put (record { c = sets (now .c) (p * 12) (wordsIn (v .x)); n = now .n }) q (v .y) (omega (arith, other-fits, i .same)) (omega (arith, i .same, few)) (length-sets (now .c) (p * 12) (wordsIn (v .x)) ∙ i .size) (f .slots-y)
+        comps-put (record { c = sets (now .c) (p * compSize) (wordsIn (v .x)); n = now .n }) q (v .y) (omega (arith, other-fits, i .same)) (omega (arith, i .same, few)) (length-sets (now .c) (p * compSize) (wordsIn (v .x)) ∙ i .size) (f .slots-y)
         ∙ ap (λ z. R.set z q (v .y)) (comps-put now p (v .x) (omega (arith, i .same)) (omega (arith, i .same, few)) (i .size) (f .slots-x))
 
     visited : visitAt w l p (at (compsOf now) p) (compsOf now) .comps ≡ compsOf next
@@ -244,16 +244,16 @@ module _ (w : List ℕ) (good : scriptOk w ≡ true) (l : ℕ) (st now : State) 
         ∙ ap (λ z. record { actions = visitAt w l p (at (compsOf now) p) (compsOf now) .actions ++ sweepAt w l (suc p) (st .n - (p + 1)) z .actions; comps = sweepAt w l (suc p) (st .n - (p + 1)) z .comps }) visited
         ∙ ap (λ z. record { actions = visitAt w l p (at (compsOf now) p) (compsOf now) .actions ++ z .actions; comps = z .comps }) (rest-is (st .n - (p + 1)) refl)
 
-    going-turn : Going w l st (record { c = sets (sets (now .c) (p * 12) (wordsIn (v .x))) (otherOf p (getD heads (sendsAt w l (compIn (now .c) p)) 0) * 12) (wordsIn (v .y)); n = now .n })
+    going-turn : Going w l st (record { c = sets (sets (now .c) (p * compSize) (wordsIn (v .x))) (otherOf p (getD heads (sendsAt w l (compIn (now .c) p)) 0) * compSize) (wordsIn (v .y)); n = now .n })
         (set heads (sendsAt w l (compIn (now .c) p)) (poppedOf (getD heads (sendsAt w l (compIn (now .c) p)) 0) (getD nexts (otherOf p (getD heads (sendsAt w l (compIn (now .c) p)) 0)) 0))) nexts
         (set acts count (recBy (kindAt w l (compIn (now .c) p) (getD heads (sendsAt w l (compIn (now .c) p)) 0)) p (otherOf p (getD heads (sendsAt w l (compIn (now .c) p)) 0))))
         (count + someOf (kindAt w l (compIn (now .c) p) (getD heads (sendsAt w l (compIn (now .c) p)) 0))) (p + 1)
     going-turn = record {
       few-p = omega arith;
       few-count = omega (arith, i .few-count, some-fits k);
-      size = length-sets (sets (now .c) (p * 12) (wordsIn (v .x))) (q * 12) (wordsIn (v .y)) ∙ length-sets (now .c) (p * 12) (wordsIn (v .x)) ∙ i .size;
+      size = length-sets (sets (now .c) (p * compSize) (wordsIn (v .x))) (q * compSize) (wordsIn (v .y)) ∙ length-sets (now .c) (p * compSize) (wordsIn (v .x)) ∙ i .size;
       same = i .same;
-      past = past-then (omega arith) (i .past) (past-then (omega arith) (past-put (now .c) (st .n) p (v .x) h) (past-put (sets (now .c) (p * 12) (wordsIn (v .x))) (st .n) q (v .y) other-fits));
+      past = past-then (omega arith) (i .past) (past-then (omega arith) (past-put (now .c) (st .n) p (v .x) h) (past-put (sets (now .c) (p * compSize) (wordsIn (v .x))) (st .n) q (v .y) other-fits));
       room = length-set acts count (recBy k p q) ∙ i .room;
       fine = subst (λ z. every (compOk w) z ≡ true) visited (visit-fine w good l p (at (compsOf now) p) (compsOf now) (i .fine));
       queue = queue-next _ refl t comps-next;
@@ -266,7 +266,7 @@ module _ (w : List ℕ) (good : scriptOk w ≡ true) (l : ℕ) (st now : State) 
       comps = ap (λ z. z .comps) (sym stepped) ∙ i .comps;
     }
 
-    pub going-fires : (kindAt w l (compIn (now .c) p) (getD heads (sendsAt w l (compIn (now .c) p)) 0) ≡ 0 → ⊥) → Going w l st (record { c = sets (sets (now .c) (p * 12) (wordsIn (v .x))) (otherOf p (getD heads (sendsAt w l (compIn (now .c) p)) 0) * 12) (wordsIn (v .y)); n = now .n })
+    pub going-fires : (kindAt w l (compIn (now .c) p) (getD heads (sendsAt w l (compIn (now .c) p)) 0) ≡ 0 → ⊥) → Going w l st (record { c = sets (sets (now .c) (p * compSize) (wordsIn (v .x))) (otherOf p (getD heads (sendsAt w l (compIn (now .c) p)) 0) * compSize) (wordsIn (v .y)); n = now .n })
         (set heads (sendsAt w l (compIn (now .c) p)) (poppedOf (getD heads (sendsAt w l (compIn (now .c) p)) 0) (getD nexts (otherOf p (getD heads (sendsAt w l (compIn (now .c) p)) 0)) 0))) nexts
         (set acts count (recBy (kindAt w l (compIn (now .c) p) (getD heads (sendsAt w l (compIn (now .c) p)) 0)) p (otherOf p (getD heads (sendsAt w l (compIn (now .c) p)) 0))))
         (count + 1) (p + 1)
@@ -313,7 +313,7 @@ module _ (w : List ℕ) (good : scriptOk w ≡ true) (l : ℕ) (st now : State) 
           comps = subst (λ cs. sweepAt w l (p + 1) (st .n - (p + 1)) cs .comps ≡ sweepAt w l 0 (st .n) (compsOf st) .comps) z (g .comps);
         }
 
-pub going-begin : (w : List ℕ) (l : ℕ) (st : State) (heads nexts : List ℕ) (acts : List (List ℕ)) → length (st .c) ≡ 3_072 → length acts ≡ 256 → every (compOk w) (compsOf st) ≡ true → Queued w l 0 (compsOf st) heads nexts → Going w l st st heads nexts acts 0 0
+pub going-begin : (w : List ℕ) (l : ℕ) (st : State) (heads nexts : List ℕ) (acts : List (List ℕ)) → length (st .c) ≡ stateWords → length acts ≡ 256 → every (compOk w) (compsOf st) ≡ true → Queued w l 0 (compsOf st) heads nexts → Going w l st st heads nexts acts 0 0
 going-begin w l st heads nexts acts e r f q =
     let z : st .n - 0 ≡ st .n = omega arith in
     record { few-p = omega arith; few-count = omega arith; size = e; same = refl; past = past-none (st .n) (st .c); room = r; fine = f; queue = q; actions = ap (λ n. map recOf (sweepAt w l 0 n (compsOf st) .actions)) z; comps = ap (λ n. sweepAt w l 0 n (compsOf st) .comps) z }

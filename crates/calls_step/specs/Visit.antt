@@ -11,7 +11,7 @@ use Rattle.table.specs.declared.Comp.{Comp}
 use Rattle.table.specs.declared.State.{State}
 use Rattle.table.specs.declared.Head.{Head}
 use Rattle.table.specs.declared.Head.the-variants.{Stop, Go, Out, In, Call}
-use Rattle.table.specs.Words.{headAt}
+use Rattle.table.specs.Words.{stateWords, headAt}
 use Rattle.table.specs.Meaning.{PastKept, compsOf}
 use Rattle.table.specs.Fire.{aloneAt, togetherAt, readyAt}
 use Rattle.calls_act.specs.declared.Fired.{Fired}
@@ -77,5 +77,5 @@ pub record SweepsAs (w : List ℕ) (l : ℕ) (st : State) (after : List ℕ) (ac
   pub number : count ≡ length (sweepAt w l 0 (st .n) (compsOf st) .actions)
   pub few : count ≤ st .n
   pub comps : compsOf (record { c = after; n = st .n }) ≡ sweepAt w l 0 (st .n) (compsOf st) .comps
-  pub slotted : length after ≡ 3_072
+  pub slotted : length after ≡ stateWords
   pub past : PastKept (st .n) (st .c) after

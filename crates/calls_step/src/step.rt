@@ -9,6 +9,8 @@ ghost use Rattle.calls_step.specs.Stepped.{stepRule, stepsAs, refusal};
 use super::Stepped;
 use super::sweep;
 use calls_tick::pass;
+use table::Script;
+use table::Words;
 use table::comps::sized;
 use table::words;
 
@@ -23,7 +25,7 @@ pub fn refuse(code: u32, n: usize) -> Stepped
 }
 
 // A refusal, with the components as they were.
-fn put_back(code: u32, n: usize, held: &[u32; 3072], c: &mut [u32; 3072]) -> Stepped
+fn put_back(code: u32, n: usize, held: &Words, c: &mut Words) -> Stepped
     ensures { λ r. ⌜ (r ≡ refusal code n) × (now (c .exit) ≡ now (held .entry)) ⌝ }
 {
     *c = *held;
@@ -43,13 +45,7 @@ fn put_records(acts: &[[u32; 3]; 256], count: usize, records: &mut [[u32; 3]])
     }
 }
 
-pub fn step_valid(
-    w: &[u32; 99592],
-    c: &mut [u32; 3072],
-    n: usize,
-    l: u32,
-    records: &mut [[u32; 3]],
-) -> Stepped
+pub fn step_valid(w: &Script, c: &mut Words, n: usize, l: u32, records: &mut [[u32; 3]]) -> Stepped
     requires { ⌜ valid (now w) (record { c = now c; n = n }) ≡ true ⌝ }
     ensures { λ r. ⌜ stepsAs (now (w .entry)) (record { c = now (c .entry); n = n }) (stepRule (now (w .entry)) (record { c = now (c .entry); n = n }) l (length (now (records .entry)))) r (now (c .exit)) (now (records .entry)) (now (records .exit)) ⌝ }
 {

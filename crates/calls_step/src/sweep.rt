@@ -5,12 +5,15 @@ ghost use Prim.Native.Nat.{_<_};
 ghost use lib.ListN.{length};
 ghost use Rattle.table.specs.Valid.{scriptOk, compOk, valid};
 ghost use Rattle.calls_step.specs.Visit.{sentOn, sendsAt, link, kindBy, kindAt, Performed, otherOf, poppedOf, recBy, SweepsAs};
+ghost use Rattle.table.specs.Words.{stateWords};
 use super::Queue;
 use super::Visit;
 use calls_act::fire;
 use calls_tick::forced;
 use table::Comp;
 use table::Head;
+use table::Script;
+use table::Words;
 use table::comps::comp_at;
 use table::comps::put_comp;
 use table::words;
@@ -27,7 +30,7 @@ fn sent_on(h: Head) -> u32
     }
 }
 
-fn sends_at(w: &[u32; 99592], l: u32, c: Comp) -> u32
+fn sends_at(w: &Script, l: u32, c: Comp) -> u32
     requires { ⌜ (scriptOk (now w) ≡ true) × (compOk (now w) c ≡ true) ⌝ }
     ensures { λ r. ⌜ r ≡ sendsAt (now (w .entry)) l c ⌝ }
 {
@@ -70,7 +73,7 @@ fn kind_by(x: u32, t: u32, h: Head) -> u32
     }
 }
 
-fn kind_at(w: &[u32; 99592], l: u32, c: Comp, x: u32) -> u32
+fn kind_at(w: &Script, l: u32, c: Comp, x: u32) -> u32
     requires { ⌜ (scriptOk (now w) ≡ true) × (compOk (now w) c ≡ true) ⌝ }
     ensures { λ r. ⌜ r ≡ kindAt (now (w .entry)) l c x ⌝ }
 {
@@ -81,7 +84,7 @@ fn kind_at(w: &[u32; 99592], l: u32, c: Comp, x: u32) -> u32
     0
 }
 
-fn perform(w: &[u32; 99592], k: u32, c: Comp, e: Comp) -> Visit
+fn perform(w: &Script, k: u32, c: Comp, e: Comp) -> Visit
     requires { ⌜ (scriptOk (now w) ≡ true) × (compOk (now w) c ≡ true) × (compOk (now w) e ≡ true) ⌝ }
     ensures { λ r. ⌜ Performed (now (w .entry)) k c e r ⌝ }
 {
@@ -134,13 +137,13 @@ fn rec_by(k: u32, p: usize, q: usize) -> [u32; 3]
 
 // How many actions there are. Their records are the first of acts, and the components are left as they leave them.
 pub(crate) fn sweep(
-    w: &[u32; 99592],
-    c: &mut [u32; 3072],
+    w: &Script,
+    c: &mut Words,
     n: usize,
     l: u32,
     acts: &mut [[u32; 3]; 256],
 ) -> usize
-    requires { ⌜ (valid (now w) (record { c = now c; n = n }) ≡ true) × (length (now c) ≡ 3072) × (length (now acts) ≡ 256) ⌝ }
+    requires { ⌜ (valid (now w) (record { c = now c; n = n }) ≡ true) × (length (now c) ≡ stateWords) × (length (now acts) ≡ 256) ⌝ }
     ensures { λ r. ⌜ SweepsAs (now (w .entry)) l (record { c = now (c .entry); n = n }) (now (c .exit)) (now (acts .exit)) r ⌝ }
 {
     let mut queue = Queue {

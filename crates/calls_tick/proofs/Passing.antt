@@ -14,7 +14,7 @@ use Rattle.terms.specs.Same.{every}
 use Rattle.terms.proofs.Names.{and-in}
 use Rattle.table.specs.declared.Comp.{Comp}
 use Rattle.table.specs.declared.State.{State}
-use Rattle.table.specs.Words.{partsIn}
+use Rattle.table.specs.Words.{compSize, stateWords, partsIn}
 use Rattle.table.specs.Meaning.{listFrom, compIn, wordsIn, PastKept, compsOf, noComp}
 use Rattle.table.specs.Valid.{scriptOk, compOk, stateOk, valid}
 use Rattle.table.specs.Fire.{passedAll}
@@ -33,11 +33,11 @@ use Rattle.table.proofs.Stores.{put-other, past-put, past-none, past-then, list
 pub record Passing (w : List ℕ) (l : ℕ) (st : State) (goal : List Comp) (out : List ℕ) (k i next : ℕ) : Type 0 where
   pub few-k : k ≤ 256
   pub few-i : i ≤ st .n
-  pub size : length out ≡ 3_072
+  pub size : length out ≡ stateWords
   pub part : next ≤ partsIn w
   pub holds : listFrom 0 k (compIn out) ++ remaining w l (drop i (compsOf st)) next ≡ goal
 
-pub passing-begin : (w : List ℕ) (l : ℕ) (st : State) (out : List ℕ) (j : ℕ) → length out ≡ 3_072 → j ≤ st .n → j ≤ 256 → Passing w l st (passedFrom w l st j out) out j j 0
+pub passing-begin : (w : List ℕ) (l : ℕ) (st : State) (out : List ℕ) (j : ℕ) → length out ≡ stateWords → j ≤ st .n → j ≤ 256 → Passing w l st (passedFrom w l st j out) out j j 0
 passing-begin w l st out j e n b =
     record { few-k = b; few-i = n; size = e; part = omega arith; holds = ap (λ z. listFrom 0 j (compIn out) ++ z) (remaining-begin w l (drop j (compsOf st))) }
 
@@ -61,11 +61,11 @@ module _ (w : List ℕ) (l : ℕ) (st : State) (goal : List Comp) (out : List �
   pub step-fits : turnOf w l (compIn (st .c) i) next .step ≤ 1
   step-fits = rw (turn-range .1) (step-small (t .next))
 
-  pub passing-turn : k < 256 → Passing w l st goal (sets out (k * 12) (wordsIn (turnOf w l (compIn (st .c) i) next .comp))) (k + 1) (i + turnOf w l (compIn (st .c) i) next .step) (turnOf w l (compIn (st .c) i) next .next)
+  pub passing-turn : k < 256 → Passing w l st goal (sets out (k * compSize) (wordsIn (turnOf w l (compIn (st .c) i) next .comp))) (k + 1) (i + turnOf w l (compIn (st .c) i) next .step) (turnOf w l (compIn (st .c) i) next .next)
   passing-turn b = record {
     few-k = omega arith;
     few-i = omega (arith, step-fits);
-    size = length-sets out (k * 12) (wordsIn (t .comp)) ∙ p .size;
+    size = length-sets out (k * compSize) (wordsIn (t .comp)) ∙ p .size;
     part = turn-range .0;
     holds =
         ap (λ z. z ++ remaining w l (drop (i + t .step) (compsOf st)) (t .next)) (comps-more out k (t .comp) b (p .size) (turn-vals w l (compIn (st .c) i) next ∙ comp-fine w _ fine .slots))
@@ -137,7 +137,7 @@ module _ (w : List ℕ) (l : ℕ) (st : State) where
   abbrev all : List Comp
   all = passedAll w l (compsOf st)
 
-  pub here-begin : length (st .c) ≡ 3_072 → PassedHere w l st (st .c) 0
+  pub here-begin : length (st .c) ≡ stateWords → PassedHere w l st (st .c) 0
   unfolding listFrom
   here-begin e = record { few = omega arith; size = e; front = refl; rest = λ m b. refl; past = past-none (st .n) (st .c) }
 
@@ -155,7 +155,7 @@ module _ (w : List ℕ) (l : ℕ) (st : State) where
     }
 
     -- a component that becomes one other
-    pub here-turn : turnOf w l (compIn (st .c) i) 0 .next ≡ 0 → PassedHere w l st (sets out (i * 12) (wordsIn (turnOf w l (compIn (st .c) i) 0 .comp))) (i + 1)
+    pub here-turn : turnOf w l (compIn (st .c) i) 0 .next ≡ 0 → PassedHere w l st (sets out (i * compSize) (wordsIn (turnOf w l (compIn (st .c) i) 0 .comp))) (i + 1)
     here-turn e =
         let t = turnOf w l x 0 in
         let q = passing-turn w l st all out i i 0 v passing h (omega (arith, valid-parts w st v .1 .few)) in
@@ -164,9 +164,9 @@ module _ (w : List ℕ) (l : ℕ) (st : State) where
           few = omega arith;
           size = q .size;
           front =
-              ap (λ z. listFrom 0 (i + 1) (compIn (sets out (i * 12) (wordsIn (t .comp)))) ++ z) (sym (remaining-begin w l (drop (i + 1) (compsOf st))))
-              ∙ ap (λ z. listFrom 0 (i + 1) (compIn (sets out (i * 12) (wordsIn (t .comp)))) ++ remaining w l (drop z (compsOf st)) 0) (sym s)
-              ∙ ap (λ z. listFrom 0 (i + 1) (compIn (sets out (i * 12) (wordsIn (t .comp)))) ++ remaining w l (drop (i + t .step) (compsOf st)) z) (sym e)
+              ap (λ z. listFrom 0 (i + 1) (compIn (sets out (i * compSize) (wordsIn (t .comp)))) ++ z) (sym (remaining-begin w l (drop (i + 1) (compsOf st))))
+              ∙ ap (λ z. listFrom 0 (i + 1) (compIn (sets out (i * compSize) (wordsIn (t .comp)))) ++ remaining w l (drop z (compsOf st)) 0) (sym s)
+              ∙ ap (λ z. listFrom 0 (i + 1) (compIn (sets out (i * compSize) (wordsIn (t .comp)))) ++ remaining w l (drop (i + t .step) (compsOf st)) z) (sym e)
               ∙ q .holds;
           rest = λ m b. put-other out i (t .comp) m (λ d. omega arith) ∙ p .rest m (omega arith);
           past = past-then (omega arith) (p .past) (past-put out (st .n) i (t .comp) h);

@@ -10,7 +10,7 @@ use Rattle.terms.specs.Rules.{Answer, _>>=_, tick}
 use Rattle.terms.specs.Rules.Answer.{refused, accepted}
 use Rattle.table.specs.declared.Comp.{Comp}
 use Rattle.table.specs.declared.State.{State}
-use Rattle.table.specs.Words.{locsIn, locName}
+use Rattle.table.specs.Words.{stateWords, locsIn, locName}
 use Rattle.table.specs.Meaning.{listFrom, compIn, PastKept, defsOf, compsOf, netOf}
 use Rattle.table.specs.Valid.{valid}
 use Rattle.table.specs.Fire.{passedAll}
@@ -56,7 +56,7 @@ passedFrom w l st j out = listFrom 0 j (compIn out) ++ passedAll w l (drop j (co
 -- the first i components have passed in place, one for each, and the others are as they were
 pub record PassedHere (w : List ℕ) (l : ℕ) (st : State) (out : List ℕ) (i : ℕ) : Type 0 where
   pub few : i ≤ st .n
-  pub size : length out ≡ 3_072
+  pub size : length out ≡ stateWords
   pub front : passedFrom w l st i out ≡ passedAll w l (compsOf st)
   pub rest : (m : ℕ) → i ≤ m → compIn out m ≡ compIn (st .c) m
   pub past : PastKept (st .n) (st .c) out

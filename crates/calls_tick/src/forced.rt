@@ -10,6 +10,8 @@ ghost use Rattle.table.specs.Fire.{readyAt, forcedAt};
 ghost use Rattle.calls_tick.specs.Heard.{heardOn, hearsAt, Heard, pressesBy, pressedBy};
 use table::Comp;
 use table::Head;
+use table::Script;
+use table::Words;
 use table::comps::comp_at;
 use table::words;
 
@@ -34,7 +36,7 @@ fn heard_on(h: Head) -> u32
     }
 }
 
-pub fn hears_at(w: &[u32; 99592], l: u32, c: Comp) -> u32
+pub fn hears_at(w: &Script, l: u32, c: Comp) -> u32
     requires { ⌜ (scriptOk (now w) ≡ true) × (compOk (now w) c ≡ true) ⌝ }
     ensures { λ r. ⌜ r ≡ hearsAt (now (w .entry)) l c ⌝ }
 {
@@ -46,7 +48,7 @@ pub fn hears_at(w: &[u32; 99592], l: u32, c: Comp) -> u32
 }
 
 // The channels that are heard: a 1 for each.
-fn heard_at(w: &[u32; 99592], c: &[u32; 3072], n: usize, l: u32) -> [u32; 64]
+fn heard_at(w: &Script, c: &Words, n: usize, l: u32) -> [u32; 64]
     requires { ⌜ valid (now w) (record { c = now c; n = n }) ≡ true ⌝ }
     ensures { λ r. ⌜ Heard (now (w .entry)) l (compsOf (record { c = now (c .entry); n = n })) r ⌝ }
 {
@@ -84,7 +86,7 @@ fn is_heard(ears: &[u32], k: usize) -> bool
     false
 }
 
-fn pressed_by(w: &[u32; 99592], l: u32, ears: &[u32; 64], c: Comp) -> bool
+fn pressed_by(w: &Script, l: u32, ears: &[u32; 64], c: Comp) -> bool
     requires { ⌜ (scriptOk (now w) ≡ true) × (compOk (now w) c ≡ true) ⌝ }
     ensures { λ r. ⌜ r ≡ pressedBy (now (w .entry)) l (now (ears .entry)) c ⌝ }
 {
@@ -95,7 +97,7 @@ fn pressed_by(w: &[u32; 99592], l: u32, ears: &[u32; 64], c: Comp) -> bool
     false
 }
 
-pub(crate) fn forced_at(w: &[u32; 99592], c: &[u32; 3072], n: usize, l: u32) -> bool
+pub(crate) fn forced_at(w: &Script, c: &Words, n: usize, l: u32) -> bool
     requires { ⌜ valid (now w) (record { c = now c; n = n }) ≡ true ⌝ }
     ensures { λ r. ⌜ r ≡ forcedAt (now (w .entry)) l (compsOf (record { c = now (c .entry); n = n })) ⌝ }
 {

@@ -4,7 +4,7 @@ ghost use mathlib.Core.Path.{_≡_};
 ghost use mathlib.Core.Bool.{true};
 ghost use Prim.Native.Nat.{_<_, _≤_};
 ghost use lib.ListN.{length};
-ghost use Rattle.table.specs.Words.{partsIn};
+ghost use Rattle.table.specs.Words.{stateWords, partsIn};
 ghost use Rattle.table.specs.Meaning.{compsOf};
 ghost use Rattle.table.specs.Valid.{scriptOk, compOk, valid, headOk};
 ghost use Rattle.table.specs.Split.{timerIn, fresh, timed};
@@ -15,6 +15,8 @@ ghost use Rattle.calls_tick.specs.Ticked.{passes, passedFrom, PassedHere
 use super::Turn;
 use table::Comp;
 use table::Head;
+use table::Script;
+use table::Words;
 use table::comps::comp_at;
 use table::comps::put_comp;
 use table::words;
@@ -33,7 +35,7 @@ fn timer_in(h: Head) -> u32
 }
 
 // The part at a place as a component of its own.
-pub(crate) fn fresh_at(w: &[u32; 99592], l: u32, vals: [u32; 8], place: u32) -> Comp
+pub(crate) fn fresh_at(w: &Script, l: u32, vals: [u32; 8], place: u32) -> Comp
     requires { ⌜ place < 4096 ⌝ }
     ensures { λ r. ⌜ r ≡ fresh (now (w .entry)) l vals place ⌝ }
 {
@@ -73,7 +75,7 @@ fn timed_turn(c: Comp) -> Turn
     })
 }
 
-fn part_turn(w: &[u32; 99592], c: Comp, place: u32) -> Turn
+fn part_turn(w: &Script, c: Comp, place: u32) -> Turn
     requires { ⌜ place < 4096 ⌝ }
     ensures { λ r. ⌜ r ≡ partOf (now (w .entry)) c place ⌝ }
 {
@@ -94,7 +96,7 @@ fn part_turn(w: &[u32; 99592], c: Comp, place: u32) -> Turn
     }
 }
 
-fn else_turn(w: &[u32; 99592], c: Comp, q: u32) -> Turn
+fn else_turn(w: &Script, c: Comp, q: u32) -> Turn
     requires { ⌜ q < 4096 ⌝ }
     ensures { λ r. ⌜ r ≡ elseTurn (now (w .entry)) c q ⌝ }
 {
@@ -105,7 +107,7 @@ fn else_turn(w: &[u32; 99592], c: Comp, q: u32) -> Turn
     timed_turn(c)
 }
 
-fn wait_turn(w: &[u32; 99592], c: Comp, h: Head) -> Turn
+fn wait_turn(w: &Script, c: Comp, h: Head) -> Turn
     requires { ⌜ (headOk (now w) (c .place) h ≡ true) × (c .place < 4096) ⌝ }
     ensures { λ r. ⌜ r ≡ waitTurn (now (w .entry)) c h ⌝ }
 {
@@ -118,7 +120,7 @@ fn wait_turn(w: &[u32; 99592], c: Comp, h: Head) -> Turn
     }
 }
 
-fn first_turn(w: &[u32; 99592], l: u32, c: Comp) -> Turn
+fn first_turn(w: &Script, l: u32, c: Comp) -> Turn
     requires { ⌜ (scriptOk (now w) ≡ true) × (compOk (now w) c ≡ true) ⌝ }
     ensures { λ r. ⌜ r ≡ firstTurn (now (w .entry)) l c ⌝ }
 {
@@ -135,7 +137,7 @@ fn first_turn(w: &[u32; 99592], l: u32, c: Comp) -> Turn
     whole_turn(c)
 }
 
-fn turn(w: &[u32; 99592], l: u32, c: Comp, next: u32) -> Turn
+fn turn(w: &Script, l: u32, c: Comp, next: u32) -> Turn
     requires { ⌜ (scriptOk (now w) ≡ true) × (compOk (now w) c ≡ true) × (next ≤ partsIn (now w)) ⌝ }
     ensures { λ r. ⌜ r ≡ turnOf (now (w .entry)) l c next ⌝ }
 {
@@ -156,8 +158,8 @@ fn touched(l: u32, c: Comp) -> bool
 }
 
 // The components in place, up to the first that splits: its position, or n. One that the tick does not touch is left alone.
-fn pass_here(w: &[u32; 99592], c: &mut [u32; 3072], n: usize, l: u32) -> usize
-    requires { ⌜ (valid (now w) (record { c = now c; n = n }) ≡ true) × (length (now c) ≡ 3072) ⌝ }
+fn pass_here(w: &Script, c: &mut Words, n: usize, l: u32) -> usize
+    requires { ⌜ (valid (now w) (record { c = now c; n = n }) ≡ true) × (length (now c) ≡ stateWords) ⌝ }
     ensures { λ r. ⌜ PassedHere (now (w .entry)) l (record { c = now (c .entry); n = n }) (now (c .exit)) r ⌝ }
 {
     let mut i: usize = 0;
@@ -179,15 +181,8 @@ fn pass_here(w: &[u32; 99592], c: &mut [u32; 3072], n: usize, l: u32) -> usize
 }
 
 // The components from position j on, written to out behind those that are there: how many they are with these, or 257 if there is no room for all.
-fn pass_rest(
-    w: &[u32; 99592],
-    c: &[u32; 3072],
-    n: usize,
-    l: u32,
-    j: usize,
-    out: &mut [u32; 3072],
-) -> usize
-    requires { ⌜ (valid (now w) (record { c = now c; n = n }) ≡ true) × (length (now out) ≡ 3072) × (j ≤ n) ⌝ }
+fn pass_rest(w: &Script, c: &Words, n: usize, l: u32, j: usize, out: &mut Words) -> usize
+    requires { ⌜ (valid (now w) (record { c = now c; n = n }) ≡ true) × (length (now out) ≡ stateWords) × (j ≤ n) ⌝ }
     ensures { λ r. ⌜ passes (passedFrom (now (w .entry)) l (record { c = now (c .entry); n = n }) j (now (out .entry))) (now (out .entry)) (now (out .exit)) r ⌝ }
 {
     let mut k = j;
@@ -209,8 +204,8 @@ fn pass_rest(
 }
 
 // Every component in the tick at l, in the lent ones: how many they are, or 257 if there is no room for all, and then what the lent ones hold is of no use.
-pub fn pass_all(w: &[u32; 99592], c: &mut [u32; 3072], n: usize, l: u32) -> usize
-    requires { ⌜ (valid (now w) (record { c = now c; n = n }) ≡ true) × (length (now c) ≡ 3072) ⌝ }
+pub fn pass_all(w: &Script, c: &mut Words, n: usize, l: u32) -> usize
+    requires { ⌜ (valid (now w) (record { c = now c; n = n }) ≡ true) × (length (now c) ≡ stateWords) ⌝ }
     ensures { λ r. ⌜ passes (passedAll (now (w .entry)) l (compsOf (record { c = now (c .entry); n = n }))) (now (c .entry)) (now (c .exit)) r ⌝ }
 {
     let j = pass_here(w, c, n, l);

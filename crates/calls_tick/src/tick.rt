@@ -6,6 +6,7 @@ ghost use Rattle.calls_tick.specs.Ticked.{tickRule, ticksAs, refusal};
 use super::Ticked;
 use super::forced;
 use super::pass;
+use table::Script;
 use table::State;
 use table::words;
 
@@ -18,7 +19,7 @@ pub fn refuse(code: u32, st: State) -> Ticked
     }
 }
 
-pub fn tick_valid(w: &[u32; 99592], st: State, l: u32) -> Ticked
+pub fn tick_valid(w: &Script, st: State, l: u32) -> Ticked
     requires { ⌜ valid (now w) st ≡ true ⌝ }
     ensures { λ r. ⌜ ticksAs (now (w .entry)) st (tickRule (now (w .entry)) st l) r ⌝ }
 {

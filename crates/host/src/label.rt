@@ -13,6 +13,8 @@ use calls_act::Label;
 use calls_act::fire::fire_call;
 use calls_act::fire::fire_move;
 use calls_act::fire::fire_pair;
+use table::Script;
+use table::Words;
 use table::comps::comp_at;
 
 fn refuse(code: u32) -> Named
@@ -29,7 +31,7 @@ fn refuse(code: u32) -> Named
     }
 }
 
-fn call_label(w: &[u32; 99592], c: &[u32; 3072], n: usize, p: usize) -> Named
+fn call_label(w: &Script, c: &Words, n: usize, p: usize) -> Named
     requires { ⌜ valid (now w) (record { c = now c; n = n }) ≡ true ⌝ }
     ensures { λ r. ⌜ named (now (w .entry)) r ≡ labelled (act (defsOf (now (w .entry))) (single calls p) (netOf (now (w .entry)) (record { c = now (c .entry); n = n }))) ⌝ }
 {
@@ -44,7 +46,7 @@ fn call_label(w: &[u32; 99592], c: &[u32; 3072], n: usize, p: usize) -> Named
     }
 }
 
-fn move_label(w: &[u32; 99592], c: &[u32; 3072], n: usize, p: usize) -> Named
+fn move_label(w: &Script, c: &Words, n: usize, p: usize) -> Named
     requires { ⌜ valid (now w) (record { c = now c; n = n }) ≡ true ⌝ }
     ensures { λ r. ⌜ named (now (w .entry)) r ≡ labelled (act (defsOf (now (w .entry))) (single moves p) (netOf (now (w .entry)) (record { c = now (c .entry); n = n }))) ⌝ }
 {
@@ -59,7 +61,7 @@ fn move_label(w: &[u32; 99592], c: &[u32; 3072], n: usize, p: usize) -> Named
     }
 }
 
-fn pair_label(w: &[u32; 99592], c: &[u32; 3072], n: usize, p: usize, q: usize) -> Named
+fn pair_label(w: &Script, c: &Words, n: usize, p: usize, q: usize) -> Named
     requires { ⌜ valid (now w) (record { c = now c; n = n }) ≡ true ⌝ }
     ensures { λ r. ⌜ named (now (w .entry)) r ≡ labelled (act (defsOf (now (w .entry))) (pair p q) (netOf (now (w .entry)) (record { c = now (c .entry); n = n }))) ⌝ }
 {
@@ -78,14 +80,7 @@ fn pair_label(w: &[u32; 99592], c: &[u32; 3072], n: usize, p: usize, q: usize) -
 }
 
 // By the kind; another is refused by question 8.
-pub(crate) fn label_at(
-    w: &[u32; 99592],
-    c: &[u32; 3072],
-    n: usize,
-    kind: u32,
-    p: usize,
-    q: usize,
-) -> Named
+pub(crate) fn label_at(w: &Script, c: &Words, n: usize, kind: u32, p: usize, q: usize) -> Named
     requires { ⌜ valid (now w) (record { c = now c; n = n }) ≡ true ⌝ }
     ensures { λ r. ⌜ named (now (w .entry)) r ≡ labelled (actionRule (now (w .entry)) (record { c = now (c .entry); n = n }) kind p q) ⌝ }
 {

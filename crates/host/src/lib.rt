@@ -24,7 +24,10 @@ use calls_act::Label;
 use calls_step::step::step_valid;
 use run_line::put_label;
 use run_line::put_line;
+use table::LOCATIONS;
+use table::Script;
 use table::State;
+use table::Words;
 use table::valid::is_valid;
 use table::words::wide;
 use table::words::word;
@@ -46,7 +49,7 @@ pub struct Named {
 }
 
 // How many locations a network has: question 17.
-pub fn locations(w: &[u32; 99592], c: &[u32; 3072], n: usize) -> Counted
+pub fn locations(w: &Script, c: &Words, n: usize) -> Counted
     ensures { λ r. ⌜ r ≡ counted (locationsAnswer (now (w .entry)) (record { c = now (c .entry); n = n })) ⌝ }
 {
     if is_valid(w, c, n) {
@@ -71,7 +74,7 @@ fn give(s: &[u8], k: usize, buf: &mut [u8]) -> Written
 }
 
 // The name that stands at the word o, or 15. A name has at most 16 bytes.
-fn give_name(w: &[u32; 99592], o: usize, buf: &mut [u8]) -> Written
+fn give_name(w: &Script, o: usize, buf: &mut [u8]) -> Written
     ensures { λ r. ⌜ Answers (holding (nameAt (now (w .entry)) o) (length (now (buf .entry)))) (now (buf .entry)) r (now (buf .exit)) ⌝ }
 {
     let mut text = [0; 16];
@@ -80,7 +83,7 @@ fn give_name(w: &[u32; 99592], o: usize, buf: &mut [u8]) -> Written
 }
 
 // The name of the location numbered l: questions 17, 8, 15.
-pub fn location_name(w: &[u32; 99592], c: &[u32; 3072], n: usize, l: u32, buf: &mut [u8]) -> Written
+pub fn location_name(w: &Script, c: &Words, n: usize, l: u32, buf: &mut [u8]) -> Written
     ensures { λ r. ⌜ Answers (nameAnswer (now (w .entry)) (record { c = now (c .entry); n = n }) l (length (now (buf .entry)))) (now (buf .entry)) r (now (buf .exit)) ⌝ }
 {
     if !is_valid(w, c, n) {
@@ -89,11 +92,11 @@ pub fn location_name(w: &[u32; 99592], c: &[u32; 3072], n: usize, l: u32, buf: &
     if word(w, 1) <= l {
         return Written { code: 8, len: 0 };
     }
-    give_name(w, 776 + wide(l) * 4, buf)
+    give_name(w, LOCATIONS + wide(l) * 4, buf)
 }
 
 // The text of a label, or 15. It has at most 51 bytes.
-fn give_label(w: &[u32; 99592], x: Label, buf: &mut [u8]) -> Written
+fn give_label(w: &Script, x: Label, buf: &mut [u8]) -> Written
     ensures { λ r. ⌜ Answers (holding (labelText (labelOf (now (w .entry)) (tagOf x))) (length (now (buf .entry)))) (now (buf .entry)) r (now (buf .exit)) ⌝ }
 {
     let mut text = [0; 51];
@@ -104,8 +107,8 @@ fn give_label(w: &[u32; 99592], x: Label, buf: &mut [u8]) -> Written
 // The label of an action: questions 17, 8 to 11 as for the action itself, 15. Asked of the network before a step, the records of the step have the
 // labels that its actions have when they fire (proofs/Records, by the law step-before of run_line).
 pub fn action_label(
-    w: &[u32; 99592],
-    c: &[u32; 3072],
+    w: &Script,
+    c: &Words,
     n: usize,
     kind: u32,
     p: usize,
@@ -130,7 +133,7 @@ pub fn action_label(
 
 // The line of the step at the location numbered l, as `timorun` prints it: questions 17, 8, 13 as for the step, 15. The step is made on a copy. A line
 // has at most 13,329 bytes.
-pub fn step_line(w: &[u32; 99592], c: &[u32; 3072], n: usize, l: u32, buf: &mut [u8]) -> Written
+pub fn step_line(w: &Script, c: &Words, n: usize, l: u32, buf: &mut [u8]) -> Written
     ensures { λ r. ⌜ Answers (lineAnswer (now (w .entry)) (record { c = now (c .entry); n = n }) l (length (now (buf .entry)))) (now (buf .entry)) r (now (buf .exit)) ⌝ }
 {
     if !is_valid(w, c, n) {

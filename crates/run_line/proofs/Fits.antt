@@ -16,7 +16,7 @@ use Rattle.terms.specs.Rules.{Answer, Action, Acted, at, act}
 use Rattle.terms.specs.Rules.Answer.{refused, accepted}
 use Rattle.terms.specs.Step.{idle, tookPlace, taken, followed, visit, sweep, fires, choice}
 use Rattle.table.specs.declared.State.{State}
-use Rattle.table.specs.Words.{nameAt, locName, chanName, defName, word}
+use Rattle.table.specs.Words.{rowSize, chansAt, locsAt, nameAt, locName, chanName, defName, word}
 use Rattle.table.specs.Meaning.{defsOf, means, compsOf, netOf}
 use Rattle.table.proofs.InUse.{comps-length}
 use Rattle.table.specs.Valid.{valid}
@@ -41,9 +41,9 @@ unfolding labelText labelOf locName chanName defName
 label-short w t = go (eqb (t .kind) 1) (eqb (t .kind) 2)
   where
     go : (x y : Bool) → length (labelText (cond x (called (defName w (t .a)) (locName w (t .spot))) (cond y (moved (locName w (t .a)) (locName w (t .spot))) (sent (chanName w (t .a)) (locName w (t .b)) (locName w (t .spot)))))) ≤ 51
-    go true y = simp length-append (omega (arith, name-short w (10 + t .a * 24), name-short w (776 + t .spot * 4)))
-    go false true = simp length-append (omega (arith, name-short w (776 + t .a * 4), name-short w (776 + t .spot * 4)))
-    go false false = simp length-append (omega (arith, name-short w (1_032 + t .a * 4), name-short w (776 + t .b * 4), name-short w (776 + t .spot * 4)))
+    go true y = simp length-append (omega (arith, name-short w (10 + t .a * rowSize), name-short w (locsAt + t .spot * 4)))
+    go false true = simp length-append (omega (arith, name-short w (locsAt + t .a * 4), name-short w (locsAt + t .spot * 4)))
+    go false false = simp length-append (omega (arith, name-short w (chansAt + t .a * 4), name-short w (locsAt + t .b * 4), name-short w (locsAt + t .spot * 4)))
 
 -- ── the actions of a step: at most one at a position ──
 taken-few : (d : List Def) (x : Answer Action) (net : List Component) → length (taken d x net .actions) ≤ 1
@@ -94,7 +94,7 @@ module _ (w : List ℕ) (st : State) (v : valid w st ≡ true) where
   line-short l =
       let xs = fires (defsOf w) (locName w l) (netOf w st) .actions in
       let s : length (spaced (stepLabels w st l)) ≤ 52 * length xs = rw (step-before (defsOf w) (locName w l) (netOf w st) .labels) (all-short xs) in
-      simp length-append (omega (arith, s, name-short w (776 + l * 4), fires-few (defsOf w) (locName w l) (netOf w st), few))
+      simp length-append (omega (arith, s, name-short w (locsAt + l * 4), fires-few (defsOf w) (locName w l) (netOf w st), few))
 
   -- a line put at the start of such a buffer is its first r bytes
   pub line-stands : (l : ℕ) (d e : List ℕ) (r : ℕ) → Wrote d 0 (lineText (locName w l) (stepLabels w st l)) e r → 13_329 ≤ length d → length d ≤ 9_223_372_036_854_775_808

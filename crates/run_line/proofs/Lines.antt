@@ -20,7 +20,7 @@ use Rattle.terms.specs.Rules.Action.{single, pair}
 use Rattle.terms.specs.Step.{fires}
 use Rattle.terms.proofs.Steps.{step-accepted}
 use Rattle.table.specs.declared.State.{State}
-use Rattle.table.specs.Words.{locsIn, nameAt, locName, chanName, defName}
+use Rattle.table.specs.Words.{rowSize, locsAt, locsIn, nameAt, locName, chanName, defName}
 use Rattle.table.specs.Meaning.{defsOf, compsOf, netOf}
 use Rattle.table.specs.Valid.{valid}
 use Rattle.table.specs.Fire.{ActedAt, labelOf, tagIn, actOn}
@@ -42,11 +42,11 @@ use Rattle.calls_act.specs.declared.Label.{Label as Numbers}
 
 -- ── the label of one record ──
 -- a label in numbers, by its kind; o is the number of the definition called or of the location moved to
-pub label-call : (w : List ℕ) (x : Numbers) (o : ℕ) → x .kind ≡ 1 → o ≡ x .a → nameAt w (10 + o * 24) ++ (bytes "@" ++ locName w (x .«at»)) ≡ labelText (labelOf w (tagOf x))
+pub label-call : (w : List ℕ) (x : Numbers) (o : ℕ) → x .kind ≡ 1 → o ≡ x .a → nameAt w (10 + o * rowSize) ++ (bytes "@" ++ locName w (x .«at»)) ≡ labelText (labelOf w (tagOf x))
 unfolding labelText labelOf defName
 label-call w x o k e = rw (eq-eqb (x .kind) 1 k, e)
 
-pub label-move : (w : List ℕ) (x : Numbers) (o : ℕ) → (x .kind ≡ 1 → ⊥) → x .kind ≡ 2 → o ≡ x .a → nameAt w (776 + o * 4) ++ (bytes "@" ++ locName w (x .«at»)) ≡ labelText (labelOf w (tagOf x))
+pub label-move : (w : List ℕ) (x : Numbers) (o : ℕ) → (x .kind ≡ 1 → ⊥) → x .kind ≡ 2 → o ≡ x .a → nameAt w (locsAt + o * 4) ++ (bytes "@" ++ locName w (x .«at»)) ≡ labelText (labelOf w (tagOf x))
 unfolding labelText labelOf locName
 label-move w x o n k e = rw (ne-eqb (x .kind) 1 n, eq-eqb (x .kind) 2 k, e)
 

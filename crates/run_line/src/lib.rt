@@ -22,56 +22,52 @@ ghost use Rattle.run_line.specs.Line.{labelText, spaced, lineText, stepL
 ghost use Rattle.run_line.specs.Records.{labelIn, mayFire, Holds};
 use calls_act::Label;
 use calls_act::act::act_valid;
+use table::CHANNELS;
+use table::LOCATIONS;
+use table::ROW_SIZE;
+use table::Script;
 use table::State;
 use table::words::wide;
 use text_write::put::put;
 use text_write::put::put_all;
 use text_write::put::put_name;
 
-// `x@l`, where the name x stands at the word o. The name of the location l stands at 776 + 4l, of the channel c at 1032 + 4c, of the definition d
+// `x@l`, where the name x stands at the word o. The name of the location l stands at LOCATIONS + 4l, of the channel c at CHANNELS + 4c, of the definition d
 // at 10 + 24d.
-fn put_named(w: &[u32; 99592], o: usize, l: u32, buf: &mut [u8], at: usize) -> usize
+fn put_named(w: &Script, o: usize, l: u32, buf: &mut [u8], at: usize) -> usize
     ensures { λ r. ⌜ Wrote (now (buf .entry)) at (nameAt (now (w .entry)) o ++ (bytes "@" ++ locName (now (w .entry)) l)) (now (buf .exit)) r ⌝ }
 {
     let a = put_name(w, o, buf, at);
     let b = put(b'@', buf, a);
-    put_name(w, 776 + wide(l) * 4, buf, b)
+    put_name(w, LOCATIONS + wide(l) * 4, buf, b)
 }
 
 // `c<v>@l`
-fn put_sent(w: &[u32; 99592], c: u32, v: u32, l: u32, buf: &mut [u8], at: usize) -> usize
+fn put_sent(w: &Script, c: u32, v: u32, l: u32, buf: &mut [u8], at: usize) -> usize
     ensures { λ r. ⌜ Wrote (now (buf .entry)) at (chanName (now (w .entry)) c ++ (bytes "<" ++ (locName (now (w .entry)) v ++ (bytes ">@" ++ locName (now (w .entry)) l)))) (now (buf .exit)) r ⌝ }
 {
-    let a = put_name(w, 1032 + wide(c) * 4, buf, at);
+    let a = put_name(w, CHANNELS + wide(c) * 4, buf, at);
     let b = put(b'<', buf, a);
-    let d = put_name(w, 776 + wide(v) * 4, buf, b);
+    let d = put_name(w, LOCATIONS + wide(v) * 4, buf, b);
     let e = put_all(b">@", buf, d);
-    put_name(w, 776 + wide(l) * 4, buf, e)
+    put_name(w, LOCATIONS + wide(l) * 4, buf, e)
 }
 
 // A label.
-pub fn put_label(w: &[u32; 99592], x: Label, buf: &mut [u8], at: usize) -> usize
+pub fn put_label(w: &Script, x: Label, buf: &mut [u8], at: usize) -> usize
     ensures { λ r. ⌜ Wrote (now (buf .entry)) at (labelText (labelOf (now (w .entry)) (tagOf x))) (now (buf .exit)) r ⌝ }
 {
     if x.kind == 1 {
-        return put_named(w, 10 + wide(x.a) * 24, x.at, buf, at);
+        return put_named(w, 10 + wide(x.a) * ROW_SIZE, x.at, buf, at);
     }
     if x.kind == 2 {
-        return put_named(w, 776 + wide(x.a) * 4, x.at, buf, at);
+        return put_named(w, LOCATIONS + wide(x.a) * 4, x.at, buf, at);
     }
     put_sent(w, x.a, x.b, x.at, buf, at)
 }
 
 // A space, and the label of an action that may fire.
-fn put_action(
-    w: &[u32; 99592],
-    st: State,
-    kind: u32,
-    p: u32,
-    q: u32,
-    buf: &mut [u8],
-    at: usize,
-) -> usize
+fn put_action(w: &Script, st: State, kind: u32, p: u32, q: u32, buf: &mut [u8], at: usize) -> usize
     requires { ⌜ (valid (now w) st ≡ true) × (mayFire (now w) st (kind ∷ p ∷ q ∷ []) ≡ true) ⌝ }
     ensures { λ r. ⌜ Wrote (now (buf .entry)) at (spaced (labelIn (now (w .entry)) st (kind ∷ p ∷ q ∷ []))) (now (buf .exit)) r ⌝ }
 {
@@ -83,7 +79,7 @@ fn put_action(
 
 // The labels of the actions of the first n records, which may all fire.
 fn put_actions(
-    w: &[u32; 99592],
+    w: &Script,
     st: State,
     records: &[[u32; 3]],
     n: usize,
@@ -106,7 +102,7 @@ fn put_actions(
 // The line of the step at the location l of the state st, whose actions are the first n records: from the place at on. Returns the place after it;
 // what lies past the buffer's end is counted and dropped.
 pub fn put_line(
-    w: &[u32; 99592],
+    w: &Script,
     st: State,
     l: u32,
     records: &[[u32; 3]],
@@ -117,7 +113,7 @@ pub fn put_line(
     requires { ⌜ Holds (now w) st l (now records) n ⌝ }
     ensures { λ r. ⌜ Wrote (now (buf .entry)) at (lineText (locName (now (w .entry)) l) (stepLabels (now (w .entry)) st l)) (now (buf .exit)) r ⌝ }
 {
-    let a = put_name(w, 776 + wide(l) * 4, buf, at);
+    let a = put_name(w, LOCATIONS + wide(l) * 4, buf, at);
     let b = put_actions(w, st, records, n, buf, a);
     put(b'\n', buf, b)
 }

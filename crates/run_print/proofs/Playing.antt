@@ -58,6 +58,11 @@ locs-some w st g =
     omega arith
 
 -- ── a step ──
+-- where question 17 is answered by yes, the step without it is the step
+pub as-answer : (w : List ℕ) (st : State) (l size : ℕ) (r : Stepped) (ds : List ℕ) (before after : List (List ℕ)) → valid w st ≡ true → stepsAs w st (stepRule w st l size) r ds before after → stepsAs w st (stepAnswer w st l size) r ds before after
+unfolding stepAnswer
+as-answer w st l size r ds before after v s = rw v s
+
 module _ (w : List ℕ) (st : State) (l : ℕ) (good : valid w st ≡ true) (inl : l < locsIn w) where
   abbrev D : List Def
   D = defsOf w

@@ -35,7 +35,7 @@ piecesOf ls (accepted m) = playingPieces (m .defs) (four ls) (m .comps)
 unfoldable pub pieces : List ℕ → List (List ℕ)
 pieces s = piecesOf (locationsIn (form s)) (read s)
 
--- ── a next: where a printout by pieces stands ──
+-- ── where a printout by pieces stands ──
 unfoldable pub copies : ℕ → List Name → List Name
 copies zero ls = []
 copies (suc m) ls = ls ++ copies m ls

@@ -22,7 +22,10 @@ ghost use Rattle.text_read.specs.Answer.{ReadsOver};
 ghost use Rattle.run_print.specs.Print.{refusedText, turnOf, ending, four, playing, printout};
 ghost use Rattle.run_print.specs.Pieces.{pieces, piecesLeft, ProgressOk, PieceIs};
 ghost use Rattle.run_print.specs.Turned.{TurnIs};
+use calls_step::step::step_valid;
 use run_line::put_line;
+use table::SCRIPT_WORDS;
+use table::Script;
 use table::State;
 use table::words::wide;
 use table::words::word;
@@ -62,13 +65,13 @@ fn put_refused(n: u32, buf: &mut [u8], at: usize) -> usize
 }
 
 // The step at the location l, and its line or its refusal.
-fn turn(w: &[u32; 99592], st: State, l: u32, buf: &mut [u8], at: usize) -> Turned
+fn turn(w: &Script, st: State, l: u32, buf: &mut [u8], at: usize) -> Turned
     requires { ⌜ (valid (now w) st ≡ true) × (l < locsIn (now w)) ⌝ }
     ensures { λ r. ⌜ TurnIs (now (w .entry)) (turnOf (defsOf (now (w .entry))) (locName (now (w .entry)) l) (netOf (now (w .entry)) st)) (now (buf .entry)) at (now (buf .exit)) r ⌝ }
 {
     let mut records = [[0; 3]; 256];
     let mut next = st;
-    let s = calls::step_at(w, &mut next.c, st.n, l, &mut records);
+    let s = step_valid(w, &mut next.c, st.n, l, &mut records);
     if s.code != 0 {
         let a = put_refused(s.code, buf, at);
         return Turned {
@@ -95,7 +98,7 @@ fn put_first(s: &[u8], n: usize, buf: &mut [u8], at: usize) -> usize
 }
 
 // The network, in 65,536 bytes, or the refusal to write it.
-fn put_network(w: &[u32; 99592], st: State, buf: &mut [u8], at: usize) -> usize
+fn put_network(w: &Script, st: State, buf: &mut [u8], at: usize) -> usize
     requires { ⌜ valid (now w) st ≡ true ⌝ }
     ensures { λ r. ⌜ Wrote (now (buf .entry)) at (ending (defsOf (now (w .entry))) (netOf (now (w .entry)) st)) (now (buf .exit)) r ⌝ }
 {
@@ -108,7 +111,7 @@ fn put_network(w: &[u32; 99592], st: State, buf: &mut [u8], at: usize) -> usize
 }
 
 // Four rounds of steps over all locations by number, then the network. That is at most 4 rounds of 64 lines of 13,329 bytes, and 65,536 bytes.
-fn play(w: &[u32; 99592], st: State, buf: &mut [u8]) -> usize
+fn play(w: &Script, st: State, buf: &mut [u8]) -> usize
     requires { ⌜ valid (now w) st ≡ true ⌝ }
     ensures { λ r. ⌜ Wrote (now (buf .entry)) 0 (playing (defsOf (now (w .entry))) (four (locsOf (now (w .entry)))) (netOf (now (w .entry)) st)) (now (buf .exit)) r × (r ≤ 3477760) ⌝ }
 {
@@ -139,7 +142,7 @@ fn play(w: &[u32; 99592], st: State, buf: &mut [u8]) -> usize
 pub fn printout(text: &[u8], buf: &mut [u8]) -> usize
     ensures { λ r. ⌜ Wrote (now (buf .entry)) 0 (printout (now (text .entry))) (now (buf .exit)) r × (r ≤ 3477760) ⌝ }
 {
-    let mut w = [0; 99592];
+    let mut w = [0; SCRIPT_WORDS];
     let r = text_read::read(text, &mut w);
     if r.code != 0 {
         return put_refused(r.code, buf, 0);
@@ -176,7 +179,7 @@ fn before_step(round: usize, l: usize, st: State) -> Progress
 }
 
 // The network, or the refusal to write it, at the front of a buffer of 65,536 bytes.
-fn put_ending(w: &[u32; 99592], st: State, buf: &mut [u8]) -> usize
+fn put_ending(w: &Script, st: State, buf: &mut [u8]) -> usize
     requires { ⌜ (valid (now w) st ≡ true) × (length (now buf) ≡ 65536) ⌝ }
     ensures { λ r. ⌜ (r ≤ 65536) × (take r (now (buf .exit)) ≡ ending (defsOf (now (w .entry))) (netOf (now (w .entry)) st)) × (drop r (now (buf .exit)) ≡ drop r (now (buf .entry))) ⌝ }
 {
@@ -188,7 +191,7 @@ fn put_ending(w: &[u32; 99592], st: State, buf: &mut [u8]) -> usize
 }
 
 // The start of a printout by pieces: reads the text into the lent script, as `read_over` does. All its pieces are left.
-pub fn begin(text: &[u8], w: &mut [u32; 99592]) -> Progress
+pub fn begin(text: &[u8], w: &mut Script) -> Progress
     ensures { λ r. ⌜ (r .over ≡ false) × ProgressOk (now (w .exit)) r × (piecesLeft (now (w .exit)) r ≡ pieces (now (text .entry))) × ReadsOver (now (text .entry)) (now (w .entry)) (now (w .exit)) (record { code = r .code; state = r .state }) ⌝ }
 {
     let r = text_read::read_over(text, w);
@@ -203,7 +206,7 @@ pub fn begin(text: &[u8], w: &mut [u32; 99592]) -> Progress
 }
 
 // The next piece, in a buffer of 65,536 bytes: the line of a step, the network, or a refusal.
-pub fn next_piece(w: &[u32; 99592], c: Progress, buf: &mut [u8]) -> Piece
+pub fn next_piece(w: &Script, c: Progress, buf: &mut [u8]) -> Piece
     requires { ⌜ (c .over ≡ false) × ProgressOk (now w) c × (length (now buf) ≡ 65536) ⌝ }
     ensures { λ r. ⌜ PieceIs (now (w .entry)) c (now (buf .entry)) (now (buf .exit)) r ⌝ }
 {

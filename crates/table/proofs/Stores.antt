@@ -12,7 +12,7 @@ use lib.Seq.{sets, getD-set-same, getD-set-other}
 use Rattle.terms.specs.Rules as R
 use Rattle.table.specs.declared.Comp.{Comp}
 use Rattle.table.specs.declared.State.{State}
-use Rattle.table.specs.Words.{word}
+use Rattle.table.specs.Words.{compSize, stateWords, word}
 use Rattle.table.specs.Meaning.{listFrom, compIn, wordsIn, PastKept, compsOf}
 
 pub set-out : (l : List ℕ) (i j a : ℕ) → (j ≡ i → ⊥) → word (set l i a) j ≡ word l j
@@ -55,22 +55,22 @@ twelve-stores l o a b c d e f g h i j k m =
 -- ── a component written ──
 module _ (c : List ℕ) (p : ℕ) (x : Comp) where
   abbrev after : List ℕ
-  after = sets c (p * 12) (wordsIn x)
+  after = sets c (p * compSize) (wordsIn x)
 
   module _ (k : ℕ) (d : k ≡ p → ⊥) where
-    same : (j : ℕ) → j < 12 → word after (k * 12 + j) ≡ word c (k * 12 + j)
+    same : (j : ℕ) → j < 12 → word after (k * compSize + j) ≡ word c (k * compSize + j)
     same j h = go (ltb k p) refl
       where
         -- the position lies behind
         behind : (ltb k p ≡ false) → p < k
         behind e = let n : p ≤ k = ltb-false k p e in let m : k ≡ p → ⊥ = d in omega arith
 
-        go : (b : Bool) → ltb k p ≡ b → word after (k * 12 + j) ≡ word c (k * 12 + j)
-        go true e = let l : k < p = ltb-true k p e in sets-under (wordsIn x) c (p * 12) (k * 12 + j) (omega arith)
-        go false e = let g : p < k = behind e in sets-past (wordsIn x) c (p * 12) (k * 12 + j) (omega arith)
+        go : (b : Bool) → ltb k p ≡ b → word after (k * compSize + j) ≡ word c (k * compSize + j)
+        go true e = let l : k < p = ltb-true k p e in sets-under (wordsIn x) c (p * compSize) (k * compSize + j) (omega arith)
+        go false e = let g : p < k = behind e in sets-past (wordsIn x) c (p * compSize) (k * compSize + j) (omega arith)
 
-    first : word after (k * 12) ≡ word c (k * 12)
-    first = let e : k * 12 ≡ k * 12 + 0 = omega arith in ap (word after) e ∙ same 0 (omega arith) ∙ ap (word c) (sym e)
+    first : word after (k * compSize) ≡ word c (k * compSize)
+    first = let e : k * compSize ≡ k * compSize + 0 = omega arith in ap (word after) e ∙ same 0 (omega arith) ∙ ap (word c) (sym e)
 
     pub put-other : compIn after k ≡ compIn c k
     unfolding compIn
@@ -78,12 +78,12 @@ module _ (c : List ℕ) (p : ℕ) (x : Comp) where
         rw
         (first, same 1 (omega arith), same 2 (omega arith), same 3 (omega arith), same 4 (omega arith), same 5 (omega arith), same 6 (omega arith), same 7 (omega arith), same 8 (omega arith), same 9 (omega arith), same 10 (omega arith), same 11 (omega arith))
 
-  module _ (room : p * 12 + 12 ≤ length c) where
-    stored : (j : ℕ) → j < 12 → word after (p * 12 + j) ≡ getD (wordsIn x) j 0
-    stored j h = sets-in (wordsIn x) c (p * 12) j (omega arith) room
+  module _ (room : p * compSize + 12 ≤ length c) where
+    stored : (j : ℕ) → j < 12 → word after (p * compSize + j) ≡ getD (wordsIn x) j 0
+    stored j h = sets-in (wordsIn x) c (p * compSize) j (omega arith) room
 
-    head : word after (p * 12) ≡ x .loc
-    head = let e : p * 12 ≡ p * 12 + 0 = omega arith in ap (word after) e ∙ stored 0 (omega arith)
+    head : word after (p * compSize) ≡ x .loc
+    head = let e : p * compSize ≡ p * compSize + 0 = omega arith in ap (word after) e ∙ stored 0 (omega arith)
 
     eight : (l : List ℕ) → length l ≡ 8 → (word l 0 ∷ word l 1 ∷ word l 2 ∷ word l 3 ∷ word l 4 ∷ word l 5 ∷ word l 6 ∷ word l 7 ∷ []) ≡ l
     eight [] e = absurd (omega arith)
@@ -105,8 +105,8 @@ module _ (c : List ℕ) (p : ℕ) (x : Comp) where
         (ap (λ v. record { loc = x .loc; mark = x .mark; place = x .place; timer = x .timer; vals = v }) (eight (x .vals) e))
 
 -- ── past the components in use ──
-pub past-put : (c : List ℕ) (k p : ℕ) (x : Comp) → p < k → PastKept k c (sets c (p * 12) (wordsIn x))
-past-put c k p x h = record { words = λ o b. sets-past (wordsIn x) c (p * 12) o (omega arith) }
+pub past-put : (c : List ℕ) (k p : ℕ) (x : Comp) → p < k → PastKept k c (sets c (p * compSize) (wordsIn x))
+past-put c k p x h = record { words = λ o b. sets-past (wordsIn x) c (p * compSize) o (omega arith) }
 
 pub past-none : (k : ℕ) (c : List ℕ) → PastKept k c c
 past-none k c = record { words = λ o b. refl }
@@ -131,12 +131,12 @@ listFrom-set k (suc n) f g (suc p) x b e h =
     rw (h k (λ q. omega arith), listFrom-set (suc k) n f g p x (omega arith) (ap g z ∙ e) (λ j q. h j (λ y. q (y ∙ sym z))))
 
 -- the components of a state of which one is written
-pub comps-put : (st : State) (p : ℕ) (x : Comp) → p < st .n → st .n ≤ 256 → length (st .c) ≡ 3_072 → length (x .vals) ≡ 8
-    → compsOf (record { c = sets (st .c) (p * 12) (wordsIn x); n = st .n }) ≡ R.set (compsOf st) p x
+pub comps-put : (st : State) (p : ℕ) (x : Comp) → p < st .n → st .n ≤ 256 → length (st .c) ≡ stateWords → length (x .vals) ≡ 8
+    → compsOf (record { c = sets (st .c) (p * compSize) (wordsIn x); n = st .n }) ≡ R.set (compsOf st) p x
 unfolding compsOf
 comps-put st p x b m l v =
     let z : 0 + p ≡ p = omega arith in
-    let w = sets (st .c) (p * 12) (wordsIn x) in
+    let w = sets (st .c) (p * compSize) (wordsIn x) in
     listFrom-set 0 (st .n) (compIn (st .c)) (compIn w) p x b (ap (compIn w) z ∙ put-same (st .c) p x (omega (arith, l)) v) (λ j d. put-other (st .c) p x j (λ e. d (e ∙ sym z)))
 
 -- components written one after the other
@@ -162,10 +162,10 @@ drop-from k (suc n) (suc j) f =
     let b : suc n - suc j ≡ n - j = omega arith in
     rw (a, b) (drop-from (suc k) n j f)
 
-pub comps-more : (c : List ℕ) (k : ℕ) (x : Comp) → k < 256 → length c ≡ 3_072 → length (x .vals) ≡ 8
-    → listFrom 0 (k + 1) (compIn (sets c (k * 12) (wordsIn x))) ≡ listFrom 0 k (compIn c) ++ (x ∷ [])
+pub comps-more : (c : List ℕ) (k : ℕ) (x : Comp) → k < 256 → length c ≡ stateWords → length (x .vals) ≡ 8
+    → listFrom 0 (k + 1) (compIn (sets c (k * compSize) (wordsIn x))) ≡ listFrom 0 k (compIn c) ++ (x ∷ [])
 comps-more c k x b l v =
-    let w = sets c (k * 12) (wordsIn x) in
+    let w = sets c (k * compSize) (wordsIn x) in
     let z : 0 + k ≡ k = omega arith in
     ap (λ m. listFrom 0 m (compIn w)) (add-one k)
     ∙ listFrom-end 0 k (compIn w)

@@ -10,14 +10,14 @@ use lib.ListN.{take}
 use borrow.Author.Tests.{eq-eqb, lt-ltb, ltb-true, ltb-false}
 use Rattle.terms.specs.Same.{every}
 use Rattle.table.specs.declared.Head.the-variants.{Call}
-use Rattle.table.specs.Words.{field, nextAt, lowAt, scopeAt, namesAt, locsIn, defsIn, arityOf}
+use Rattle.table.specs.Words.{lastName, field, nextAt, lowAt, scopeAt, namesAt, locsIn, defsIn, arityOf}
 use Rattle.table.specs.Valid.{refOk, headOk, stacked, floor}
 use Rattle.table.specs.Tests.{rowOk, restOk, endOk, PlainCall}
 use Rattle.table.proofs.WordsHead.{head-call, head-stop}
 use Rattle.table.proofs.ValidParts.{args, args-all, end-last, part-is, rest-stop, scope-passes}
 
 module _ (w : List ℕ) (i : ℕ) (low : lowAt w i ≡ i) (none : field w i 8 ≡ 0) (last : nextAt w i ≡ 0) where
-  empty : every (λ o. ltb o 99_589) (scopeAt w i) ≡ true
+  empty : every (λ o. ltb o lastName) (scopeAt w i) ≡ true
   unfolding scopeAt every
   empty = rw none refl
 

@@ -12,7 +12,7 @@ use borrow.Author.Tests.{ltb-true, le-leb, lt-leb}
 use Rattle.terms.specs.Same.{every}
 use Rattle.terms.proofs.Names.{and-inv}
 use Rattle.table.specs.declared.Head.the-variants.{Stop}
-use Rattle.table.specs.Words.{field, headAt, nextAt, lowAt, scopeAt}
+use Rattle.table.specs.Words.{lastName, field, headAt, nextAt, lowAt, scopeAt}
 use Rattle.table.specs.Valid.{alike, innerOk, nextOk, lowOk, treeOk, stacked, floor, headOk}
 use Rattle.table.specs.Tests.{slotsOk, rowOk, restOk, endOk}
 use Rattle.table.proofs.ValidBool.{and-false}
@@ -83,7 +83,7 @@ module _ (w : List ℕ) (i : ℕ) where
   unfolding restOk headOk stacked floor endOk
   rest-stop = refl
 
-  pub scope-passes : field w i 8 ≤ 8 → every (λ o. ltb o 99_589) (scopeAt w i) ≡ true → slotsOk w i ≡ true
+  pub scope-passes : field w i 8 ≤ 8 → every (λ o. ltb o lastName) (scopeAt w i) ≡ true → slotsOk w i ≡ true
   unfolding slotsOk
   scope-passes h e = rw (le-leb (field w i 8) 8 h, e)
 
@@ -91,6 +91,6 @@ module _ (w : List ℕ) (i : ℕ) where
   unfolding slotsOk
   scope-large h = rw (lt-leb (field w i 8) 8 h)
 
-  pub scope-outside : every (λ o. ltb o 99_589) (scopeAt w i) ≡ false → slotsOk w i ≡ false
+  pub scope-outside : every (λ o. ltb o lastName) (scopeAt w i) ≡ false → slotsOk w i ≡ false
   unfolding slotsOk
   scope-outside e = simp (e, and-false)

@@ -15,7 +15,7 @@ use Rattle.terms.specs.Same.{every}
 use Rattle.terms.proofs.Names.{and-inv, and-in}
 use Rattle.table.specs.declared.Head.{Head}
 use Rattle.table.specs.declared.Head.the-variants.{Stop, Go, Out, In, Call}
-use Rattle.table.specs.Words.{partsIn, nameAt, field, headAt, nextAt, lowAt, ownAt, boundAt, scopeAt, namesAt}
+use Rattle.table.specs.Words.{lastName, partsIn, nameAt, field, headAt, nextAt, lowAt, ownAt, boundAt, scopeAt, namesAt}
 use Rattle.table.specs.Valid.{below, index, sortOk, entered, headOk, nextOk, scopeOk, stacked, floor, lowOk, treeOk, partOk}
 use Rattle.table.specs.Tests.{slotsOk, rowOk, scopeNamed}
 use Rattle.table.proofs.Tests.{below-at, every-append, inner}
@@ -51,7 +51,7 @@ module _ (w : List ℕ) where
   -- ── a row's tests, with the names in its scope and without ──
   pub part-rows : (i : ℕ) → partOk w i ≡ (rowOk w i && scopeNamed w i)
   unfolding partOk scopeOk rowOk slotsOk scopeNamed
-  part-rows i = go (leb (field w i 0) 4) (leb (field w i 8) 8) (every (λ o. ltb o 99_589) (scopeAt w i)) (sortOk isSmall (namesAt w i)) (headOk w i (headAt w i) && (nextOk w i (nextAt w i) && treeOk w i))
+  part-rows i = go (leb (field w i 0) 4) (leb (field w i 8) 8) (every (λ o. ltb o lastName) (scopeAt w i)) (sortOk isSmall (namesAt w i)) (headOk w i (headAt w i) && (nextOk w i (nextAt w i) && treeOk w i))
     where
       go : (a b c d e : Bool) → (a && ((b && (c && d)) && e)) ≡ ((a && ((b && c) && e)) && d)
       go false b c d e = refl
@@ -84,7 +84,7 @@ module _ (w : List ℕ) where
   unfolding rowOk slotsOk
   row-fine i e =
       let a = and-inv (leb (field w i 0) 4) _ e in
-      let b = and-inv (leb (field w i 8) 8 && every (λ o. ltb o 99_589) (scopeAt w i)) _ (a .1) in
+      let b = and-inv (leb (field w i 8) 8 && every (λ o. ltb o lastName) (scopeAt w i)) _ (a .1) in
       let s = and-inv (leb (field w i 8) 8) _ (b .0) in
       let c = and-inv (headOk w i (headAt w i)) _ (b .1) in
       let d = and-inv (nextOk w i (nextAt w i)) _ (c .1) in

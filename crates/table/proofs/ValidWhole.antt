@@ -15,7 +15,7 @@ use Rattle.table.specs.declared.Comp.{Comp}
 use Rattle.table.specs.declared.State.{State}
 use Rattle.table.specs.declared.Sort.{Sort}
 use Rattle.table.specs.declared.Sort.the-variants.{Location, Small, Identifier}
-use Rattle.table.specs.Words.{partsIn, locsIn, chansIn, defsIn, locName, chanName, defName}
+use Rattle.table.specs.Words.{chansAt, locsAt, partsIn, locsIn, chansIn, defsIn, locName, chanName, defName}
 use Rattle.table.specs.Meaning.{listFrom, compIn, compsOf, noComp}
 use Rattle.table.specs.Valid.{timerOk, sortOk, markOk, compOk}
 use Rattle.table.specs.Tests.{firstOf, rowName, countsOk}
@@ -47,11 +47,11 @@ abbrev rows : List ℕ → Sort → ℕ → ℕ → ℕ → Bool
 rows w f o s n = every (isName (firstOf f)) (listFrom 0 n (rowName w o s)) && distinct (listFrom 0 n (rowName w o s))
 
 module _ (w : List ℕ) (n : ℕ) where
-  pub locations-are : rows w Location 776 4 n ≡ sortOk isLocation (listFrom 0 n (locName w))
+  pub locations-are : rows w Location locsAt 4 n ≡ sortOk isLocation (listFrom 0 n (locName w))
   unfolding sortOk isLocation locName rowName
   locations-are = refl
 
-  pub channels-are : rows w Small 1_032 4 n ≡ sortOk isSmall (listFrom 0 n (chanName w))
+  pub channels-are : rows w Small chansAt 4 n ≡ sortOk isSmall (listFrom 0 n (chanName w))
   unfolding sortOk isSmall chanName rowName
   channels-are = refl
 

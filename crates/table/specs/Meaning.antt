@@ -19,7 +19,7 @@ use Rattle.table.specs.declared.Head.{Head}
 use Rattle.table.specs.declared.Head.the-variants.{Stop, Go, Out, In, Call}
 use Rattle.table.specs.declared.Comp.{Comp}
 use Rattle.table.specs.declared.State.{State}
-use Rattle.table.specs.Words.{word, defsIn, locName, chanName, defName, bodyOf, paramsOf, headAt, nextAt, boundAt, namesAt}
+use Rattle.table.specs.Words.{compSize, word, defsIn, locName, chanName, defName, bodyOf, paramsOf, headAt, nextAt, boundAt, namesAt}
 
 -- ── terms ──
 -- what a value's word stands for where the names ys are in scope
@@ -99,13 +99,13 @@ noComp = record { loc = 0; mark = 0; place = 0; timer = 0; vals = [] }
 -- the component at position i of a state's words, and the words of a component
 unfoldable pub compIn : List ℕ → ℕ → Comp
 compIn c i = record {
-  loc = word c (i * 12);
-  mark = word c (i * 12 + 1);
-  place = word c (i * 12 + 2);
-  timer = word c (i * 12 + 3);
+  loc = word c (i * compSize);
+  mark = word c (i * compSize + 1);
+  place = word c (i * compSize + 2);
+  timer = word c (i * compSize + 3);
   vals =
-      word c (i * 12 + 4) ∷ word c (i * 12 + 5) ∷ word c (i * 12 + 6) ∷ word c (i * 12 + 7) ∷ word c (i * 12 + 8) ∷ word c (i * 12 + 9)
-      ∷ word c (i * 12 + 10) ∷ word c (i * 12 + 11) ∷ [];
+      word c (i * compSize + 4) ∷ word c (i * compSize + 5) ∷ word c (i * compSize + 6) ∷ word c (i * compSize + 7) ∷ word c (i * compSize + 8) ∷ word c (i * compSize + 9)
+      ∷ word c (i * compSize + 10) ∷ word c (i * compSize + 11) ∷ [];
 }
 
 abbrev pub wordsIn : Comp → List ℕ
@@ -115,7 +115,7 @@ wordsIn x =
 
 -- past the first k components every word of b is that of a
 pub record PastKept (k : ℕ) (a b : List ℕ) : Type 0 where
-  pub words : (o : ℕ) → k * 12 ≤ o → word b o ≡ word a o
+  pub words : (o : ℕ) → k * compSize ≤ o → word b o ≡ word a o
 
 -- the components in use
 unfoldable pub compsOf : State → List Comp

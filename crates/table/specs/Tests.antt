@@ -15,7 +15,7 @@ use Rattle.table.specs.declared.Head.{Head}
 use Rattle.table.specs.declared.Key.{Key}
 use Rattle.table.specs.declared.Sort.{Sort}
 use Rattle.table.specs.declared.Sort.the-variants.{Location, Small, Identifier}
-use Rattle.table.specs.Words.{partsIn, locsIn, chansIn, defsIn, letters, nameAt, arityOf, field, headAt, nextAt, lowAt, scopeAt, namesAt}
+use Rattle.table.specs.Words.{lastName, partsIn, locsIn, chansIn, defsIn, letters, nameAt, arityOf, field, headAt, nextAt, lowAt, scopeAt, namesAt}
 use Rattle.table.specs.Valid.{index, sortOk, timerOk, innerOk, headOk, nextOk, stacked, floor, lowOk, treeOk}
 
 -- ── names ──
@@ -79,7 +79,7 @@ scopeNamed w i = sortOk isSmall (namesAt w i)
 
 -- the tests of a part but for the names in its scope
 unfoldable pub slotsOk : List ℕ → ℕ → Bool
-slotsOk w i = leb (field w i 8) 8 && every (λ o. ltb o 99_589) (scopeAt w i)
+slotsOk w i = leb (field w i 8) 8 && every (λ o. ltb o lastName) (scopeAt w i)
 
 unfoldable pub rowOk : List ℕ → ℕ → Bool
 rowOk w i = leb (field w i 0) 4 && (slotsOk w i && (headOk w i (headAt w i) && (nextOk w i (nextAt w i) && treeOk w i)))

@@ -12,7 +12,7 @@ use Rattle.table.specs.declared.Head.{Head}
 use Rattle.table.specs.declared.Head.the-variants.{Stop, Go, Out, In, Call}
 use Rattle.table.specs.declared.Comp.{Comp}
 use Rattle.table.specs.declared.State.{State}
-use Rattle.table.specs.Words.{partsIn, locsIn, chansIn, defsIn, locName, chanName, arityOf, bodyOf, defName, paramsAt, paramsOf, field, headAt, nextAt, lowAt, ownAt, boundAt, scopeAt, namesAt}
+use Rattle.table.specs.Words.{lastName, partsIn, locsIn, chansIn, defsIn, locName, chanName, arityOf, bodyOf, defName, paramsAt, paramsOf, field, headAt, nextAt, lowAt, ownAt, boundAt, scopeAt, namesAt}
 use Rattle.table.specs.Meaning.{listFrom, compsOf}
 
 -- of each number below n
@@ -73,7 +73,7 @@ nextOk w i (suc j) = innerOk w i j (scopeAt w i)
 
 -- at most 8 variables in scope, with names that stand in the script, each of the form of a variable, all different
 unfoldable pub scopeOk : List ℕ → ℕ → Bool
-scopeOk w i = leb (field w i 8) 8 && (every (λ o. ltb o 99_589) (scopeAt w i) && sortOk isSmall (namesAt w i))
+scopeOk w i = leb (field w i 8) 8 && (every (λ o. ltb o lastName) (scopeAt w i) && sortOk isSmall (namesAt w i))
 
 -- The range of a place: P lies directly below its part, Q directly below P's last part, the next part directly below these, and `low` is the least
 -- place of them all. So nothing is shared, and no term is larger than its table.

@@ -20,6 +20,39 @@ use Rattle.terms.specs.Names.{Name}
 use Rattle.table.specs.declared.Head.{Head}
 use Rattle.table.specs.declared.Head.the-variants.{Stop, Go, Out, In, Call}
 
+-- ── the layout's numbers ──
+-- how many words a script and the components of a state have
+abbrev pub scriptWords : ℕ
+scriptWords = 99_592
+
+abbrev pub stateWords : ℕ
+stateWords = 3_072
+
+-- where the names of locations and of channels begin, and the parts
+abbrev pub locsAt : ℕ
+locsAt = 776
+
+abbrev pub chansAt : ℕ
+chansAt = 1_032
+
+abbrev pub partsAt : ℕ
+partsAt = 1_288
+
+-- where the name that the input at place 0 binds stands
+abbrev pub ownsAt : ℕ
+ownsAt = 1_305
+
+-- how many words the row of a part or of a definition has, and a component
+abbrev pub rowSize : ℕ
+rowSize = 24
+
+abbrev pub compSize : ℕ
+compSize = 12
+
+-- a name stands before this word
+abbrev pub lastName : ℕ
+lastName = 99_589
+
 abbrev pub word : List ℕ → ℕ → ℕ
 word w i = getD w i 0
 
@@ -56,31 +89,31 @@ unfoldable pub nameAt : List ℕ → ℕ → Name
 nameAt w o = letters (word w o) (word w (o + 1)) (word w (o + 2)) (word w (o + 3))
 
 unfoldable pub locName : List ℕ → ℕ → Name
-locName w l = nameAt w (776 + l * 4)
+locName w l = nameAt w (locsAt + l * 4)
 
 unfoldable pub chanName : List ℕ → ℕ → Name
-chanName w c = nameAt w (1_032 + c * 4)
+chanName w c = nameAt w (chansAt + c * 4)
 
 -- ── definitions ──
 unfoldable pub arityOf : List ℕ → ℕ → ℕ
-arityOf w d = word w (8 + d * 24)
+arityOf w d = word w (8 + d * rowSize)
 
 unfoldable pub bodyOf : List ℕ → ℕ → ℕ
-bodyOf w d = word w (9 + d * 24)
+bodyOf w d = word w (9 + d * rowSize)
 
 unfoldable pub defName : List ℕ → ℕ → Name
-defName w d = nameAt w (10 + d * 24)
+defName w d = nameAt w (10 + d * rowSize)
 
 -- where the parameters' names stand
 unfoldable pub paramsAt : List ℕ → ℕ → List ℕ
-paramsAt w d = take (arityOf w d) ((14 + d * 24) ∷ (18 + d * 24) ∷ (22 + d * 24) ∷ (26 + d * 24) ∷ [])
+paramsAt w d = take (arityOf w d) ((14 + d * rowSize) ∷ (18 + d * rowSize) ∷ (22 + d * rowSize) ∷ (26 + d * rowSize) ∷ [])
 
 unfoldable pub paramsOf : List ℕ → ℕ → List Name
 paramsOf w d = map (nameAt w) (paramsAt w d)
 
 -- ── parts ──
 abbrev pub field : List ℕ → ℕ → ℕ → ℕ
-field w i k = word w (1_288 + i * 24 + k)
+field w i k = word w (partsAt + i * rowSize + k)
 
 -- a part without its inner processes: these are places
 unfoldable pub headAt : List ℕ → ℕ → Head
@@ -100,7 +133,7 @@ lowAt w i = field w i 7
 
 -- where the name that an input binds stands
 unfoldable pub ownAt : ℕ → ℕ
-ownAt i = 1_305 + i * 24
+ownAt i = ownsAt + i * rowSize
 
 unfoldable pub boundAt : List ℕ → ℕ → Name
 boundAt w i = nameAt w (ownAt i)

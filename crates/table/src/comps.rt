@@ -4,19 +4,22 @@ ghost use Prim.Native.Nat.{_*_, _<_};
 ghost use lib.ListN.{length};
 ghost use lib.Seq.{sets};
 ghost use Rattle.table.specs.Meaning.{compIn, wordsIn};
+ghost use Rattle.table.specs.Words.{compSize, stateWords};
+use super::COMP_SIZE;
 use super::Comp;
+use super::Words;
 
 // Nothing to run: of an array by value the number of words is known, and of one behind a reference it is not. `sized(*c)` says it of a lent one.
-pub fn sized(c: [u32; 3072])
-    ensures { λ _. ⌜ length c ≡ 3072 ⌝ }
+pub fn sized(c: Words)
+    ensures { λ _. ⌜ length c ≡ stateWords ⌝ }
 {}
 
 // The component at position i.
-pub fn comp_at(c: &[u32; 3072], i: usize) -> Comp
+pub fn comp_at(c: &Words, i: usize) -> Comp
     requires { ⌜ i < 256 ⌝ }
     ensures { λ r. ⌜ r ≡ compIn (now (c .entry)) i ⌝ }
 {
-    let o = i * 12;
+    let o = i * COMP_SIZE;
     Comp {
         loc: c[o],
         mark: c[o + 1],
@@ -36,11 +39,11 @@ pub fn comp_at(c: &[u32; 3072], i: usize) -> Comp
 }
 
 // x at position i.
-pub fn put_comp(c: &mut [u32; 3072], i: usize, x: Comp)
+pub fn put_comp(c: &mut Words, i: usize, x: Comp)
     requires { ⌜ i < 256 ⌝ }
-    ensures { λ _. ⌜ now (c .exit) ≡ sets (now (c .entry)) (i * 12) (wordsIn x) ⌝ }
+    ensures { λ _. ⌜ now (c .exit) ≡ sets (now (c .entry)) (i * compSize) (wordsIn x) ⌝ }
 {
-    let o = i * 12;
+    let o = i * COMP_SIZE;
     let v = x.vals;
     c[o] = x.loc;
     c[o + 1] = x.mark;

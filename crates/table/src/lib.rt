@@ -41,6 +41,31 @@ mod forms;
 pub mod valid;
 pub mod words;
 
+// How many words a script and the components of a state have, and where in a script the names of locations and channels, the parts, and the name that the
+// input at place 0 binds begin (specs/Words).
+pub const SCRIPT_WORDS: usize = 99592;
+
+pub const STATE_WORDS: usize = 3072;
+
+pub const LOCATIONS: usize = 776;
+
+pub const CHANNELS: usize = 1032;
+
+pub const PARTS: usize = 1288;
+
+pub const OWNS: usize = 1305;
+
+// How many words the row of a part or of a definition has, and a component.
+pub const ROW_SIZE: usize = 24;
+
+pub const COMP_SIZE: usize = 12;
+
+// The words of a script, written by reading and then only lent.
+pub type Script = [u32; SCRIPT_WORDS];
+
+// The words of a state's components.
+pub type Words = [u32; STATE_WORDS];
+
 // A part without its inner processes: these are places.
 pub enum Head {
     Stop,
@@ -66,7 +91,7 @@ pub struct Comp {
 // The components, twelve words for each in the order of its fields; the first n of 256 are in use.
 #[repr(C)]
 pub struct State {
-    pub c: [u32; 3072],
+    pub c: Words,
     pub n: usize,
 }
 

@@ -7,14 +7,20 @@ ghost use lib.Dec.{eqb, ltb};
 ghost use lib.ListN.{take, drop};
 ghost use Rattle.terms.specs.Same.{every};
 ghost use Rattle.terms.specs.Letters.{member, isName, distinct};
-ghost use Rattle.table.specs.Words.{partsIn, locsIn, defsIn, field, scopeAt, nameAt, namesAt, paramsAt, arityOf, atMost8};
+ghost use Rattle.table.specs.Words.{lastName, partsIn, locsIn, defsIn, field, scopeAt, nameAt, namesAt, paramsAt, arityOf, atMost8};
 ghost use Rattle.table.specs.Meaning.{listFrom};
 ghost use Rattle.table.specs.Valid.{alike, index, below, timerOk, slotOk, refOk, innerOk, entered, partOk, defOk, scriptOk, compOk, stateOk, valid};
 ghost use Rattle.table.specs.Tests.{keyName, firstOf, rowName, Mixed, Noted, Scoped, PlainCall, slots, slotNamed, scopeNamed, rowOk, restOk, endOk, sendOk, countsOk};
 ghost use Rattle.table.specs.declared.Head.the-variants.{Go, Out, In, Call};
+use super::CHANNELS;
 use super::Comp;
 use super::Key;
+use super::LOCATIONS;
+use super::OWNS;
+use super::ROW_SIZE;
+use super::Script;
 use super::Sort;
+use super::Words;
 use super::comps::comp_at;
 use super::forms::is_name;
 use super::words::arity_of;
@@ -39,7 +45,7 @@ fn at_most_8(x: u32) -> usize
 }
 
 // Are the first n words of the scopes of p and i the same?
-fn same_slots(w: &[u32; 99592], p: usize, i: usize, n: usize) -> bool
+fn same_slots(w: &Script, p: usize, i: usize, n: usize) -> bool
     requires { ⌜ (p < 4096) × (i < 4096) × (n ≤ 8) ⌝ }
     ensures { λ r. ⌜ r ≡ alike (take n (slots (now (w .entry)) p)) (take n (slots (now (w .entry)) i)) ⌝ }
 {
@@ -54,7 +60,7 @@ fn same_slots(w: &[u32; 99592], p: usize, i: usize, n: usize) -> bool
 }
 
 // The first slot of a name.
-fn find_slot(w: &[u32; 99592], i: usize, n: usize, x: Key) -> usize
+fn find_slot(w: &Script, i: usize, n: usize, x: Key) -> usize
     requires { ⌜ Scoped (now w) i n ⌝ }
     ensures { λ r. ⌜ r ≡ index (namesAt (now (w .entry)) i) (keyName x) ⌝ }
 {
@@ -69,7 +75,7 @@ fn find_slot(w: &[u32; 99592], i: usize, n: usize, x: Key) -> usize
 }
 
 // Has the name at a slot the form of a variable, and is it the first of its name?
-fn slot_named(w: &[u32; 99592], i: usize, n: usize, k: usize) -> bool
+fn slot_named(w: &Script, i: usize, n: usize, k: usize) -> bool
     requires { ⌜ Scoped (now w) i n × (k < n) ⌝ }
     ensures { λ r. ⌜ r ≡ slotNamed (now (w .entry)) i k ⌝ }
 {
@@ -81,7 +87,7 @@ fn slot_named(w: &[u32; 99592], i: usize, n: usize, k: usize) -> bool
 }
 
 // Have the names of the scope their form, and do they differ?
-fn scope_named(w: &[u32; 99592], i: usize, n: usize) -> bool
+fn scope_named(w: &Script, i: usize, n: usize) -> bool
     requires { ⌜ Scoped (now w) i n ⌝ }
     ensures { λ r. ⌜ r ≡ scopeNamed (now (w .entry)) i ⌝ }
 {
@@ -96,9 +102,9 @@ fn scope_named(w: &[u32; 99592], i: usize, n: usize) -> bool
 }
 
 // Do the names of the scope stand in the script?
-fn slots_in(w: &[u32; 99592], i: usize, n: usize) -> bool
+fn slots_in(w: &Script, i: usize, n: usize) -> bool
     requires { ⌜ Scoped (now w) i n ⌝ }
-    ensures { λ r. ⌜ r ≡ every (λ o. ltb o 99589) (scopeAt (now (w .entry)) i) ⌝ }
+    ensures { λ r. ⌜ r ≡ every (λ o. ltb o lastName) (scopeAt (now (w .entry)) i) ⌝ }
 {
     let mut k = 0;
     while k < n {
@@ -110,7 +116,7 @@ fn slots_in(w: &[u32; 99592], i: usize, n: usize) -> bool
     true
 }
 
-fn slot_ok(w: &[u32; 99592], i: usize, n: usize, k: usize) -> bool
+fn slot_ok(w: &Script, i: usize, n: usize, k: usize) -> bool
     requires { ⌜ Scoped (now w) i n ⌝ }
     ensures { λ r. ⌜ r ≡ slotOk (namesAt (now (w .entry)) i) k ⌝ }
 {
@@ -121,7 +127,7 @@ fn slot_ok(w: &[u32; 99592], i: usize, n: usize, k: usize) -> bool
     find_slot(w, i, n, x) == k
 }
 
-fn ref_ok(w: &[u32; 99592], i: usize, n: usize, v: u32) -> bool
+fn ref_ok(w: &Script, i: usize, n: usize, v: u32) -> bool
     requires { ⌜ Scoped (now w) i n ⌝ }
     ensures { λ r. ⌜ r ≡ refOk (now (w .entry)) (namesAt (now (w .entry)) i) v ⌝ }
 {
@@ -134,7 +140,7 @@ fn ref_ok(w: &[u32; 99592], i: usize, n: usize, v: u32) -> bool
 
 // ── places ──
 
-fn inner_ok(w: &[u32; 99592], i: usize, n: usize, p: usize) -> bool
+fn inner_ok(w: &Script, i: usize, n: usize, p: usize) -> bool
     requires { ⌜ Scoped (now w) i n ⌝ }
     ensures { λ r. ⌜ r ≡ innerOk (now (w .entry)) i p (scopeAt (now (w .entry)) i) ⌝ }
 {
@@ -149,7 +155,7 @@ fn inner_ok(w: &[u32; 99592], i: usize, n: usize, p: usize) -> bool
 }
 
 // The same of the P of an input whose name has the slot k.
-fn bound_ok(w: &[u32; 99592], i: usize, n: usize, p: usize, k: u32) -> bool
+fn bound_ok(w: &Script, i: usize, n: usize, p: usize, k: u32) -> bool
     requires { ⌜ Scoped (now w) i n ⌝ }
     ensures { λ r. ⌜ r ≡ innerOk (now (w .entry)) i p (entered (now (w .entry)) i k) ⌝ }
 {
@@ -163,14 +169,14 @@ fn bound_ok(w: &[u32; 99592], i: usize, n: usize, p: usize, k: u32) -> bool
     if m != n + 1 {
         return false;
     }
-    if wide(field(w, p, 9 + n)) != 1305 + i * 24 {
+    if wide(field(w, p, 9 + n)) != OWNS + i * ROW_SIZE {
         return false;
     }
     same_slots(w, p, i, n)
 }
 
 // The next part, and the least place of the process.
-fn end_ok(w: &[u32; 99592], i: usize, n: usize, f: usize) -> bool
+fn end_ok(w: &Script, i: usize, n: usize, f: usize) -> bool
     requires { ⌜ Scoped (now w) i n ⌝ }
     ensures { λ r. ⌜ r ≡ endOk (now (w .entry)) i f ⌝ }
 {
@@ -198,7 +204,7 @@ fn timer_ok(t: u32) -> bool
     t <= 1000001
 }
 
-fn go_ok(w: &[u32; 99592], i: usize, n: usize) -> bool
+fn go_ok(w: &Script, i: usize, n: usize) -> bool
     requires { ⌜ Scoped (now w) i n ⌝ }
     ensures { λ r. ⌜ r ≡ restOk (now (w .entry)) i (Go (field (now (w .entry)) i 2) (field (now (w .entry)) i 3) (field (now (w .entry)) i 4)) ⌝ }
 {
@@ -219,7 +225,7 @@ fn go_ok(w: &[u32; 99592], i: usize, n: usize) -> bool
 }
 
 // What an output and an input share, of which P has been tested.
-fn send_ok(w: &[u32; 99592], i: usize, n: usize, p: usize) -> bool
+fn send_ok(w: &Script, i: usize, n: usize, p: usize) -> bool
     requires { ⌜ Scoped (now w) i n × (p ≡ field (now w) i 4) × (p < i) ⌝ }
     ensures { λ r. ⌜ r ≡ sendOk (now (w .entry)) i ⌝ }
 {
@@ -243,7 +249,7 @@ fn send_ok(w: &[u32; 99592], i: usize, n: usize, p: usize) -> bool
     end_ok(w, i, n, wide(low_at(w, q)))
 }
 
-fn out_ok(w: &[u32; 99592], i: usize, n: usize) -> bool
+fn out_ok(w: &Script, i: usize, n: usize) -> bool
     requires { ⌜ Scoped (now w) i n ⌝ }
     ensures { λ r. ⌜ r ≡ restOk (now (w .entry)) i (Out (field (now (w .entry)) i 1) (field (now (w .entry)) i 2) (field (now (w .entry)) i 3) (field (now (w .entry)) i 4) (field (now (w .entry)) i 5)) ⌝ }
 {
@@ -257,11 +263,11 @@ fn out_ok(w: &[u32; 99592], i: usize, n: usize) -> bool
     send_ok(w, i, n, p)
 }
 
-fn in_ok(w: &[u32; 99592], i: usize, n: usize) -> bool
+fn in_ok(w: &Script, i: usize, n: usize) -> bool
     requires { ⌜ Scoped (now w) i n ⌝ }
     ensures { λ r. ⌜ r ≡ restOk (now (w .entry)) i (In (field (now (w .entry)) i 1) (field (now (w .entry)) i 2) (field (now (w .entry)) i 3) (field (now (w .entry)) i 4) (field (now (w .entry)) i 5)) ⌝ }
 {
-    let y = key_at(w, 1305 + i * 24);
+    let y = key_at(w, OWNS + i * ROW_SIZE);
     if !is_name(Sort::Small, y) {
         return false;
     }
@@ -276,7 +282,7 @@ fn in_ok(w: &[u32; 99592], i: usize, n: usize) -> bool
     send_ok(w, i, n, p)
 }
 
-fn args_ok(w: &[u32; 99592], i: usize, n: usize, m: u32) -> bool
+fn args_ok(w: &Script, i: usize, n: usize, m: u32) -> bool
     requires { ⌜ Scoped (now w) i n ⌝ }
     ensures { λ r. ⌜ r ≡ every (refOk (now (w .entry)) (namesAt (now (w .entry)) i)) (take m (field (now (w .entry)) i 17 ∷ field (now (w .entry)) i 18 ∷ field (now (w .entry)) i 19 ∷ field (now (w .entry)) i 20 ∷ [])) ⌝ }
 {
@@ -294,7 +300,7 @@ fn args_ok(w: &[u32; 99592], i: usize, n: usize, m: u32) -> bool
     true
 }
 
-fn call_ok(w: &[u32; 99592], i: usize, n: usize) -> bool
+fn call_ok(w: &Script, i: usize, n: usize) -> bool
     requires { ⌜ Scoped (now w) i n × (defsIn (now w) ≤ 32) ⌝ }
     ensures { λ r. ⌜ r ≡ restOk (now (w .entry)) i (Call (field (now (w .entry)) i 1) (field (now (w .entry)) i 3) (field (now (w .entry)) i 17) (field (now (w .entry)) i 18) (field (now (w .entry)) i 19) (field (now (w .entry)) i 20)) ⌝ }
 {
@@ -313,7 +319,7 @@ fn call_ok(w: &[u32; 99592], i: usize, n: usize) -> bool
     end_ok(w, i, n, i)
 }
 
-fn part_ok(w: &[u32; 99592], i: usize) -> bool
+fn part_ok(w: &Script, i: usize) -> bool
     requires { ⌜ (i < 4096) × (defsIn (now w) ≤ 32) ⌝ }
     ensures { λ r. ⌜ r ≡ rowOk (now (w .entry)) i ⌝ }
 {
@@ -336,7 +342,7 @@ fn part_ok(w: &[u32; 99592], i: usize) -> bool
 }
 
 // Are the first m arguments locations?
-fn plain_args(w: &[u32; 99592], i: usize, m: u32) -> bool
+fn plain_args(w: &Script, i: usize, m: u32) -> bool
     requires { ⌜ i < 4096 ⌝ }
     ensures { λ r. ⌜ (r ≡ true → (k : ℕ) → k < m → k < 4 → field (now (w .entry)) i (17 + k) < locsIn (now (w .entry))) ⌝ }
 {
@@ -356,7 +362,7 @@ fn plain_args(w: &[u32; 99592], i: usize, m: u32) -> bool
 }
 
 // A held definition with its number of arguments, all of which are locations?
-fn plain_call(w: &[u32; 99592], i: usize) -> bool
+fn plain_call(w: &Script, i: usize) -> bool
     requires { ⌜ (i < 4096) × (defsIn (now w) ≤ 32) ⌝ }
     ensures { λ r. ⌜ (r ≡ true → PlainCall (now (w .entry)) i) ⌝ }
 {
@@ -372,7 +378,7 @@ fn plain_call(w: &[u32; 99592], i: usize) -> bool
 }
 
 // Is it stop or such a call, with no variable in scope and nothing after it? Most parts are, and pass by few tests; any other has to pass `part_ok`.
-fn leaf_ok(w: &[u32; 99592], i: usize) -> bool
+fn leaf_ok(w: &Script, i: usize) -> bool
     requires { ⌜ (i < 4096) × (defsIn (now w) ≤ 32) × (locsIn (now w) ≤ 64) ⌝ }
     ensures { λ r. ⌜ (r ≡ true → rowOk (now (w .entry)) i ≡ true) ⌝ }
 {
@@ -396,7 +402,7 @@ fn leaf_ok(w: &[u32; 99592], i: usize) -> bool
 }
 
 // The first part from i on that is no such one, or n.
-fn after_leaves(w: &[u32; 99592], i: usize, n: usize) -> usize
+fn after_leaves(w: &Script, i: usize, n: usize) -> usize
     requires { ⌜ (i ≤ n) × (n ≤ 4096) × (defsIn (now w) ≤ 32) × (locsIn (now w) ≤ 64) ⌝ }
     ensures { λ r. ⌜ (i ≤ r) × (r ≤ n) × ((k : ℕ) → k < r → i ≤ k → rowOk (now (w .entry)) k ≡ true) ⌝ }
 {
@@ -411,7 +417,7 @@ fn after_leaves(w: &[u32; 99592], i: usize, n: usize) -> usize
 }
 
 // Every part, but for the names in its scope.
-fn rows_ok(w: &[u32; 99592]) -> bool
+fn rows_ok(w: &Script) -> bool
     requires { ⌜ (partsIn (now w) ≤ 4096) × (defsIn (now w) ≤ 32) × (locsIn (now w) ≤ 64) ⌝ }
     ensures { λ r. ⌜ r ≡ below (partsIn (now (w .entry))) (rowOk (now (w .entry))) ⌝ }
 {
@@ -428,7 +434,7 @@ fn rows_ok(w: &[u32; 99592]) -> bool
 
 // The names in the scopes of all parts. An inner process has the scope of its part, or one name more, which was tested with the part; so only the
 // first part of each process that is in no other is looked at, from the highest place down.
-fn scopes_named(w: &[u32; 99592]) -> bool
+fn scopes_named(w: &Script) -> bool
     requires { ⌜ (partsIn (now w) ≤ 4096) × (below (partsIn (now w)) (rowOk (now w)) ≡ true) ⌝ }
     ensures { λ r. ⌜ r ≡ below (partsIn (now (w .entry))) (scopeNamed (now (w .entry))) ⌝ }
 {
@@ -443,7 +449,7 @@ fn scopes_named(w: &[u32; 99592]) -> bool
     true
 }
 
-fn parts_ok(w: &[u32; 99592]) -> bool
+fn parts_ok(w: &Script) -> bool
     requires { ⌜ (partsIn (now w) ≤ 4096) × (defsIn (now w) ≤ 32) × (locsIn (now w) ≤ 64) ⌝ }
     ensures { λ r. ⌜ r ≡ below (partsIn (now (w .entry))) (partOk (now (w .entry))) ⌝ }
 {
@@ -456,7 +462,7 @@ fn parts_ok(w: &[u32; 99592]) -> bool
 // ── names ──
 
 // Has each of n names that stand s words apart from o on the form of its sort?
-fn names_ok(w: &[u32; 99592], f: Sort, o: usize, s: usize, n: usize) -> bool
+fn names_ok(w: &Script, f: Sort, o: usize, s: usize, n: usize) -> bool
     requires { ⌜ (o ≤ 2000) × (s ≤ 24) × (n ≤ 64) ⌝ }
     ensures { λ r. ⌜ r ≡ every (isName (firstOf f)) (listFrom 0 n (rowName (now (w .entry)) o s)) ⌝ }
 {
@@ -472,7 +478,7 @@ fn names_ok(w: &[u32; 99592], f: Sort, o: usize, s: usize, n: usize) -> bool
 }
 
 // A number below 1,013 from the words of the name at o: names of which these differ are different.
-fn mixed(w: &[u32; 99592], o: usize) -> usize
+fn mixed(w: &Script, o: usize) -> usize
     ensures { λ r. ⌜ Mixed (nameAt (now (w .entry)) o) r ⌝ }
 {
     let x = key_at(w, o);
@@ -480,7 +486,7 @@ fn mixed(w: &[u32; 99592], o: usize) -> usize
 }
 
 // Does name i of these stand among those after it?
-fn named_again(w: &[u32; 99592], o: usize, s: usize, n: usize, i: usize) -> bool
+fn named_again(w: &Script, o: usize, s: usize, n: usize, i: usize) -> bool
     requires { ⌜ (o ≤ 2000) × (s ≤ 24) × (n ≤ 64) × (i < n) ⌝ }
     ensures { λ r. ⌜ r ≡ member (rowName (now (w .entry)) o s i) (drop (i + 1) (listFrom 0 n (rowName (now (w .entry)) o s))) ⌝ }
 {
@@ -497,7 +503,7 @@ fn named_again(w: &[u32; 99592], o: usize, s: usize, n: usize, i: usize) -> bool
 
 // The same, where the numbers of those after it were noted, and h is its own: only a name whose number was noted is compared with the others.
 fn held_again(
-    w: &[u32; 99592],
+    w: &Script,
     seen: &[u8; 1013],
     h: usize,
     o: usize,
@@ -515,7 +521,7 @@ fn held_again(
 }
 
 // Is each of these names held once? From the last on, each is looked for among those after it.
-pub fn all_apart(w: &[u32; 99592], o: usize, s: usize, n: usize) -> bool
+pub fn all_apart(w: &Script, o: usize, s: usize, n: usize) -> bool
     requires { ⌜ (o ≤ 2000) × (s ≤ 24) × (n ≤ 64) ⌝ }
     ensures { λ r. ⌜ r ≡ distinct (listFrom 0 n (rowName (now (w .entry)) o s)) ⌝ }
 {
@@ -533,7 +539,7 @@ pub fn all_apart(w: &[u32; 99592], o: usize, s: usize, n: usize) -> bool
     true
 }
 
-fn sort_ok(w: &[u32; 99592], f: Sort, o: usize, s: usize, n: usize) -> bool
+fn sort_ok(w: &Script, f: Sort, o: usize, s: usize, n: usize) -> bool
     requires { ⌜ (o ≤ 2000) × (s ≤ 24) × (n ≤ 64) ⌝ }
     ensures { λ r. ⌜ r ≡ (every (isName (firstOf f)) (listFrom 0 n (rowName (now (w .entry)) o s)) && distinct (listFrom 0 n (rowName (now (w .entry)) o s))) ⌝ }
 {
@@ -546,7 +552,7 @@ fn sort_ok(w: &[u32; 99592], f: Sort, o: usize, s: usize, n: usize) -> bool
 // ── definitions ──
 
 // Are the parameters of d what is in scope at its body b?
-fn params_in(w: &[u32; 99592], d: usize, b: usize, a: usize) -> bool
+fn params_in(w: &Script, d: usize, b: usize, a: usize) -> bool
     requires { ⌜ (d < 32) × (b < 4096) × (a ≤ 4) × (a ≡ arityOf (now w) d) ⌝ }
     ensures { λ r. ⌜ r ≡ alike (scopeAt (now (w .entry)) b) (paramsAt (now (w .entry)) d) ⌝ }
 {
@@ -556,7 +562,7 @@ fn params_in(w: &[u32; 99592], d: usize, b: usize, a: usize) -> bool
     }
     let mut k = 0;
     while k < a {
-        if wide(field(w, b, 9 + k)) != 14 + d * 24 + k * 4 {
+        if wide(field(w, b, 9 + k)) != 14 + d * ROW_SIZE + k * 4 {
             return false;
         }
         k += 1;
@@ -564,7 +570,7 @@ fn params_in(w: &[u32; 99592], d: usize, b: usize, a: usize) -> bool
     true
 }
 
-fn def_ok(w: &[u32; 99592], d: usize) -> bool
+fn def_ok(w: &Script, d: usize) -> bool
     requires { ⌜ (d < 32) × (partsIn (now w) ≤ 4096) ⌝ }
     ensures { λ r. ⌜ r ≡ defOk (now (w .entry)) d ⌝ }
 {
@@ -580,10 +586,10 @@ fn def_ok(w: &[u32; 99592], d: usize) -> bool
     if !params_in(w, d, b, a) {
         return false;
     }
-    sort_ok(w, Sort::Small, 14 + d * 24, 4, a)
+    sort_ok(w, Sort::Small, 14 + d * ROW_SIZE, 4, a)
 }
 
-fn defs_ok(w: &[u32; 99592]) -> bool
+fn defs_ok(w: &Script) -> bool
     requires { ⌜ (partsIn (now w) ≤ 4096) × (defsIn (now w) ≤ 32) ⌝ }
     ensures { λ r. ⌜ r ≡ below (defsIn (now (w .entry))) (defOk (now (w .entry))) ⌝ }
 {
@@ -600,7 +606,7 @@ fn defs_ok(w: &[u32; 99592]) -> bool
 
 // ── the whole ──
 
-fn counts_ok(w: &[u32; 99592]) -> bool
+fn counts_ok(w: &Script) -> bool
     ensures { λ r. ⌜ r ≡ countsOk (now (w .entry)) ⌝ }
 {
     if 4096 < word(w, 0) {
@@ -616,16 +622,16 @@ fn counts_ok(w: &[u32; 99592]) -> bool
 }
 
 // A script by itself.
-pub fn script_ok(w: &[u32; 99592]) -> bool
+pub fn script_ok(w: &Script) -> bool
     ensures { λ r. ⌜ r ≡ scriptOk (now (w .entry)) ⌝ }
 {
     if !counts_ok(w) {
         return false;
     }
-    if !sort_ok(w, Sort::Location, 776, 4, wide(word(w, 1))) {
+    if !sort_ok(w, Sort::Location, LOCATIONS, 4, wide(word(w, 1))) {
         return false;
     }
-    if !sort_ok(w, Sort::Small, 1032, 4, wide(word(w, 2))) {
+    if !sort_ok(w, Sort::Small, CHANNELS, 4, wide(word(w, 2))) {
         return false;
     }
     if !sort_ok(w, Sort::Identifier, 10, 24, wide(word(w, 3))) {
@@ -662,7 +668,7 @@ fn vals_ok(l: u32, c: Comp) -> bool
     true
 }
 
-fn comp_ok(w: &[u32; 99592], c: Comp) -> bool
+fn comp_ok(w: &Script, c: Comp) -> bool
     ensures { λ r. ⌜ r ≡ compOk (now (w .entry)) c ⌝ }
 {
     let l = word(w, 1);
@@ -683,7 +689,7 @@ fn comp_ok(w: &[u32; 99592], c: Comp) -> bool
 }
 
 // A state by itself.
-pub fn state_ok(w: &[u32; 99592], c: &[u32; 3072], n: usize) -> bool
+pub fn state_ok(w: &Script, c: &Words, n: usize) -> bool
     ensures { λ r. ⌜ r ≡ stateOk (now (w .entry)) (record { c = now (c .entry); n = n }) ⌝ }
 {
     if n == 0 {
@@ -704,7 +710,7 @@ pub fn state_ok(w: &[u32; 99592], c: &[u32; 3072], n: usize) -> bool
 }
 
 // Question 17, of a state's words and the number of its components.
-pub fn is_valid(w: &[u32; 99592], c: &[u32; 3072], n: usize) -> bool
+pub fn is_valid(w: &Script, c: &Words, n: usize) -> bool
     ensures { λ r. ⌜ r ≡ valid (now (w .entry)) (record { c = now (c .entry); n = n }) ⌝ }
 {
     if !script_ok(w) {

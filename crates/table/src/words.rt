@@ -3,10 +3,13 @@ ghost use mathlib.Core.Path.{_≡_};
 ghost use Prim.Native.Nat.{_+_, _*_, _<_};
 ghost use lib.ListN.{getD};
 ghost use Rattle.terms.specs.Names.{sameName};
-ghost use Rattle.table.specs.Words.{headAt, nextAt, lowAt, arityOf, bodyOf, nameAt};
+ghost use Rattle.table.specs.Words.{rowSize, partsAt, headAt, nextAt, lowAt, arityOf, bodyOf, nameAt};
 ghost use Rattle.table.specs.Tests.{keyName};
 use super::Head;
 use super::Key;
+use super::PARTS;
+use super::ROW_SIZE;
+use super::Script;
 
 // A word as an index.
 pub fn wide(x: u32) -> usize
@@ -16,7 +19,7 @@ pub fn wide(x: u32) -> usize
 }
 
 // The word at i; 0 past the end.
-pub fn word(w: &[u32; 99592], i: usize) -> u32
+pub fn word(w: &Script, i: usize) -> u32
     ensures { λ r. ⌜ r ≡ getD (now (w .entry)) i 0 ⌝ }
 {
     word_in(w, i)
@@ -33,14 +36,14 @@ fn word_in(s: &[u32], i: usize) -> u32
 }
 
 // Field k of the part at i.
-pub fn field(w: &[u32; 99592], i: usize, k: usize) -> u32
+pub fn field(w: &Script, i: usize, k: usize) -> u32
     requires { ⌜ (i < 4096) × (k < 24) ⌝ }
-    ensures { λ r. ⌜ r ≡ getD (now (w .entry)) (1288 + i * 24 + k) 0 ⌝ }
+    ensures { λ r. ⌜ r ≡ getD (now (w .entry)) (partsAt + i * rowSize + k) 0 ⌝ }
 {
-    w[1288 + i * 24 + k]
+    w[PARTS + i * ROW_SIZE + k]
 }
 
-pub fn head_at(w: &[u32; 99592], i: usize) -> Head
+pub fn head_at(w: &Script, i: usize) -> Head
     requires { ⌜ i < 4096 ⌝ }
     ensures { λ r. ⌜ r ≡ headAt (now (w .entry)) i ⌝ }
 {
@@ -73,36 +76,36 @@ pub fn head_at(w: &[u32; 99592], i: usize) -> Head
     }
 }
 
-pub fn next_at(w: &[u32; 99592], i: usize) -> u32
+pub fn next_at(w: &Script, i: usize) -> u32
     requires { ⌜ i < 4096 ⌝ }
     ensures { λ r. ⌜ r ≡ nextAt (now (w .entry)) i ⌝ }
 {
     field(w, i, 6)
 }
 
-pub(crate) fn low_at(w: &[u32; 99592], i: usize) -> u32
+pub(crate) fn low_at(w: &Script, i: usize) -> u32
     requires { ⌜ i < 4096 ⌝ }
     ensures { λ r. ⌜ r ≡ lowAt (now (w .entry)) i ⌝ }
 {
     field(w, i, 7)
 }
 
-pub fn arity_of(w: &[u32; 99592], d: usize) -> u32
+pub fn arity_of(w: &Script, d: usize) -> u32
     requires { ⌜ d < 32 ⌝ }
     ensures { λ r. ⌜ r ≡ arityOf (now (w .entry)) d ⌝ }
 {
-    w[8 + d * 24]
+    w[8 + d * ROW_SIZE]
 }
 
-pub fn body_of(w: &[u32; 99592], d: usize) -> u32
+pub fn body_of(w: &Script, d: usize) -> u32
     requires { ⌜ d < 32 ⌝ }
     ensures { λ r. ⌜ r ≡ bodyOf (now (w .entry)) d ⌝ }
 {
-    w[9 + d * 24]
+    w[9 + d * ROW_SIZE]
 }
 
 // The words of the name that stands at o.
-pub fn key_at(w: &[u32; 99592], o: usize) -> Key
+pub fn key_at(w: &Script, o: usize) -> Key
     ensures { λ r. ⌜ keyName r ≡ nameAt (now (w .entry)) o ⌝ }
 {
     if o < 99589 {
@@ -156,7 +159,7 @@ pub fn same_key(x: Key, y: Key) -> bool
 }
 
 // Is x the name at o? Most names differ in their first word.
-pub fn is_named(w: &[u32; 99592], o: usize, x: Key) -> bool
+pub fn is_named(w: &Script, o: usize, x: Key) -> bool
     ensures { λ r. ⌜ r ≡ sameName (nameAt (now (w .entry)) o) (keyName x) ⌝ }
 {
     let a = word(w, o);
@@ -168,7 +171,7 @@ pub fn is_named(w: &[u32; 99592], o: usize, x: Key) -> bool
 }
 
 // Do o1 and o2 have the same name?
-pub fn same_name(w: &[u32; 99592], o1: usize, o2: usize) -> bool
+pub fn same_name(w: &Script, o1: usize, o2: usize) -> bool
     ensures { λ r. ⌜ r ≡ sameName (nameAt (now (w .entry)) o1) (nameAt (now (w .entry)) o2) ⌝ }
 {
     let x = key_at(w, o1);

@@ -11,7 +11,7 @@ use lib.Seq.{take-all}
 use borrow.Author.Tests.{eqb-true, eqb-false, ne-eqb}
 use Rattle.terms.specs.Same.{every}
 use Rattle.table.specs.declared.Head.the-variants.{Stop, Go, Out, In}
-use Rattle.table.specs.Words.{defsIn, arityOf, paramsAt, paramsOf, field, headAt}
+use Rattle.table.specs.Words.{rowSize, defsIn, arityOf, paramsAt, paramsOf, field, headAt}
 use Rattle.table.specs.Meaning.{listFrom}
 use Rattle.table.specs.Tests.{rowName}
 use Rattle.table.proofs.WordsHead.{head-go, head-out, head-call}
@@ -61,11 +61,11 @@ module _ (w : List ℕ) (i : ℕ) where
 
 -- ── 5 ──
 -- four parameters, where the script says more
-pub params-four : (w : List ℕ) (d : ℕ) → 4 ≤ arityOf w d → paramsOf w d ≡ listFrom 0 4 (rowName w (14 + d * 24) 4)
+pub params-four : (w : List ℕ) (d : ℕ) → 4 ≤ arityOf w d → paramsOf w d ≡ listFrom 0 4 (rowName w (14 + d * rowSize) 4)
 unfolding paramsOf paramsAt rowName listFrom
 params-four w d h =
-    let e₀ : 14 + d * 24 + 0 * 4 ≡ 14 + d * 24 = omega arith in
-    let e₁ : 14 + d * 24 + 1 * 4 ≡ 18 + d * 24 = omega arith in
-    let e₂ : 14 + d * 24 + 2 * 4 ≡ 22 + d * 24 = omega arith in
-    let e₃ : 14 + d * 24 + 3 * 4 ≡ 26 + d * 24 = omega arith in
-    rw (take-all (arityOf w d) ((14 + d * 24) ∷ (18 + d * 24) ∷ (22 + d * 24) ∷ (26 + d * 24) ∷ []) h, e₀, e₁, e₂, e₃)
+    let e₀ : 14 + d * rowSize + 0 * 4 ≡ 14 + d * rowSize = omega arith in
+    let e₁ : 14 + d * rowSize + 1 * 4 ≡ 18 + d * rowSize = omega arith in
+    let e₂ : 14 + d * rowSize + 2 * 4 ≡ 22 + d * rowSize = omega arith in
+    let e₃ : 14 + d * rowSize + 3 * 4 ≡ 26 + d * rowSize = omega arith in
+    rw (take-all (arityOf w d) ((14 + d * rowSize) ∷ (18 + d * rowSize) ∷ (22 + d * rowSize) ∷ (26 + d * rowSize) ∷ []) h, e₀, e₁, e₂, e₃)

@@ -11,6 +11,8 @@ ghost use Rattle.terms.specs.Letters.{distinct};
 ghost use Rattle.table.specs.Words.{partsIn, defsIn, field, headAt, paramsOf};
 ghost use Rattle.table.specs.Valid.{below};
 ghost use Rattle.text_tree.specs.Asked.{roomy, apart, callHeld, callsHeld, inScope, valuesBound, allBound};
+use table::ROW_SIZE;
+use table::Script;
 use table::valid::all_apart;
 use table::words::arity_of;
 use table::words::field;
@@ -20,7 +22,7 @@ use table::words::word;
 // ── 4 ──
 
 // Was every table of names and every scope large enough?
-pub fn roomy(w: &[u32; 99592]) -> bool
+pub fn roomy(w: &Script) -> bool
     ensures { λ r. ⌜ r ≡ roomy (now (w .entry)) ⌝ }
 {
     word(w, 4) == 0
@@ -29,19 +31,19 @@ pub fn roomy(w: &[u32; 99592]) -> bool
 // ── 5 ──
 
 // Do the parameters of d differ?
-fn params_apart(w: &[u32; 99592], d: usize) -> bool
+fn params_apart(w: &Script, d: usize) -> bool
     requires { ⌜ d < 32 ⌝ }
     ensures { λ r. ⌜ r ≡ distinct (paramsOf (now (w .entry)) d) ⌝ }
 {
     let a = wide(arity_of(w, d));
     if 4 < a {
-        return all_apart(w, 14 + d * 24, 4, 4);
+        return all_apart(w, 14 + d * ROW_SIZE, 4, 4);
     }
-    all_apart(w, 14 + d * 24, 4, a)
+    all_apart(w, 14 + d * ROW_SIZE, 4, a)
 }
 
 // Do the parameters of each definition differ?
-fn each_apart(w: &[u32; 99592]) -> bool
+fn each_apart(w: &Script) -> bool
     requires { ⌜ defsIn (now w) ≤ 32 ⌝ }
     ensures { λ r. ⌜ r ≡ below (defsIn (now (w .entry))) (λ d. distinct (paramsOf (now (w .entry)) d)) ⌝ }
 {
@@ -56,7 +58,7 @@ fn each_apart(w: &[u32; 99592]) -> bool
     true
 }
 
-pub fn apart(w: &[u32; 99592]) -> bool
+pub fn apart(w: &Script) -> bool
     requires { ⌜ defsIn (now w) ≤ 32 ⌝ }
     ensures { λ r. ⌜ r ≡ apart (now (w .entry)) ⌝ }
 {
@@ -69,7 +71,7 @@ pub fn apart(w: &[u32; 99592]) -> bool
 // ── 6 ──
 
 // The part at i, if it is a call: does it name a held definition, with as many arguments as that has parameters?
-fn call_held(w: &[u32; 99592], i: usize) -> bool
+fn call_held(w: &Script, i: usize) -> bool
     requires { ⌜ (i < 4096) × (defsIn (now w) ≤ 32) ⌝ }
     ensures { λ r. ⌜ r ≡ callHeld (now (w .entry)) (headAt (now (w .entry)) i) ⌝ }
 {
@@ -84,7 +86,7 @@ fn call_held(w: &[u32; 99592], i: usize) -> bool
     field(w, i, 3) == arity_of(w, wide(d))
 }
 
-pub fn calls_held(w: &[u32; 99592]) -> bool
+pub fn calls_held(w: &Script) -> bool
     requires { ⌜ (partsIn (now w) ≤ 4096) × (defsIn (now w) ≤ 32) ⌝ }
     ensures { λ r. ⌜ r ≡ callsHeld (now (w .entry)) ⌝ }
 {
@@ -109,7 +111,7 @@ fn in_scope(n: u32, v: u32) -> bool
 }
 
 // The same of the first m of a call's four arguments.
-fn args_bound(w: &[u32; 99592], i: usize, n: u32, m: u32) -> bool
+fn args_bound(w: &Script, i: usize, n: u32, m: u32) -> bool
     requires { ⌜ i < 4096 ⌝ }
     ensures { λ r. ⌜ r ≡ every (inScope n) (take m (field (now (w .entry)) i 17 ∷ field (now (w .entry)) i 18 ∷ field (now (w .entry)) i 19 ∷ field (now (w .entry)) i 20 ∷ [])) ⌝ }
 {
@@ -128,7 +130,7 @@ fn args_bound(w: &[u32; 99592], i: usize, n: u32, m: u32) -> bool
 }
 
 // The same of each value of the part at i.
-fn values_bound(w: &[u32; 99592], i: usize) -> bool
+fn values_bound(w: &Script, i: usize) -> bool
     requires { ⌜ i < 4096 ⌝ }
     ensures { λ r. ⌜ r ≡ valuesBound (field (now (w .entry)) i 8) (headAt (now (w .entry)) i) ⌝ }
 {
@@ -142,7 +144,7 @@ fn values_bound(w: &[u32; 99592], i: usize) -> bool
     }
 }
 
-pub fn all_bound(w: &[u32; 99592]) -> bool
+pub fn all_bound(w: &Script) -> bool
     requires { ⌜ partsIn (now w) ≤ 4096 ⌝ }
     ensures { λ r. ⌜ r ≡ allBound (now (w .entry)) ⌝ }
 {

@@ -14,7 +14,7 @@ use Rattle.terms.proofs.Names.{name-refl}
 use Rattle.terms.specs.Letters.{member}
 use Rattle.text.specs.Questions.{into}
 use Rattle.table.specs.declared.Key.{Key}
-use Rattle.table.specs.Words.{word, nameAt}
+use Rattle.table.specs.Words.{locsAt, partsAt, scriptWords, word, nameAt}
 use Rattle.table.specs.Meaning.{listFrom}
 use Rattle.table.specs.Tests.{keyName, rowName}
 use Rattle.table.specs.Valid.{index}
@@ -110,7 +110,7 @@ pub record Entered (w v : List ℕ) (o at : ℕ) (x : Name) : Type 0 where
   pub few : word v at ≤ 64
   pub flag : word v 4 ≡ word w 4
 
-module _ (w : List ℕ) (o at : ℕ) (k : Key) (low : 776 ≤ o) (high : o + 256 ≤ 1_288) (one : 1 ≤ at) (two : at ≤ 2) (long : length w ≡ 99_592) (few : word w at ≤ 64) where
+module _ (w : List ℕ) (o at : ℕ) (k : Key) (low : locsAt ≤ o) (high : o + 256 ≤ partsAt) (one : 1 ≤ at) (two : at ≤ 2) (long : length w ≡ scriptWords) (few : word w at ≤ 64) where
   held-is : heldIn w at ≡ word w at
   unfolding heldIn
   held-is = omega arith

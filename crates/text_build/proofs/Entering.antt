@@ -17,7 +17,7 @@ use Rattle.terms.specs.Letters.{isName, isLocation, isSmall, isIdentifier}
 use Rattle.terms.proofs.Letters.{name-form}
 use Rattle.text.specs.WellFormed.{WellValue, Each}
 use Rattle.text.specs.Questions.{into, firsts, locOf}
-use Rattle.table.specs.Words.{word, nameAt}
+use Rattle.table.specs.Words.{rowSize, chansAt, locsAt, partsAt, word, nameAt}
 use Rattle.table.specs.Tests.{keyName}
 use Rattle.table.specs.Valid.{index}
 use Rattle.text_build.specs.declared.Scope.{Scope}
@@ -48,8 +48,8 @@ id-spelt x e = spelt _ x e
 
 -- ── where a scope's names stand: with a definition's parameters, or in a row above i ──
 pub data Clear (i o : ℕ) : Type 0 where
-  param : 8 ≤ o → o + 4 ≤ 776 → Clear i o
-  higher : 1_288 + suc i * 24 ≤ o → Clear i o
+  param : 8 ≤ o → o + 4 ≤ locsAt → Clear i o
+  higher : partsAt + suc i * rowSize ≤ o → Clear i o
 
 abbrev pub Settled : ℕ → List ℕ → Type 0
 Settled i os = Each (Clear i) os
@@ -119,7 +119,7 @@ module _ (w : List ℕ) (m : Making w) where
 -- ── the mark of a name too many ──
 pub value-back : (w : List ℕ) (x : Value) → word (enterValue w x) 4 ≡ 0 → word w 4 ≡ 0
 unfolding enterValue enterLoc
-value-back w (loc l) e = enlist-back w 776 1 (keyOf l) (omega arith) (omega arith) e
+value-back w (loc l) e = enlist-back w locsAt 1 (keyOf l) (omega arith) (omega arith) e
 value-back w (var x) e = e
 
 pub values-back : (xs : List Value) (w : List ℕ) → word (enterValues w xs) 4 ≡ 0 → word w 4 ≡ 0
@@ -129,7 +129,7 @@ values-back (x ∷ xs) w e = value-back w x (values-back xs (enterValue w x) e)
 
 pub chan-back : (w : List ℕ) (c : Name) → word (enterChan w c) 4 ≡ 0 → word w 4 ≡ 0
 unfolding enterChan
-chan-back w c e = enlist-back w 1_032 2 (keyOf c) (omega arith) (omega arith) e
+chan-back w c e = enlist-back w chansAt 2 (keyOf c) (omega arith) (omega arith) e
 
 -- ── the arguments of a call ──
 pub firsts-append : (xs ys ws : List Name) → firsts ws (xs ++ ys) ≡ firsts (firsts ws xs) ys

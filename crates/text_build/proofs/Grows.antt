@@ -13,7 +13,7 @@ use Rattle.terms.specs.Names.{Name}
 use Rattle.terms.specs.Letters.{member}
 use Rattle.text.specs.Questions.{into}
 use Rattle.table.specs.declared.Key.{Key}
-use Rattle.table.specs.Words.{word, nameAt, locName, chanName, defName}
+use Rattle.table.specs.Words.{rowSize, chansAt, locsAt, partsAt, word, nameAt, locName, chanName, defName}
 use Rattle.table.specs.Meaning.{listFrom}
 use Rattle.table.specs.Tests.{keyName, rowName}
 use Rattle.table.specs.Valid.{index}
@@ -26,11 +26,11 @@ use Rattle.table.proofs.Stores.{set-out, sets-under}
 use Rattle.text_build.proofs.Enlist.{list-same, index-into, names, names-same, Entered, entered, came-within, index-came}
 
 -- ── the tables ──
-locs-are : (w : List ℕ) → locsOf w ≡ names w 776 1
+locs-are : (w : List ℕ) → locsOf w ≡ names w locsAt 1
 unfolding locsOf locName rowName
 locs-are w = refl
 
-chans-are : (w : List ℕ) → chansOf w ≡ names w 1_032 2
+chans-are : (w : List ℕ) → chansOf w ≡ names w chansAt 2
 unfolding chansOf chanName rowName
 chans-are w = refl
 
@@ -44,7 +44,7 @@ unfolding idsOf defName nameAt
 ids-same w v low i f few =
     ap (λ n. listFrom 0 n (defName v)) (f .defs)
     ∙ list-same (defName v) (defName w) 0 (word w 3)
-    (λ j h. rw (f .between (10 + j * 24) (omega arith) (omega arith), f .between (10 + j * 24 + 1) (omega arith) (omega arith), f .between (10 + j * 24 + 2) (omega arith) (omega arith), f .between (10 + j * 24 + 3) (omega arith) (omega arith)))
+    (λ j h. rw (f .between (10 + j * rowSize) (omega arith) (omega arith), f .between (10 + j * rowSize + 1) (omega arith) (omega arith), f .between (10 + j * rowSize + 2) (omega arith) (omega arith), f .between (10 + j * rowSize + 3) (omega arith) (omega arith)))
 
 -- ── growth, one write after the other ──
 pub grown-none : (w : List ℕ) → Grown w w
@@ -129,13 +129,13 @@ module _ (w : List ℕ) (m : Making w) (k : Key) where
   number-is o at few = let e : min (word w at) 64 ≡ word w at = omega arith in rw e
 
   -- a location
-  pub loc-in : word (enlist w 776 1 k) 4 ≡ 0 → NameIn w (enlist w 776 1 k) (keyName k) (numberIn w 776 (heldIn w 1) (keyName k)) locsOf chansOf
-  loc-in z = go (enlist w 776 1 k) (entered w 776 1 k (omega arith) (omega arith) (omega arith) (omega arith) (m .long) (m .locs) z)
+  pub loc-in : word (enlist w locsAt 1 k) 4 ≡ 0 → NameIn w (enlist w locsAt 1 k) (keyName k) (numberIn w locsAt (heldIn w 1) (keyName k)) locsOf chansOf
+  loc-in z = go (enlist w locsAt 1 k) (entered w locsAt 1 k (omega arith) (omega arith) (omega arith) (omega arith) (m .long) (m .locs) z)
     where
-      go : (v : List ℕ) → Entered w v 776 1 (keyName k) → NameIn w v (keyName k) (numberIn w 776 (heldIn w 1) (keyName k)) locsOf chansOf
+      go : (v : List ℕ) → Entered w v locsAt 1 (keyName k) → NameIn w v (keyName k) (numberIn w locsAt (heldIn w 1) (keyName k)) locsOf chansOf
       go v e =
           let n : locsOf v ≡ into (locsOf w) (keyName k) = locs-are v ∙ e .now ∙ ap (λ l. into l (keyName k)) (sym (locs-are w)) in
-          let c : chansOf v ≡ chansOf w = chans-are v ∙ same-names w v 1_032 2 (m .chans) (e .counts 2 (omega arith) (λ q. omega arith) (λ q. omega arith)) (λ x a b. e .right x (omega arith)) ∙ sym (chans-are w) in
+          let c : chansOf v ≡ chansOf w = chans-are v ∙ same-names w v chansAt 2 (m .chans) (e .counts 2 (omega arith) (λ q. omega arith) (λ q. omega arith)) (λ x a b. e .right x (omega arith)) ∙ sym (chans-are w) in
           let c₂ : word v 2 ≡ word w 2 = e .counts 2 (omega arith) (λ q. omega arith) (λ q. omega arith) in
           let c₃ : word v 3 ≡ word w 3 = e .counts 3 (omega arith) (λ q. omega arith) (λ q. omega arith) in
           record {
@@ -147,19 +147,19 @@ module _ (w : List ℕ) (m : Making w) (k : Key) where
             };
             now = n;
             aside = c;
-            has = number-is 776 1 (m .locs) ∙ ap (λ l. index l (keyName k)) (sym (locs-are w)) ∙ sym (index-came (locsOf w) (keyName k)) ∙ ap (λ l. index l (keyName k)) (sym n);
+            has = number-is locsAt 1 (m .locs) ∙ ap (λ l. index l (keyName k)) (sym (locs-are w)) ∙ sym (index-came (locsOf w) (keyName k)) ∙ ap (λ l. index l (keyName k)) (sym n);
             within = rw n (came-within (locsOf w) (keyName k));
           }
 
   -- a channel
-  pub chan-in : word (enlist w 1_032 2 k) 4 ≡ 0 → NameIn w (enlist w 1_032 2 k) (keyName k) (numberIn w 1_032 (heldIn w 2) (keyName k)) chansOf locsOf
-  chan-in z = go (enlist w 1_032 2 k) (entered w 1_032 2 k (omega arith) (omega arith) (omega arith) (omega arith) (m .long) (m .chans) z)
+  pub chan-in : word (enlist w chansAt 2 k) 4 ≡ 0 → NameIn w (enlist w chansAt 2 k) (keyName k) (numberIn w chansAt (heldIn w 2) (keyName k)) chansOf locsOf
+  chan-in z = go (enlist w chansAt 2 k) (entered w chansAt 2 k (omega arith) (omega arith) (omega arith) (omega arith) (m .long) (m .chans) z)
     where
-      go : (v : List ℕ) → Entered w v 1_032 2 (keyName k) → NameIn w v (keyName k) (numberIn w 1_032 (heldIn w 2) (keyName k)) chansOf locsOf
+      go : (v : List ℕ) → Entered w v chansAt 2 (keyName k) → NameIn w v (keyName k) (numberIn w chansAt (heldIn w 2) (keyName k)) chansOf locsOf
       go v e =
           let n : chansOf v ≡ into (chansOf w) (keyName k) = chans-are v ∙ e .now ∙ ap (λ l. into l (keyName k)) (sym (chans-are w)) in
           let c₁ : word v 1 ≡ word w 1 = e .counts 1 (omega arith) (λ q. omega arith) (λ q. omega arith) in
-          let c : locsOf v ≡ locsOf w = locs-are v ∙ same-names w v 776 1 (m .locs) c₁ (λ x a b. e .left x (omega arith) (omega arith)) ∙ sym (locs-are w) in
+          let c : locsOf v ≡ locsOf w = locs-are v ∙ same-names w v locsAt 1 (m .locs) c₁ (λ x a b. e .left x (omega arith) (omega arith)) ∙ sym (locs-are w) in
           let c₃ : word v 3 ≡ word w 3 = e .counts 3 (omega arith) (λ q. omega arith) (λ q. omega arith) in
           record {
             grew = λ low i. record {
@@ -170,23 +170,23 @@ module _ (w : List ℕ) (m : Making w) (k : Key) where
             };
             now = n;
             aside = c;
-            has = number-is 1_032 2 (m .chans) ∙ ap (λ l. index l (keyName k)) (sym (chans-are w)) ∙ sym (index-came (chansOf w) (keyName k)) ∙ ap (λ l. index l (keyName k)) (sym n);
+            has = number-is chansAt 2 (m .chans) ∙ ap (λ l. index l (keyName k)) (sym (chans-are w)) ∙ sym (index-came (chansOf w) (keyName k)) ∙ ap (λ l. index l (keyName k)) (sym n);
             within = rw n (came-within (chansOf w) (keyName k));
           }
 
 -- ── some words of the row at i ──
 module _ (w : List ℕ) (m : Making w) (i k : ℕ) (vs : List ℕ) (h : k + length vs ≤ 24) where
   abbrev rowed : List ℕ
-  rowed = sets w (1_288 + i * 24 + k) vs
+  rowed = sets w (partsAt + i * rowSize + k) vs
 
-  row-under : (x : ℕ) → x < 1_288 → word rowed x ≡ word w x
-  row-under x l = sets-under vs w (1_288 + i * 24 + k) x (omega arith)
+  row-under : (x : ℕ) → x < partsAt → word rowed x ≡ word w x
+  row-under x l = sets-under vs w (partsAt + i * rowSize + k) x (omega arith)
 
   pub row-locs : locsOf rowed ≡ locsOf w
-  row-locs = locs-are rowed ∙ same-names w rowed 776 1 (m .locs) (row-under 1 (omega arith)) (λ x a b. row-under x (omega arith)) ∙ sym (locs-are w)
+  row-locs = locs-are rowed ∙ same-names w rowed locsAt 1 (m .locs) (row-under 1 (omega arith)) (λ x a b. row-under x (omega arith)) ∙ sym (locs-are w)
 
   pub row-chans : chansOf rowed ≡ chansOf w
-  row-chans = chans-are rowed ∙ same-names w rowed 1_032 2 (m .chans) (row-under 2 (omega arith)) (λ x a b. row-under x (omega arith)) ∙ sym (chans-are w)
+  row-chans = chans-are rowed ∙ same-names w rowed chansAt 2 (m .chans) (row-under 2 (omega arith)) (λ x a b. row-under x (omega arith)) ∙ sym (chans-are w)
 
   pub row-grew : Grew w rowed i i
   row-grew =
@@ -207,7 +207,7 @@ mark-back (a ∷ b ∷ c ∷ []) e = refl
 mark-back (a ∷ b ∷ c ∷ d ∷ []) e = refl
 mark-back (a ∷ b ∷ c ∷ d ∷ x ∷ w) e = absurd (omega arith)
 
-pub enlist-back : (w : List ℕ) (o at : ℕ) (k : Key) → 776 ≤ o → at < 4 → word (enlist w o at k) 4 ≡ 0 → word w 4 ≡ 0
+pub enlist-back : (w : List ℕ) (o at : ℕ) (k : Key) → locsAt ≤ o → at < 4 → word (enlist w o at k) 4 ≡ 0 → word w 4 ≡ 0
 unfolding enlist addKey
 enlist-back w o at k h l e = go (ltb (numberIn w o (heldIn w at) (keyName k)) (heldIn w at)) (ltb (heldIn w at) 64) e
   where

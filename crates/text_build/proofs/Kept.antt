@@ -16,7 +16,7 @@ use Rattle.terms.specs.Same.{every}
 use Rattle.terms.proofs.Names.{and-inv}
 use Rattle.text.specs.Questions.{processPlaces}
 use Rattle.table.specs.declared.Head.{Head}
-use Rattle.table.specs.Words.{field, nameAt, headAt, nextAt, lowAt, ownAt, boundAt, scopeAt}
+use Rattle.table.specs.Words.{rowSize, ownsAt, partsAt, field, nameAt, headAt, nextAt, lowAt, ownAt, boundAt, scopeAt}
 use Rattle.table.specs.Valid.{index}
 use Rattle.table.specs.Size.{size, sizeP}
 use Rattle.table.proofs.Fires.{map-append}
@@ -74,10 +74,10 @@ module _ (w v : List ℕ) where
     own-same : nameAt v (ownAt i) ≡ nameAt w (ownAt i)
     unfolding nameAt ownAt
     own-same =
-        let q₀ : 1_305 + i * 24 ≡ 1_288 + i * 24 + 17 = omega arith in
-        let q₁ : 1_305 + i * 24 + 1 ≡ 1_288 + i * 24 + 18 = omega arith in
-        let q₂ : 1_305 + i * 24 + 2 ≡ 1_288 + i * 24 + 19 = omega arith in
-        let q₃ : 1_305 + i * 24 + 3 ≡ 1_288 + i * 24 + 20 = omega arith in
+        let q₀ : ownsAt + i * rowSize ≡ partsAt + i * rowSize + 17 = omega arith in
+        let q₁ : ownsAt + i * rowSize + 1 ≡ partsAt + i * rowSize + 18 = omega arith in
+        let q₂ : ownsAt + i * rowSize + 2 ≡ partsAt + i * rowSize + 19 = omega arith in
+        let q₃ : ownsAt + i * rowSize + 3 ≡ partsAt + i * rowSize + 20 = omega arith in
         rw (q₁, q₂, q₃, q₀, e 17 (omega arith), e 18 (omega arith), e 19 (omega arith), e 20 (omega arith))
 
   -- ── the numbers of a part ──

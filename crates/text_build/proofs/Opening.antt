@@ -14,7 +14,7 @@ use Rattle.terms.specs.Terms.Part.{stop, go, out, inp, call}
 use Rattle.terms.proofs.Names.{and-in}
 use Rattle.terms.specs.Letters.{isSmall}
 use Rattle.text.specs.WellFormed.{WellPart}
-use Rattle.table.specs.Words.{word, nameAt, defName, ownAt, boundAt}
+use Rattle.table.specs.Words.{rowSize, ownsAt, partsAt, word, nameAt, defName, ownAt, boundAt}
 use Rattle.table.specs.Meaning.{listFrom}
 use Rattle.table.specs.Tests.{keyName}
 use Rattle.table.specs.Valid.{index}
@@ -130,10 +130,10 @@ module _ (w : List ℕ) (m : Making w) where
     unfolding rowOf rowWords boundAt nameAt ownAt
     own-name c t y p q j e r =
         let k = keyOf y in
-        let q₀ : 1_305 + i * 24 ≡ 1_288 + i * 24 + 17 = omega arith in
-        let q₁ : 1_305 + i * 24 + 1 ≡ 1_288 + i * 24 + 18 = omega arith in
-        let q₂ : 1_305 + i * 24 + 2 ≡ 1_288 + i * 24 + 19 = omega arith in
-        let q₃ : 1_305 + i * 24 + 3 ≡ 1_288 + i * 24 + 20 = omega arith in
+        let q₀ : ownsAt + i * rowSize ≡ partsAt + i * rowSize + 17 = omega arith in
+        let q₁ : ownsAt + i * rowSize + 1 ≡ partsAt + i * rowSize + 18 = omega arith in
+        let q₂ : ownsAt + i * rowSize + 2 ≡ partsAt + i * rowSize + 19 = omega arith in
+        let q₃ : ownsAt + i * rowSize + 3 ≡ partsAt + i * rowSize + 20 = omega arith in
         rw (
           q₁,
           q₂,

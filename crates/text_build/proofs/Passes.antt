@@ -17,7 +17,7 @@ use Rattle.terms.specs.Same.{every}
 use Rattle.terms.proofs.Names.{and-inv, and-in}
 use Rattle.text.specs.Questions.{processPlaces}
 use Rattle.table.specs.declared.Head.{Head}
-use Rattle.table.specs.Words.{locsIn, defsIn, arityOf, lowAt, ownAt, boundAt, scopeAt, namesAt}
+use Rattle.table.specs.Words.{rowSize, lastName, ownsAt, locsIn, defsIn, arityOf, lowAt, ownAt, boundAt, scopeAt, namesAt}
 use Rattle.table.specs.Valid.{alike, index, sortOk, innerOk, entered, headOk, nextOk, scopeOk, stacked, floor, lowOk, treeOk, partOk}
 use Rattle.table.proofs.Tests.{every-append}
 use Rattle.table.specs.Size.{size, sizeP}
@@ -34,7 +34,7 @@ alike-same (x ∷ xs) = and-in _ _ (eq-eqb x x refl) (alike-same xs)
 
 -- words where a name may stand
 abbrev pub InScript : List ℕ → Type 0
-InScript os = every (λ o. ltb o 99_589) os ≡ true
+InScript os = every (λ o. ltb o lastName) os ≡ true
 
 -- a scope that passes question 17: its names stand in the script, have the form of a variable, and differ
 pub record GoodScope (w os : List ℕ) : Type 0 where
@@ -67,7 +67,7 @@ module _ (w : List ℕ) where
     where
       go : (b : Bool) → InScript (cond b os (os ++ (ownAt i ∷ [])))
       go true = e
-      go false = every-append (λ o. ltb o 99_589) os _ e (and-in _ _ (lt-ltb (1_305 + i * 24) 99_589 (omega arith)) refl)
+      go false = every-append (λ o. ltb o lastName) os _ e (and-in _ _ (lt-ltb (ownsAt + i * rowSize) lastName (omega arith)) refl)
 
   entered-good : (i : ℕ) (os : List ℕ) (y : Name) → i < 4_096 → boundAt w i ≡ y → isSmall y ≡ true → GoodScope w os → GoodScope w (entering w i os y)
   unfolding sortOk

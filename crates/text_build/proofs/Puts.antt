@@ -19,7 +19,7 @@ use Rattle.terms.proofs.Names.{and-inv, and-in}
 use Rattle.terms.specs.Letters.{isSmall}
 use Rattle.text.specs.WellFormed.{Each, WellPart, WellProcess}
 use Rattle.text.specs.Questions.{Place, into, partPlaces, processPlaces}
-use Rattle.table.specs.Words.{word, field, nameAt, ownAt}
+use Rattle.table.specs.Words.{rowSize, ownsAt, partsAt, word, field, nameAt, ownAt}
 use Rattle.table.specs.Valid.{index}
 use Rattle.table.proofs.Tests.{every-append}
 use Rattle.table.specs.Size.{size, sizeP}
@@ -38,8 +38,8 @@ use Rattle.text_build.proofs.Numbers.{names-entered}
 use Rattle.text_build.proofs.Kept.{entering-same, entered-same, below-kept, kept}
 
 -- ── the mark of a name too many is never taken back ──
-pub row-flag : (w : List ℕ) (i k : ℕ) (vs : List ℕ) → word (sets w (1_288 + i * 24 + k) vs) 4 ≡ word w 4
-row-flag w i k vs = sets-under vs w (1_288 + i * 24 + k) 4 (omega arith)
+pub row-flag : (w : List ℕ) (i k : ℕ) (vs : List ℕ) → word (sets w (partsAt + i * rowSize + k) vs) 4 ≡ word w 4
+row-flag w i k vs = sets-under vs w (partsAt + i * rowSize + k) 4 (omega arith)
 
 pub opened-back : (a : Part) (w : List ℕ) (i : ℕ) (sc : Scope) → word (opened w i sc a) 4 ≡ 0 → word (enterPart w a) 4 ≡ 0
 unfolding opened
@@ -127,9 +127,9 @@ pub settled-entering : (w : List ℕ) (i : ℕ) (os : List ℕ) (y : Name) → 1
 unfolding entering ownAt
 settled-entering w i os y h s = go (ltb (index (scopeNames w os) y) (length os))
   where
-    go : (b : Bool) → Settled (firstPlace i) (cond b os (os ++ ((1_305 + i * 24) ∷ [])))
+    go : (b : Bool) → Settled (firstPlace i) (cond b os (os ++ ((ownsAt + i * rowSize) ∷ [])))
     go true = settled-lower i (firstPlace i) os (omega arith) s
-    go false = each-snoc (Clear (firstPlace i)) os (1_305 + i * 24) (settled-lower i (firstPlace i) os (omega arith) s) (higher (omega arith))
+    go false = each-snoc (Clear (firstPlace i)) os (ownsAt + i * rowSize) (settled-lower i (firstPlace i) os (omega arith) s) (higher (omega arith))
 
 -- ── names that are listed stay listed ──
 pub every-also : {A : Type 0} (f g : A → Bool) → ((x : A) → f x ≡ true → g x ≡ true) → (xs : List A) → every f xs ≡ true → every g xs ≡ true
@@ -204,19 +204,19 @@ with-links (inp c t y p r) w i sc q n l = refl
 with-links (call d vs) w i sc q n l = refl
 
 -- the name that a row binds, while other words of the row or rows below are written
-own-past : (w : List ℕ) (i k : ℕ) (vs : List ℕ) → k + length vs ≤ 17 → nameAt (sets w (1_288 + i * 24 + k) vs) (ownAt i) ≡ nameAt w (ownAt i)
+own-past : (w : List ℕ) (i k : ℕ) (vs : List ℕ) → k + length vs ≤ 17 → nameAt (sets w (partsAt + i * rowSize + k) vs) (ownAt i) ≡ nameAt w (ownAt i)
 unfolding nameAt ownAt
 own-past w i k vs h = rw (past 1 (omega arith), past 2 (omega arith), past 3 (omega arith), past-first)
   where
-    past : (j : ℕ) → j < 4 → word (sets w (1_288 + i * 24 + k) vs) (1_305 + i * 24 + j) ≡ word w (1_305 + i * 24 + j)
-    past j l = sets-past vs w (1_288 + i * 24 + k) (1_305 + i * 24 + j) (omega arith)
+    past : (j : ℕ) → j < 4 → word (sets w (partsAt + i * rowSize + k) vs) (ownsAt + i * rowSize + j) ≡ word w (ownsAt + i * rowSize + j)
+    past j l = sets-past vs w (partsAt + i * rowSize + k) (ownsAt + i * rowSize + j) (omega arith)
 
-    past-first : word (sets w (1_288 + i * 24 + k) vs) (1_305 + i * 24) ≡ word w (1_305 + i * 24)
-    past-first = sets-past vs w (1_288 + i * 24 + k) (1_305 + i * 24) (omega arith)
+    past-first : word (sets w (partsAt + i * rowSize + k) vs) (ownsAt + i * rowSize) ≡ word w (ownsAt + i * rowSize)
+    past-first = sets-past vs w (partsAt + i * rowSize + k) (ownsAt + i * rowSize) (omega arith)
 
 own-above : (w v : List ℕ) (low j i : ℕ) → Frame w v low j → j < i → nameAt v (ownAt i) ≡ nameAt w (ownAt i)
 unfolding nameAt ownAt
-own-above w v low j i f h = rw (f .above (1_305 + i * 24 + 1) (omega arith), f .above (1_305 + i * 24 + 2) (omega arith), f .above (1_305 + i * 24 + 3) (omega arith), f .above (1_305 + i * 24) (omega arith))
+own-above w v low j i f h = rw (f .above (ownsAt + i * rowSize + 1) (omega arith), f .above (ownsAt + i * rowSize + 2) (omega arith), f .above (ownsAt + i * rowSize + 3) (omega arith), f .above (ownsAt + i * rowSize) (omega arith))
 
 -- ── the row of a part, opened ──
 module _ (a : Part) (w : List ℕ) (i : ℕ) (sc : Scope) (m : Making w) (e : Eight sc) (p : WellPart a) (h : i < 4_096) (z : word (opened w i sc a) 4 ≡ 0) where
@@ -263,10 +263,10 @@ widen {w = w} low i m g a b = grew-then low i (grew-none w m low i) g (omega ari
 
 -- the rows below i are those of a script whose row at i was written
 under-same : (w v : List ℕ) (i : ℕ) → Frame w v i i → (j k : ℕ) → j < i → k < 24 → field v j k ≡ field w j k
-under-same w v i f j k h l = f .under (1_288 + j * 24 + k) (omega arith) (omega arith)
+under-same w v i f j k h l = f .under (partsAt + j * rowSize + k) (omega arith) (omega arith)
 
 above-same : (w v : List ℕ) (low b : ℕ) → Frame w v low b → (j k : ℕ) → b < j → field v j k ≡ field w j k
-above-same w v low b f j k h = f .above (1_288 + j * 24 + k) (omega arith)
+above-same w v low b f j k h = f .above (partsAt + j * rowSize + k) (omega arith)
 
 -- a part without inner processes
 leaf-put : (a : Part) (w : List ℕ) (i d : ℕ) (sc : Scope) → Making w → Eight sc → WellPart a → i < 4_096 → (z : word (opened w i sc a) 4 ≡ 0) → secondOf i a ≡ 0
@@ -316,8 +316,8 @@ out-put c t x p q w v u i d sc m e s f n h z r b =
     let j = sizeP-some q in
     let y = row-grew u (b .grew .making) i 5 (secondPlace i p ∷ []) (omega arith) in
     let g = grew-then (suc i - size a) i (b .grew) y (omega arith) (omega arith) (omega arith) (omega arith) in
-    let o : scopeNames (sets u (1_288 + i * 24 + 5) (secondPlace i p ∷ [])) (offsets sc) ≡ scopeNames v (offsets sc) = settled-same _ _ _ i (offsets sc) (g .frame) s in
-    let l : scopeNames (sets u (1_288 + i * 24 + 5) (secondPlace i p ∷ [])) (offsets sc) ≡ scopeNames u (offsets sc) = settled-same _ _ _ i (offsets sc) (y .frame) s in
+    let o : scopeNames (sets u (partsAt + i * rowSize + 5) (secondPlace i p ∷ [])) (offsets sc) ≡ scopeNames v (offsets sc) = settled-same _ _ _ i (offsets sc) (g .frame) s in
+    let l : scopeNames (sets u (partsAt + i * rowSize + 5) (secondPlace i p ∷ [])) (offsets sc) ≡ scopeNames u (offsets sc) = settled-same _ _ _ i (offsets sc) (y .frame) s in
     let big = grew-then (suc i - size a) i (r .grew) g (omega arith) (omega arith) (omega arith) (omega arith) in
     record {
       below = (
@@ -360,13 +360,13 @@ in-put c t x p q w v u i d sc m e s f n h z r b =
     let big = grew-then (suc i - size a) i (r .grew) g (omega arith) (omega arith) (omega arith) (omega arith) in
     let start = grew-then (suc i - size a) i (open-grew a w i sc m e f h z) big (omega arith) (omega arith) (omega arith) (omega arith) in
     let first = grew-then (suc i - size a) i (open-grew a w i sc m e f h z) (r .grew) (omega arith) (omega arith) (omega arith) (omega arith) in
-    let o : scopeNames (sets u (1_288 + i * 24 + 5) (secondPlace i p ∷ [])) (offsets sc) ≡ scopeNames v (offsets sc) = settled-same _ _ _ i (offsets sc) (g .frame) s in
-    let l : scopeNames (sets u (1_288 + i * 24 + 5) (secondPlace i p ∷ [])) (offsets sc) ≡ scopeNames u (offsets sc) = settled-same _ _ _ i (offsets sc) (y .frame) s in
+    let o : scopeNames (sets u (partsAt + i * rowSize + 5) (secondPlace i p ∷ [])) (offsets sc) ≡ scopeNames v (offsets sc) = settled-same _ _ _ i (offsets sc) (g .frame) s in
+    let l : scopeNames (sets u (partsAt + i * rowSize + 5) (secondPlace i p ∷ [])) (offsets sc) ≡ scopeNames u (offsets sc) = settled-same _ _ _ i (offsets sc) (y .frame) s in
     let own = own-past u i 5 (secondPlace i p ∷ []) (omega arith) ∙ own-above v u _ (secondPlace i p) i (b .grew .frame) (omega arith) in
     let v-same = entering-same w v (first .grown) i (offsets sc) x (settled-same w v _ i (offsets sc) (first .frame) s) in
     let u-same = entering-same w _ (start .grown) i (offsets sc) x (settled-same w _ _ i (offsets sc) (start .frame) s) in
-    let oe : scopeNames (sets u (1_288 + i * 24 + 5) (secondPlace i p ∷ [])) (entering w i (offsets sc) x) ≡ scopeNames v (entering w i (offsets sc) x) = rw (← v-same) (entered-same v _ (g .grown) i (offsets sc) x own o) in
-    let rows : RowIs (sets u (1_288 + i * 24 + 5) (secondPlace i p ∷ [])) i (finished (rowOf w i sc a) (secondPlace i p) 0 0) =
+    let oe : scopeNames (sets u (partsAt + i * rowSize + 5) (secondPlace i p ∷ [])) (entering w i (offsets sc) x) ≡ scopeNames v (entering w i (offsets sc) x) = rw (← v-same) (entered-same v _ (g .grown) i (offsets sc) x own o) in
+    let rows : RowIs (sets u (partsAt + i * rowSize + 5) (secondPlace i p ∷ [])) i (finished (rowOf w i sc a) (secondPlace i p) 0 0) =
     rw (← with-second a w i sc (secondPlace i p))
     (row-after u i (rowOf w i sc a) 5 (secondPlace i p ∷ []) (row-kept v u _ (secondPlace i p) i (rowOf w i sc a) (b .grew .frame) (omega arith) (row-kept _ v _ (firstPlace i) i (rowOf w i sc a) (r .grew .frame) (omega arith) (open-row a w i sc m e f h z)))
     (row-length w i sc a e) (omega arith) (let lg = b .grew .making .long in omega arith)) in
@@ -397,7 +397,7 @@ module _ (a : Part) (w v : List ℕ) (i d : ℕ) (sc : Scope) (m : Making w) (e 
       let k = size-some a in
       let y = row-grew v (r .later .making) i 6 (0 ∷ (suc i - size a) ∷ []) (omega arith) in
       let g = grew-then (suc i - size a) i (r .later) y (omega arith) (omega arith) (omega arith) (omega arith) in
-      let o : scopeNames (sets v (1_288 + i * 24 + 6) (0 ∷ (suc i - size a) ∷ [])) (offsets sc) ≡ scopeNames v (offsets sc) = settled-same _ _ _ i (offsets sc) (y .frame) s in
+      let o : scopeNames (sets v (partsAt + i * rowSize + 6) (0 ∷ (suc i - size a) ∷ [])) (offsets sc) ≡ scopeNames v (offsets sc) = settled-same _ _ _ i (offsets sc) (y .frame) s in
       record {
         stands = (
           open-head a w i sc m e f h (r .unmarked) _ (suc i - size a) 0 (suc i - size a) (omega arith) s g
@@ -418,8 +418,8 @@ module _ (a : Part) (w v : List ℕ) (i d : ℕ) (sc : Scope) (m : Making w) (e 
       let y = row-grew u (b .grew .making) i 6 (suc (i - size a) ∷ low ∷ []) (omega arith) in
       let g = grew-then (suc i - (size a + sizeP p)) i (b .grew) y (omega arith) (omega arith) (omega arith) (omega arith) in
       let big = grew-then (suc i - (size a + sizeP p)) i (r .later) g (omega arith) (omega arith) (omega arith) (omega arith) in
-      let o : scopeNames (sets u (1_288 + i * 24 + 6) (suc (i - size a) ∷ low ∷ [])) (offsets sc) ≡ scopeNames v (offsets sc) = settled-same _ _ _ i (offsets sc) (g .frame) s in
-      let l : scopeNames (sets u (1_288 + i * 24 + 6) (suc (i - size a) ∷ low ∷ [])) (offsets sc) ≡ scopeNames u (offsets sc) = settled-same _ _ _ i (offsets sc) (y .frame) s in
+      let o : scopeNames (sets u (partsAt + i * rowSize + 6) (suc (i - size a) ∷ low ∷ [])) (offsets sc) ≡ scopeNames v (offsets sc) = settled-same _ _ _ i (offsets sc) (g .frame) s in
+      let l : scopeNames (sets u (partsAt + i * rowSize + 6) (suc (i - size a) ∷ low ∷ [])) (offsets sc) ≡ scopeNames u (offsets sc) = settled-same _ _ _ i (offsets sc) (y .frame) s in
       let full-length : length (finished (rowOf w i sc a) (secondOf i a) 0 0) ≡ 24 = length-sets (rowOf w i sc a) 5 (secondOf i a ∷ 0 ∷ 0 ∷ []) ∙ row-length w i sc a e in
       record {
         stands = (

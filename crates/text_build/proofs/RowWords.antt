@@ -12,7 +12,7 @@ use lib.Seq.{sets, getD-append-add}
 use Rattle.terms.specs.Terms.Part.{go}
 use Rattle.table.specs.declared.Head.{Head}
 use Rattle.table.specs.declared.Head.the-variants.{Stop, Go, Out, In, Call}
-use Rattle.table.specs.Words.{word, field, headAt, nextAt, lowAt, scopeAt}
+use Rattle.table.specs.Words.{rowSize, partsAt, word, field, headAt, nextAt, lowAt, scopeAt}
 use Rattle.text_build.specs.declared.Scope.{Scope}
 use Rattle.text_build.specs.Growth.{Frame}
 use Rattle.text_build.specs.Rows.{Row}
@@ -32,28 +32,28 @@ side {A = A} j k x y = go (ltb j k) refl
     go false e = y (ltb-false j k e)
 
 -- some words of the row are written
-pub row-after : (w : List ℕ) (i : ℕ) (r : List ℕ) (k : ℕ) (vs : List ℕ) → RowIs w i r → length r ≡ 24 → k + length vs ≤ 24 → 1_288 + i * 24 + 24 ≤ length w
-    → RowIs (sets w (1_288 + i * 24 + k) vs) i (sets r k vs)
+pub row-after : (w : List ℕ) (i : ℕ) (r : List ℕ) (k : ℕ) (vs : List ℕ) → RowIs w i r → length r ≡ 24 → k + length vs ≤ 24 → partsAt + i * rowSize + 24 ≤ length w
+    → RowIs (sets w (partsAt + i * rowSize + k) vs) i (sets r k vs)
 row-after w i r k vs e n h b j l =
     side j k
-    (λ u. sets-under vs w (1_288 + i * 24 + k) (1_288 + i * 24 + j) (omega arith) ∙ e j l ∙ sym (sets-under vs r k j u))
+    (λ u. sets-under vs w (partsAt + i * rowSize + k) (partsAt + i * rowSize + j) (omega arith) ∙ e j l ∙ sym (sets-under vs r k j u))
     (λ u. side j (k + length vs)
     (λ z.
-    let p : 1_288 + i * 24 + j ≡ 1_288 + i * 24 + k + (j - k) = omega arith in
+    let p : partsAt + i * rowSize + j ≡ partsAt + i * rowSize + k + (j - k) = omega arith in
     let q : j ≡ k + (j - k) = omega arith in
-    ap (word (sets w (1_288 + i * 24 + k) vs)) p ∙ sets-in vs w (1_288 + i * 24 + k) (j - k) (omega arith) (omega arith)
+    ap (word (sets w (partsAt + i * rowSize + k) vs)) p ∙ sets-in vs w (partsAt + i * rowSize + k) (j - k) (omega arith) (omega arith)
     ∙ sym (ap (word (sets r k vs)) q ∙ sets-in vs r k (j - k) (omega arith) (omega arith)))
-    (λ z. sets-past vs w (1_288 + i * 24 + k) (1_288 + i * 24 + j) (omega arith) ∙ e j l ∙ sym (sets-past vs r k j z)))
+    (λ z. sets-past vs w (partsAt + i * rowSize + k) (partsAt + i * rowSize + j) (omega arith) ∙ e j l ∙ sym (sets-past vs r k j z)))
 
 -- a whole row
-pub row-new : (w : List ℕ) (i : ℕ) (r : List ℕ) → length r ≡ 24 → 1_288 + i * 24 + 24 ≤ length w → RowIs (sets w (1_288 + i * 24 + 0) r) i r
+pub row-new : (w : List ℕ) (i : ℕ) (r : List ℕ) → length r ≡ 24 → partsAt + i * rowSize + 24 ≤ length w → RowIs (sets w (partsAt + i * rowSize + 0) r) i r
 row-new w i r n b j l =
-    let p : 1_288 + i * 24 + j ≡ 1_288 + i * 24 + 0 + j = omega arith in
-    ap (word (sets w (1_288 + i * 24 + 0) r)) p ∙ sets-in r w (1_288 + i * 24 + 0) j (omega arith) (omega arith)
+    let p : partsAt + i * rowSize + j ≡ partsAt + i * rowSize + 0 + j = omega arith in
+    ap (word (sets w (partsAt + i * rowSize + 0) r)) p ∙ sets-in r w (partsAt + i * rowSize + 0) j (omega arith) (omega arith)
 
 -- rows below are written
 pub row-kept : (w v : List ℕ) (low j i : ℕ) (r : List ℕ) → Frame w v low j → j < i → RowIs w i r → RowIs v i r
-row-kept w v low j i r f h e k l = f .above (1_288 + i * 24 + k) (omega arith) ∙ e k l
+row-kept w v low j i r f h e k l = f .above (partsAt + i * rowSize + k) (omega arith) ∙ e k l
 
 -- ── what a row holds ──
 pub record Eight (sc : Scope) : Type 0 where

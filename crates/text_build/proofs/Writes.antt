@@ -7,6 +7,7 @@ use lib.ListN.{length, set, length-set}
 use lib.Seq.{sets, length-sets}
 use Rattle.text_build.specs.Growth.{Frame}
 use Rattle.table.proofs.Stores.{set-out, sets-under, sets-past}
+use Rattle.table.specs.Words.{rowSize, locsAt, partsAt}
 
 -- ── frames ──
 pub frame-none : (w : List ℕ) (low i : ℕ) → Frame w w low i
@@ -24,18 +25,18 @@ frame-then low i f g a b c d = record {
 }
 
 -- some words of the row at i
-pub frame-row : (w : List ℕ) (i k : ℕ) (vs : List ℕ) → k + length vs ≤ 24 → Frame w (sets w (1_288 + i * 24 + k) vs) i i
+pub frame-row : (w : List ℕ) (i k : ℕ) (vs : List ℕ) → k + length vs ≤ 24 → Frame w (sets w (partsAt + i * rowSize + k) vs) i i
 frame-row w i k vs h = record {
-  long = length-sets w (1_288 + i * 24 + k) vs;
-  parts = sets-under vs w (1_288 + i * 24 + k) 0 (omega arith);
-  defs = sets-under vs w (1_288 + i * 24 + k) 3 (omega arith);
-  between = λ o a b. sets-under vs w (1_288 + i * 24 + k) o (omega arith);
-  under = λ o a b. sets-under vs w (1_288 + i * 24 + k) o (omega arith);
-  above = λ o a. sets-past vs w (1_288 + i * 24 + k) o (omega arith);
+  long = length-sets w (partsAt + i * rowSize + k) vs;
+  parts = sets-under vs w (partsAt + i * rowSize + k) 0 (omega arith);
+  defs = sets-under vs w (partsAt + i * rowSize + k) 3 (omega arith);
+  between = λ o a b. sets-under vs w (partsAt + i * rowSize + k) o (omega arith);
+  under = λ o a b. sets-under vs w (partsAt + i * rowSize + k) o (omega arith);
+  above = λ o a. sets-past vs w (partsAt + i * rowSize + k) o (omega arith);
 }
 
 -- words of the tables of names, of their counts, and of the mark of a name too many
-pub frame-names : (w : List ℕ) (o : ℕ) (vs : List ℕ) (low i : ℕ) → 776 ≤ o → o + length vs ≤ 1_288 → Frame w (sets w o vs) low i
+pub frame-names : (w : List ℕ) (o : ℕ) (vs : List ℕ) (low i : ℕ) → locsAt ≤ o → o + length vs ≤ partsAt → Frame w (sets w o vs) low i
 frame-names w o vs low i a b = record {
   long = length-sets w o vs;
   parts = sets-under vs w o 0 (omega arith);

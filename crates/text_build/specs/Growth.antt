@@ -12,7 +12,7 @@ use Rattle.terms.specs.Terms.Value.{loc, var}
 use Rattle.terms.specs.Terms.Part.{stop, go, out, inp, call}
 use Rattle.terms.specs.Same.{every}
 use Rattle.text.specs.Questions.{Place}
-use Rattle.table.specs.Words.{word, locsIn, field}
+use Rattle.table.specs.Words.{rowSize, locsAt, partsAt, scriptWords, word, locsIn, field}
 use Rattle.table.specs.Valid.{index}
 use Rattle.text_build.specs.Rows.{locsOf, chansOf, idsOf, chanKnown}
 
@@ -51,13 +51,13 @@ pub record Frame (w v : List ℕ) (low i : ℕ) : Type 0 where
   pub long : length v ≡ length w
   pub parts : word v 0 ≡ word w 0
   pub defs : word v 3 ≡ word w 3
-  pub between : (o : ℕ) → 8 ≤ o → o < 776 → word v o ≡ word w o
-  pub under : (o : ℕ) → 1_288 ≤ o → o < 1_288 + low * 24 → word v o ≡ word w o
-  pub above : (o : ℕ) → 1_288 + suc i * 24 ≤ o → word v o ≡ word w o
+  pub between : (o : ℕ) → 8 ≤ o → o < locsAt → word v o ≡ word w o
+  pub under : (o : ℕ) → partsAt ≤ o → o < partsAt + low * rowSize → word v o ≡ word w o
+  pub above : (o : ℕ) → partsAt + suc i * rowSize ≤ o → word v o ≡ word w o
 
 -- ── a script in the making: its length, and its tables within their limits ──
 pub record Making (w : List ℕ) : Type 0 where
-  pub long : length w ≡ 99_592
+  pub long : length w ≡ scriptWords
   pub locs : word w 1 ≤ 64
   pub chans : word w 2 ≤ 64
   pub defs : word w 3 ≤ 32

@@ -37,6 +37,10 @@ ghost use Rattle.table.specs.Tests.{keyName, rowName};
 ghost use Rattle.text_build.specs.Keys.{Byte, quadOf, keyOf};
 ghost use Rattle.text_build.specs.Put.{rowWords, setSecond, linked};
 ghost use Rattle.text_build.specs.Tables.{keyWords, heldIn, Enlisted};
+ghost use Rattle.table.specs.Words.{rowSize, lastName, partsAt};
+use table::PARTS;
+use table::ROW_SIZE;
+use table::Script;
 
 // ---- names ----
 // The byte at i; 0 past the end.
@@ -82,8 +86,8 @@ pub struct Scope {
 
 // ---- tables of names ----
 // Writes a name from the word o on.
-pub fn put_key(w: &mut [u32; 99592], o: usize, k: table::Key)
-    requires { ⌜ o < 99589 ⌝ }
+pub fn put_key(w: &mut Script, o: usize, k: table::Key)
+    requires { ⌜ o < lastName ⌝ }
     ensures { λ r. ⌜ now (w .exit) ≡ sets (now (w .entry)) o (keyWords k) ⌝ }
 {
     w[o] = k.a;
@@ -93,7 +97,7 @@ pub fn put_key(w: &mut [u32; 99592], o: usize, k: table::Key)
 }
 
 // How many names a table holds, by the word that counts them: at most 64.
-pub fn held_in(w: &[u32; 99592], at: usize) -> usize
+pub fn held_in(w: &Script, at: usize) -> usize
     requires { ⌜ at < 4 ⌝ }
     ensures { λ r. ⌜ r ≡ heldIn (now (w .entry)) at ⌝ }
 {
@@ -105,7 +109,7 @@ pub fn held_in(w: &[u32; 99592], at: usize) -> usize
 }
 
 // The number of the name k among the first n from the word o on, d words apart; n if it is none of them.
-pub fn find(w: &[u32; 99592], o: usize, d: usize, n: usize, k: table::Key) -> usize
+pub fn find(w: &Script, o: usize, d: usize, n: usize, k: table::Key) -> usize
     requires { ⌜ (o < 2000) × (d ≤ 24) × (n ≤ 64) ⌝ }
     ensures { λ r. ⌜ r ≡ index (listFrom 0 n (rowName (now (w .entry)) o d)) (keyName k) ⌝ }
 {
@@ -121,7 +125,7 @@ pub fn find(w: &[u32; 99592], o: usize, d: usize, n: usize, k: table::Key) -> us
 
 // The number of the name k in the table from the word o on, which the word `at` counts; entered behind the last if it is not there.
 // A 65th name is not entered: the word 4 says so (question 4).
-pub fn number(w: &mut [u32; 99592], o: usize, at: usize, k: table::Key) -> usize
+pub fn number(w: &mut Script, o: usize, at: usize, k: table::Key) -> usize
     requires { ⌜ (o < 2000) × (at < 4) ⌝ }
     ensures { λ r. ⌜ Enlisted (now (w .entry)) (now (w .exit)) o at k r ⌝ }
 {
@@ -141,7 +145,7 @@ pub fn number(w: &mut [u32; 99592], o: usize, at: usize, k: table::Key) -> usize
 
 // ---- rows ----
 // The first nine words of a row; the place of Q, the next part and the least place are to come.
-fn put_front(w: &mut [u32; 99592], o: usize, k: u32, c: u32, t: u32, v: u32, p: u32, n: u32)
+fn put_front(w: &mut Script, o: usize, k: u32, c: u32, t: u32, v: u32, p: u32, n: u32)
     requires { ⌜ o < 99583 ⌝ }
     ensures { λ r. ⌜ now (w .exit) ≡ sets (now (w .entry)) o (k ∷ c ∷ t ∷ v ∷ p ∷ 0 ∷ 0 ∷ 0 ∷ n ∷ []) ⌝ }
 {
@@ -157,7 +161,7 @@ fn put_front(w: &mut [u32; 99592], o: usize, k: u32, c: u32, t: u32, v: u32, p: 
 }
 
 // Eight words: where the names in scope stand.
-fn put_eight(w: &mut [u32; 99592], o: usize, xs: &[u32])
+fn put_eight(w: &mut Script, o: usize, xs: &[u32])
     requires { ⌜ (o < 99584) × (length (now xs) ≡ 8) ⌝ }
     ensures { λ r. ⌜ now (w .exit) ≡ sets (now (w .entry)) o (now (xs .entry)) ⌝ }
 {
@@ -172,7 +176,7 @@ fn put_eight(w: &mut [u32; 99592], o: usize, xs: &[u32])
 }
 
 // The last seven words of a row: arguments or a bound name, and three that are not used.
-fn put_tail(w: &mut [u32; 99592], o: usize, x: table::Key)
+fn put_tail(w: &mut Script, o: usize, x: table::Key)
     requires { ⌜ o < 99586 ⌝ }
     ensures { λ r. ⌜ now (w .exit) ≡ sets (now (w .entry)) o (x .a ∷ x .b ∷ x .c ∷ x .d ∷ 0 ∷ 0 ∷ 0 ∷ []) ⌝ }
 {
@@ -187,7 +191,7 @@ fn put_tail(w: &mut [u32; 99592], o: usize, x: table::Key)
 
 // The row of a part at i up to its links: kind, name, timer, value, place of P, scope, arguments or a bound name.
 pub fn put_row(
-    w: &mut [u32; 99592],
+    w: &mut Script,
     i: usize,
     k: u32,
     c: u32,
@@ -198,9 +202,9 @@ pub fn put_row(
     x: table::Key,
 )
     requires { ⌜ (i < 4096) × (sc .n ≤ 8) ⌝ }
-    ensures { λ r. ⌜ now (w .exit) ≡ sets (now (w .entry)) (1288 + i * 24 + 0) (rowWords k c t v p sc (keyWords x)) ⌝ }
+    ensures { λ r. ⌜ now (w .exit) ≡ sets (now (w .entry)) (partsAt + i * rowSize + 0) (rowWords k c t v p sc (keyWords x)) ⌝ }
 {
-    let o = 1288 + i * 24;
+    let o = PARTS + i * ROW_SIZE;
     let n = sc.n as u32;
     let at = sc.at;
     put_front(w, o, k, c, t, v, p, n);
@@ -209,18 +213,18 @@ pub fn put_row(
 }
 
 // The place of Q in the row at i.
-pub fn set_second(w: &mut [u32; 99592], i: usize, q: u32)
+pub fn set_second(w: &mut Script, i: usize, q: u32)
     requires { ⌜ i < 4096 ⌝ }
     ensures { λ r. ⌜ now (w .exit) ≡ setSecond (now (w .entry)) i q ⌝ }
 {
-    w[1288 + i * 24 + 5] = q;
+    w[PARTS + i * ROW_SIZE + 5] = q;
 }
 
 // The next part and the least place in the row at i.
-pub fn link(w: &mut [u32; 99592], i: usize, n: u32, l: u32)
+pub fn link(w: &mut Script, i: usize, n: u32, l: u32)
     requires { ⌜ i < 4096 ⌝ }
     ensures { λ r. ⌜ now (w .exit) ≡ linked (now (w .entry)) i n l ⌝ }
 {
-    w[1288 + i * 24 + 6] = n;
-    w[1288 + i * 24 + 7] = l;
+    w[PARTS + i * ROW_SIZE + 6] = n;
+    w[PARTS + i * ROW_SIZE + 7] = l;
 }

@@ -18,7 +18,7 @@ use Rattle.text.specs.Grammar.{the, next}
 use Rattle.text.specs.Write.{valueT, joinedT, listT}
 use Rattle.text.specs.WellFormed.{Each, WellValue}
 use Rattle.table.specs.declared.Key.{Key}
-use Rattle.table.specs.Words.{nameAt}
+use Rattle.table.specs.Words.{locsAt, nameAt}
 use Rattle.table.specs.Tests.{keyName}
 use Rattle.table.specs.Valid.{index}
 use Rattle.table.proofs.Fires.{getD-map}
@@ -59,12 +59,12 @@ module _ (w : List ℕ) (sc : Scope) (few : sc .n ≤ 8) (eight : length (sc .at
   pub slot-few : (x : Name) → index (scopeNames w (offsets sc)) x ≤ 8
   slot-few x = omega (arith, index-within (scopeNames w (offsets sc)) x, scope-length)
 
-pub number-few : (w : List ℕ) (x : Name) → numberIn w 776 (heldIn w 1) x ≤ 64
+pub number-few : (w : List ℕ) (x : Name) → numberIn w locsAt (heldIn w 1) x ≤ 64
 unfolding heldIn
-number-few w x = omega (arith, number-within w 776 (heldIn w 1) x)
+number-few w x = omega (arith, number-within w locsAt (heldIn w 1) x)
 
 module _ (w u : List ℕ) (sc : Scope) (k : Key) (b : Bool) (r : ℕ) where
-  pub by-capital : b ≡ true → Enlisted w u 776 1 k r → ValueBy w u sc k b r
+  pub by-capital : b ≡ true → Enlisted w u locsAt 1 k r → ValueBy w u sc k b r
   by-capital e f = rw e (record { number = f .place; after = f .after })
 
 module _ (w : List ℕ) (sc : Scope) (k : Key) (b : Bool) (r : ℕ) where

@@ -21,7 +21,7 @@ use Rattle.text_words.specs.declared.Sort.{Sort}
 use Rattle.text_words.specs.Sorts.{sortOf, headIs}
 use Rattle.text_words.proofs.WordSorts.{head-is}
 use Rattle.table.specs.declared.Key.{Key}
-use Rattle.table.specs.Words.{defName, ownAt}
+use Rattle.table.specs.Words.{rowSize, chansAt, ownsAt, partsAt, defName, ownAt}
 use Rattle.table.specs.Meaning.{listFrom}
 use Rattle.table.specs.Tests.{keyName, rowName}
 use Rattle.table.specs.Valid.{index}
@@ -47,7 +47,7 @@ module _ (sc : Scope) (i j : ℕ) where
   pub entered-there : j < sc .n → sc ≡ enteredBy sc i j
   entered-there h = rw (lt-ltb j (sc .n) h)
 
-  pub entered-new : sc .n ≤ j → sc .n < 8 → record { n = sc .n + 1; at = set (sc .at) (sc .n) (1_305 + i * 24) } ≡ enteredBy sc i j
+  pub entered-new : sc .n ≤ j → sc .n < 8 → record { n = sc .n + 1; at = set (sc .at) (sc .n) (ownsAt + i * rowSize) } ≡ enteredBy sc i j
   unfolding ownAt
   entered-new h k = rw (le-ltb j (sc .n) h, lt-ltb (sc .n) 8 k)
 
@@ -68,18 +68,18 @@ module _ (w : List ℕ) (sc : Scope) (k : Key) (j : ℕ) (e : j ≡ index (scope
   marked-full h l r f = record { after = rw (le-ltb j (sc .n) h, le-ltb (sc .n) 8 l); slot = f; few = omega (arith, slot-few (set w 4 1) sc few eight (keyName k)) }
 
 -- ── numbers of channels are small ──
-pub chan-few : {w v : List ℕ} {k : Key} {r : ℕ} → Enlisted w v 1_032 2 k r → r ≤ 64
+pub chan-few : {w v : List ℕ} {k : Key} {r : ℕ} → Enlisted w v chansAt 2 k r → r ≤ 64
 unfolding heldIn
-chan-few {w} {k = k} e = omega (arith, e .place, number-within w 1_032 (heldIn w 2) (keyName k))
+chan-few {w} {k = k} e = omega (arith, e .place, number-within w chansAt (heldIn w 2) (keyName k))
 
 -- ── each form ──
 module _ (s w v : List ℕ) (i : ℕ) (sc : Scope) (us : List Token) (pl : ℕ) (q : pl ≡ i - 1) where
-  pub stop-open : (at : ℕ) → lex (drop at s) ≡ us → (nk : Key) → nk ≡ noWords → v ≡ sets w (1_288 + i * 24 + 0) (rowWords 0 0 0 0 0 sc (keyWords nk)) → OpenIs s w v i sc (record { end = at; kind = 0; inner = sc }) stop us
+  pub stop-open : (at : ℕ) → lex (drop at s) ≡ us → (nk : Key) → nk ≡ noWords → v ≡ sets w (partsAt + i * rowSize + 0) (rowWords 0 0 0 0 0 sc (keyWords nk)) → OpenIs s w v i sc (record { end = at; kind = 0; inner = sc }) stop us
   unfolding opened enterPart rowOf
   stop-open at g nk z e = record { left = g; kind = refl; inner = refl; after = e ∙ rw z }
 
   pub go-open : (t : Timer) (x : Value) (p : Process) → WellPart (go t x p) → (r : Pair) → PairIs s r t (nameOf x) (rest (go t x p) us) → {u : List ℕ} {m : ℕ} → ValueBy w u sc (r .key) (r .capital) m
-      → (nk : Key) → nk ≡ noWords → v ≡ sets u (1_288 + i * 24 + 0) (rowWords 1 0 (r .t) m pl sc (keyWords nk)) → OpenIs s w v i sc (record { end = r .end; kind = 1; inner = sc }) (go t x p) us
+      → (nk : Key) → nk ≡ noWords → v ≡ sets u (partsAt + i * rowSize + 0) (rowWords 1 0 (r .t) m pl sc (keyWords nk)) → OpenIs s w v i sc (record { end = r .end; kind = 1; inner = sc }) (go t x p) us
   unfolding opened enterPart rowOf
   go-open t x p f r a b nk z e = record {
     left = a .left;
@@ -88,11 +88,11 @@ module _ (s w v : List ℕ) (i : ℕ) (sc : Scope) (us : List Token) (pl : ℕ) 
     after = e ∙ rw (value-after x (f .1) (a .key) (a .capital) b, a .timer, value-is x (f .1) (a .key) (a .capital) b, q, z);
   }
 
-  pub out-open : (c : Name) (t : Timer) (x : Value) (p p′ : Process) → WellPart (out c t x p p′) → (r : Front) → FrontIs s r c t (nameOf x) (rest (out c t x p p′) us) → {u u′ : List ℕ} {m n : ℕ} → Enlisted w u 1_032 2 (r .chan) n → ValueBy u u′ sc (r .key) (r .capital) m
-      → (nk : Key) → nk ≡ noWords → v ≡ sets u′ (1_288 + i * 24 + 0) (rowWords 2 n (r .t) m pl sc (keyWords nk)) → OpenIs s w v i sc (record { end = r .end; kind = 2; inner = sc }) (out c t x p p′) us
+  pub out-open : (c : Name) (t : Timer) (x : Value) (p p′ : Process) → WellPart (out c t x p p′) → (r : Front) → FrontIs s r c t (nameOf x) (rest (out c t x p p′) us) → {u u′ : List ℕ} {m n : ℕ} → Enlisted w u chansAt 2 (r .chan) n → ValueBy u u′ sc (r .key) (r .capital) m
+      → (nk : Key) → nk ≡ noWords → v ≡ sets u′ (partsAt + i * rowSize + 0) (rowWords 2 n (r .t) m pl sc (keyWords nk)) → OpenIs s w v i sc (record { end = r .end; kind = 2; inner = sc }) (out c t x p p′) us
   unfolding opened enterPart rowOf chanNumber enterChan
   out-open c t x p p′ f r a {u} d b nk z e =
-      let g : u ≡ enlist w 1_032 2 (keyOf c) = d .after ∙ ap (enlist w 1_032 2) (a .chan) in
+      let g : u ≡ enlist w chansAt 2 (keyOf c) = d .after ∙ ap (enlist w chansAt 2) (a .chan) in
       record {
         left = a .left;
         kind = refl;
@@ -101,13 +101,13 @@ module _ (s w v : List ℕ) (i : ℕ) (sc : Scope) (us : List Token) (pl : ℕ) 
       }
 
   pub in-open : (c : Name) (t : Timer) (y : Name) (p p′ : Process) (r : Front) → FrontIs s r c t y (rest (inp c t y p p′) us) → {j : ℕ} → j ≡ index (scopeNames w (offsets sc)) (keyName (r .key)) → (k : Scope) → k ≡ enteredBy sc i j
-      → {u u′ : List ℕ} {m n : ℕ} → Marked w u sc (r .key) j m → Enlisted u u′ 1_032 2 (r .chan) n
-      → v ≡ sets u′ (1_288 + i * 24 + 0) (rowWords 3 n (r .t) m pl sc (keyWords (r .key))) → OpenIs s w v i sc (record { end = r .end; kind = 2; inner = k }) (inp c t y p p′) us
+      → {u u′ : List ℕ} {m n : ℕ} → Marked w u sc (r .key) j m → Enlisted u u′ chansAt 2 (r .chan) n
+      → v ≡ sets u′ (partsAt + i * rowSize + 0) (rowWords 3 n (r .t) m pl sc (keyWords (r .key))) → OpenIs s w v i sc (record { end = r .end; kind = 2; inner = k }) (inp c t y p p′) us
   unfolding opened enterPart rowOf chanNumber enterChan innerScope scopeMark slotOf
   in-open c t y p p′ r a {j} h k l {u} {u′} b d e =
       let o : j ≡ index (scopeNames w (offsets sc)) (keyName (keyOf y)) = h ∙ ap (λ x. index (scopeNames w (offsets sc)) (keyName x)) (a .key) in
       let g : u ≡ markedBy w sc (index (scopeNames w (offsets sc)) (keyName (keyOf y))) = b .after ∙ ap (markedBy w sc) o in
-      let n : u′ ≡ enlist u 1_032 2 (keyOf c) = d .after ∙ ap (enlist u 1_032 2) (a .chan) in
+      let n : u′ ≡ enlist u chansAt 2 (keyOf c) = d .after ∙ ap (enlist u chansAt 2) (a .chan) in
       record {
         left = a .left;
         kind = refl;
@@ -116,7 +116,7 @@ module _ (s w v : List ℕ) (i : ℕ) (sc : Scope) (us : List Token) (pl : ℕ) 
       }
 
   pub call-open : (d : Name) (vs : List Value) (r : Args) {u : List ℕ} → ArgsAre s w u sc r vs us → (x : Key) → x ≡ keyOf d → {n m : ℕ} → n ≡ heldIn w 3 → m ≡ index (listFrom 0 n (rowName w 10 24)) (keyName x)
-      → v ≡ sets u (1_288 + i * 24 + 0) (rowWords 4 m 0 (r .n) 0 sc (keyWords (r .first))) → OpenIs s w v i sc (record { end = r .end; kind = 0; inner = sc }) (call d vs) us
+      → v ≡ sets u (partsAt + i * rowSize + 0) (rowWords 4 m 0 (r .n) 0 sc (keyWords (r .first))) → OpenIs s w v i sc (record { end = r .end; kind = 0; inner = sc }) (call d vs) us
   unfolding opened enterPart rowOf idNumber defName rowName
   call-open d vs r a x h {n} {m} g l e = record {
     left = a .left;

@@ -17,7 +17,7 @@ use Rattle.text.specs.Grammar.{next}
 use Rattle.text.specs.Write.{valueT, joinedT, listT}
 use Rattle.text.specs.WellFormed.{Each, WellValue}
 use Rattle.table.specs.declared.Key.{Key}
-use Rattle.table.specs.Words.{ownAt}
+use Rattle.table.specs.Words.{locsAt, ownAt}
 use Rattle.table.specs.Tests.{keyName}
 use Rattle.table.specs.Valid.{index}
 use Rattle.text_build.specs.declared.Scope.{Scope}
@@ -65,10 +65,10 @@ isLoc (var x) = false
 
 -- the number of a value by its name, and the script with it entered: a location is entered, a variable has a slot
 abbrev pub numberBy : List ℕ → Scope → Key → Bool → ℕ
-numberBy w sc k b = cond b (numberIn w 776 (heldIn w 1) (keyName k)) (64 + index (scopeNames w (offsets sc)) (keyName k))
+numberBy w sc k b = cond b (numberIn w locsAt (heldIn w 1) (keyName k)) (64 + index (scopeNames w (offsets sc)) (keyName k))
 
 abbrev pub enterBy : List ℕ → Key → Bool → List ℕ
-enterBy w k b = cond b (enlist w 776 1 k) w
+enterBy w k b = cond b (enlist w locsAt 1 k) w
 
 pub record ValueBy (w v : List ℕ) (sc : Scope) (k : Key) (b : Bool) (r : ℕ) : Type 0 where
   pub number : r ≡ numberBy w sc k b

@@ -23,7 +23,11 @@ use super::values::slot;
 use super::values::value_in;
 use super::words::name_at;
 use super::words::pair_at;
+use table::CHANNELS;
 use table::Key;
+use table::OWNS;
+use table::ROW_SIZE;
+use table::Script;
 use text_build::Scope;
 use text_build::number;
 use text_build::put_row;
@@ -51,7 +55,7 @@ fn no_key() -> Key
 }
 
 // `go(t,v,` behind its first word.
-fn open_go(s: &[u8], at: usize, w: &mut [u32; 99592], i: usize, sc: Scope) -> Open
+fn open_go(s: &[u8], at: usize, w: &mut Script, i: usize, sc: Scope) -> Open
     requires { ⌜ (i < 4096) × (sc .n ≤ 8) ⌝ }
     ensures { λ r. ⌜ ((t : Timer) (v : Value) (p : Process) (us : List Token) → WellPart (go t v p) → lex (drop at (now (s .entry))) ≡ tailT (go t v p) us → OpenIs (now (s .entry)) (now (w .entry)) (now (w .exit)) i sc r (go t v p) us) ⌝ }
 {
@@ -88,14 +92,14 @@ fn front_at(s: &[u8], at: usize) -> Front
 }
 
 // `out(c,t,v,` behind its first word.
-fn open_out(s: &[u8], at: usize, w: &mut [u32; 99592], i: usize, sc: Scope) -> Open
+fn open_out(s: &[u8], at: usize, w: &mut Script, i: usize, sc: Scope) -> Open
     requires { ⌜ (i < 4096) × (sc .n ≤ 8) ⌝ }
     ensures { λ r. ⌜ ((c : Name) (t : Timer) (v : Value) (p q : Process) (us : List Token) → WellPart (out c t v p q) → lex (drop at (now (s .entry))) ≡ tailT (out c t v p q) us → OpenIs (now (s .entry)) (now (w .entry)) (now (w .exit)) i sc r (out c t v p q) us) ⌝ }
 {
     let f = front_at(s, at);
     let k = f.chan;
     let x = f.key;
-    let c = number(w, 1032, 2, k);
+    let c = number(w, CHANNELS, 2, k);
     let v = value_in(w, sc, x, f.capital);
     let p = less_one(i) as u32;
     put_row(w, i, 2, c as u32, f.t, v, p, sc, no_key());
@@ -117,14 +121,14 @@ fn entered(sc: Scope, i: usize, j: usize) -> Scope
     }
     if n < 8 {
         let mut at = sc.at;
-        at[n] = (1305 + i * 24) as u32;
+        at[n] = (OWNS + i * ROW_SIZE) as u32;
         return Scope { n: n + 1, at: at };
     }
     sc
 }
 
 // A ninth name is noted in the word 4. The slot of the name afterwards.
-fn noted(w: &mut [u32; 99592], sc: Scope, k: Key, j: usize) -> usize
+fn noted(w: &mut Script, sc: Scope, k: Key, j: usize) -> usize
     requires { ⌜ (sc .n ≤ 8) × (j ≡ index (scopeNames (now w) (offsets sc)) (keyName k)) ⌝ }
     ensures { λ r. ⌜ Marked (now (w .entry)) (now (w .exit)) sc k j r ⌝ }
 {
@@ -140,7 +144,7 @@ fn noted(w: &mut [u32; 99592], sc: Scope, k: Key, j: usize) -> usize
 }
 
 // `in(c,t,y,` behind its first word.
-fn open_in(s: &[u8], at: usize, w: &mut [u32; 99592], i: usize, sc: Scope) -> Open
+fn open_in(s: &[u8], at: usize, w: &mut Script, i: usize, sc: Scope) -> Open
     requires { ⌜ (i < 4096) × (sc .n ≤ 8) ⌝ }
     ensures { λ r. ⌜ ((c : Name) (t : Timer) (y : Name) (p q : Process) (us : List Token) → WellPart (inp c t y p q) → lex (drop at (now (s .entry))) ≡ tailT (inp c t y p q) us → OpenIs (now (s .entry)) (now (w .entry)) (now (w .exit)) i sc r (inp c t y p q) us) ⌝ }
 {
@@ -150,7 +154,7 @@ fn open_in(s: &[u8], at: usize, w: &mut [u32; 99592], i: usize, sc: Scope) -> Op
     let j = slot(w, sc, y);
     let inner = entered(sc, i, j);
     let m = noted(w, sc, y, j);
-    let c = number(w, 1032, 2, k);
+    let c = number(w, CHANNELS, 2, k);
     let p = less_one(i) as u32;
     put_row(w, i, 3, c as u32, f.t, m as u32, p, sc, y);
     Open {
@@ -161,7 +165,7 @@ fn open_in(s: &[u8], at: usize, w: &mut [u32; 99592], i: usize, sc: Scope) -> Op
 }
 
 // A call behind its identifier x.
-fn open_call(s: &[u8], at: usize, w: &mut [u32; 99592], i: usize, sc: Scope, x: Key) -> Open
+fn open_call(s: &[u8], at: usize, w: &mut Script, i: usize, sc: Scope, x: Key) -> Open
     requires { ⌜ (i < 4096) × (sc .n ≤ 8) × ListAt (now s) at ⌝ }
     ensures { λ r. ⌜ ((y : ListAt (now (s .entry)) at) (d : Name) → CallIs (now (s .entry)) (now (w .entry)) (now (w .exit)) i sc x r d (y .what) (y .left)) ⌝ }
 {
@@ -181,7 +185,7 @@ fn open_call(s: &[u8], at: usize, w: &mut [u32; 99592], i: usize, sc: Scope, x: 
 fn open_by(
     s: &[u8],
     at: usize,
-    w: &mut [u32; 99592],
+    w: &mut Script,
     i: usize,
     sc: Scope,
     k: text_words::Sort,
@@ -223,7 +227,7 @@ fn open_by(
 }
 
 // A part up to its first process.
-pub(crate) fn open_part(s: &[u8], at: usize, w: &mut [u32; 99592], i: usize, sc: Scope) -> Open
+pub(crate) fn open_part(s: &[u8], at: usize, w: &mut Script, i: usize, sc: Scope) -> Open
     requires { ⌜ (i < 4096) × (sc .n ≤ 8) × PartAt (now s) at ⌝ }
     ensures { λ r. ⌜ ((x : PartAt (now (s .entry)) at) → OpenIs (now (s .entry)) (now (w .entry)) (now (w .exit)) i sc r (x .what) (x .left)) ⌝ }
 {

@@ -4,12 +4,13 @@ ghost use Rattle.text_put.specs.Opened.{PartAt, ProcessAt, PartPut, Proc
 use super::Placed;
 use super::heads::less_one;
 use super::heads::open_part;
+use table::Script;
 use text_build::Scope;
 use text_build::link;
 use text_build::set_second;
 
 // A process at the place i, with the names of sc in scope.
-pub fn put_process(s: &[u8], at: usize, w: &mut [u32; 99592], i: usize, sc: Scope) -> Placed
+pub fn put_process(s: &[u8], at: usize, w: &mut Script, i: usize, sc: Scope) -> Placed
     requires { ⌜ (i < 4096) × (sc .n ≤ 8) × ProcessAt (now s) at ⌝ }
     ensures { λ r. ⌜ ((x : ProcessAt (now (s .entry)) at) → ProcessPut (now (s .entry)) (now (w .entry)) (now (w .exit)) i sc r (x .what) (x .left)) ⌝ }
 {
@@ -26,7 +27,7 @@ pub fn put_process(s: &[u8], at: usize, w: &mut [u32; 99592], i: usize, sc: Scop
 }
 
 // A part at the place i.
-pub fn put_part(s: &[u8], at: usize, w: &mut [u32; 99592], i: usize, sc: Scope) -> Placed
+pub fn put_part(s: &[u8], at: usize, w: &mut Script, i: usize, sc: Scope) -> Placed
     requires { ⌜ (i < 4096) × (sc .n ≤ 8) × PartAt (now s) at ⌝ }
     ensures { λ r. ⌜ ((x : PartAt (now (s .entry)) at) → PartPut (now (s .entry)) (now (w .entry)) (now (w .exit)) i sc r (x .what) (x .left)) ⌝ }
 {

@@ -9,10 +9,12 @@ ghost use Rattle.text_put.specs.Found.{ValueBy, withWord, ValuesAt, valu
 use super::Args;
 use super::words::name_at;
 use table::Key;
+use table::LOCATIONS;
+use table::Script;
 use text_build::Scope;
 
 // The slot of the name k: its first index in the scope; the scope's size if it is not there.
-pub fn slot(w: &[u32; 99592], sc: Scope, k: Key) -> usize
+pub fn slot(w: &Script, sc: Scope, k: Key) -> usize
     requires { ⌜ sc .n ≤ 8 ⌝ }
     ensures { λ r. ⌜ r ≡ index (scopeNames (now (w .entry)) (offsets sc)) (keyName k) ⌝ }
 {
@@ -30,12 +32,12 @@ pub fn slot(w: &[u32; 99592], sc: Scope, k: Key) -> usize
 }
 
 // The number of the value with the name k, which is a location if it begins with a capital.
-pub(crate) fn value_in(w: &mut [u32; 99592], sc: Scope, k: Key, capital: bool) -> u32
+pub(crate) fn value_in(w: &mut Script, sc: Scope, k: Key, capital: bool) -> u32
     requires { ⌜ sc .n ≤ 8 ⌝ }
     ensures { λ r. ⌜ ValueBy (now (w .entry)) (now (w .exit)) sc k capital r ⌝ }
 {
     if capital {
-        let l = text_build::number(w, 776, 1, k);
+        let l = text_build::number(w, LOCATIONS, 1, k);
         return l as u32;
     }
     let j = slot(w, sc, k);
@@ -86,7 +88,7 @@ fn with_word(k: Key, n: u32, v: u32) -> Key
 }
 
 // Values joined by commas, and `)`.
-fn args_from(s: &[u8], at: usize, w: &mut [u32; 99592], sc: Scope) -> Args
+fn args_from(s: &[u8], at: usize, w: &mut Script, sc: Scope) -> Args
     requires { ⌜ (sc .n ≤ 8) × ValuesAt (now s) at ⌝ }
     ensures { λ r. ⌜ ((x : ValuesAt (now (s .entry)) at) → ArgsAre (now (s .entry)) (now (w .entry)) (now (w .exit)) sc r (valuesOf x) (x .left)) ⌝ }
 {
@@ -118,7 +120,7 @@ fn args_from(s: &[u8], at: usize, w: &mut [u32; 99592], sc: Scope) -> Args
 }
 
 // Nothing, or values in brackets.
-pub(crate) fn args(s: &[u8], at: usize, w: &mut [u32; 99592], sc: Scope) -> Args
+pub(crate) fn args(s: &[u8], at: usize, w: &mut Script, sc: Scope) -> Args
     requires { ⌜ (sc .n ≤ 8) × ListAt (now s) at ⌝ }
     ensures { λ r. ⌜ ((x : ListAt (now (s .entry)) at) → ArgsAre (now (s .entry)) (now (w .entry)) (now (w .exit)) sc r (x .what) (x .left)) ⌝ }
 {

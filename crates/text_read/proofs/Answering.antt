@@ -27,7 +27,7 @@ use Rattle.text_scan.specs.declared.Scanned.{Scanned}
 use Rattle.text_scan.specs.Answers.{unreadScan, scanned, scanOf}
 use Rattle.text_scan.proofs.Limits.{capped-within}
 use Rattle.table.specs.declared.State.{State}
-use Rattle.table.specs.Words.{word}
+use Rattle.table.specs.Words.{compSize, rowSize, partsAt, scriptWords, word}
 use Rattle.table.specs.Size.{sizeP}
 use Rattle.table.specs.Meaning.{compsOf}
 use Rattle.text_build.specs.Rows.{placeKnown}
@@ -50,7 +50,7 @@ use Rattle.text_read.specs.declared.Reading.{Reading}
 use Rattle.text_read.specs.Ready.{Ready, BodiesPut, bodiesBy, Filled, defined as definedBy}
 use Rattle.text_read.specs.Located.{NetworkAt, NetworkPut}
 use Rattle.text_read.specs.Spread.{Spread}
-use Rattle.text_read.specs.Answer.{StateIs, limits, asked, refusal, locationsIn, channelsIn, Took, readsAs, Answered, Entered}
+use Rattle.text_read.specs.Answer.{StateIs, limits, asked, refusal, locationsIn, channelsIn, Took, readsAs, Answered, Entered, partsOf}
 use Rattle.text_read.proofs.Spreading.{spread-all}
 use Rattle.text_read.proofs.Quiet.{Quiet, quiet-then, bodies-quiet, brackets-quiet, bodies-same}
 use Rattle.text_read.specs.Front.{Front}
@@ -231,9 +231,9 @@ module _ {s : List ℕ} (x : Passing s) (base : List ℕ) (blank : Blank base (p
 
   -- what an accepted text leaves: the words of the script w behind the last row, and zeros past the components
   pub record Around (w : List ℕ) (st : State) : Type 0 where
-    pub size : length S ≡ 99_592
-    pub behind : (o : ℕ) → 1_288 + partCount T * 24 ≤ o → word S o ≡ word w o
-    pub past : (k : ℕ) → st .n * 12 ≤ k → word (st .c) k ≡ 0
+    pub size : length S ≡ scriptWords
+    pub behind : (o : ℕ) → partsAt + partCount T * rowSize ≤ o → word S o ≡ word w o
+    pub past : (k : ℕ) → st .n * compSize ≤ k → word (st .c) k ≡ 0
 
   read-is : read s ≡ (ask 4 (fits T) >> (ask 5 (definedOnce (T .defs)) >> (ask 6 (callsMet T) >> (ask 7 (bound T) >> accepted (networkOf T)))))
   unfolding read
@@ -284,6 +284,7 @@ module _ {s : List ℕ} (x : Passing s) (base : List ℕ) (blank : Blank base (p
             good = valid-is base T blank (x .ready .within) (x .ready .well) flag distinct-yes known-yes (q .state) n c;
             locs = W .locs ∙ sym (ap locationsIn (x .form-is));
             chans = W .chans ∙ sym (ap channelsIn (x .form-is));
+            parts = parts-kept base T blank ∙ sym (ap partsOf (x .form-is));
             size = a .size;
             behind = λ o h. a .behind o (omega (arith, parts-kept base T blank));
             past = a .past;
@@ -356,11 +357,11 @@ module _ (s : List ℕ) (c : Scanned) (e : c ≡ scanOf s) (q : ℕ) (l : q ≡ 
         rw (h (pass .ready) .script) (filled-beyond t w₀ (c .parts) (c .definitions) (few-params (t .defs) (pass .ready .within .parameters)) (pass .ready .within .definitions))
 
     -- into a script w whose first m words are set to zero, as many as the rows need and no more
-    module _ {w w₀ : List ℕ} (size : length w ≡ 99_592) (m : ℕ) (enough : 1_288 + c .parts * 24 ≤ m) (zeros : Front m (λ o. 0) w w₀) {v : List ℕ} {out after : List (List ℕ)} {n : ℕ} (h : (x : Ready s) → Filled w₀ v (c .parts) (c .definitions) out after n (x .tree)) where
+    module _ {w w₀ : List ℕ} (size : length w ≡ scriptWords) (m : ℕ) (enough : partsAt + c .parts * rowSize ≤ m) (zeros : Front m (λ o. 0) w w₀) {v : List ℕ} {out after : List (List ℕ)} {n : ℕ} (h : (x : Ready s) → Filled w₀ v (c .parts) (c .definitions) out after n (x .tree)) where
       blank : Blank w₀ (partCount (pass .ready .tree))
       blank = rw parts-now at (front-blank m (c .parts) w w₀ size enough zeros)
 
-      rest-now : m ≤ 1_288 + c .parts * 24 → (o : ℕ) → 1_288 + c .parts * 24 ≤ o → word v o ≡ word w o
+      rest-now : m ≤ partsAt + c .parts * rowSize → (o : ℕ) → partsAt + c .parts * rowSize ≤ o → word v o ≡ word w o
       rest-now l o b = beyond-now h .same o (omega (arith, parts-now, some-parts (pass .ready .tree) (pass .ready .well))) ∙ zeros .rest o (omega arith)
 
       long-now : length v ≡ length w
@@ -381,7 +382,7 @@ module _ (s : List ℕ) (c : Scanned) (e : c ≡ scanOf s) (q : ℕ) (l : q ≡ 
         asked-is : a ≡ asked (scriptOf w₀ (pass .ready .tree))
         asked-is = f ∙ ap asked now-script
 
-        module _ (wide : length out ≡ 256) (fewest : m ≤ 1_288 + c .parts * 24) where
+        module _ (wide : length out ≡ 256) (fewest : m ≤ partsAt + c .parts * rowSize) where
           -- the script's refusal, or the network
           pub entered : Entered s (c .parts) w v after (record { code = a; n = n })
           entered = record {

@@ -18,7 +18,7 @@ use Rattle.terms.specs.Terms.Def.{define}
 use Rattle.text.specs.Tree.{Located, Tree}
 use Rattle.text.specs.Tree.Located.{at}
 use Rattle.table.specs.declared.Key.{Key}
-use Rattle.table.specs.Words.{word, nameAt}
+use Rattle.table.specs.Words.{rowSize, chansAt, locsAt, partsAt, word, nameAt}
 use Rattle.table.specs.Valid.{index}
 use Rattle.table.specs.Tests.{keyName}
 use Rattle.table.specs.Size.{size, sizeP}
@@ -38,7 +38,7 @@ use Rattle.text_read.specs.Ready.{bodiesBy, defined}
 
 -- the words behind the row i are the same, and they are as many
 pub record Beyond (i : ℕ) (w v : List ℕ) : Type 0 where
-  pub same : (o : ℕ) → 1_312 + i * 24 ≤ o → word v o ≡ word w o
+  pub same : (o : ℕ) → 1_312 + i * rowSize ≤ o → word v o ≡ word w o
   pub size : length v ≡ length w
 
 beyond-none : {i : ℕ} {w : List ℕ} → Beyond i w w
@@ -51,14 +51,14 @@ beyond-then f g = record { same = λ o h. g .same o h ∙ f .same o h; size = g 
 lower : {i j : ℕ} {w v : List ℕ} → j ≤ i → Beyond j w v → Beyond i w v
 lower l f = record { same = λ o h. f .same o (omega arith); size = f .size }
 
-one-beyond : {i : ℕ} (w : List ℕ) (o a : ℕ) → o < 1_288 → Beyond i w (set w o a)
+one-beyond : {i : ℕ} (w : List ℕ) (o a : ℕ) → o < partsAt → Beyond i w (set w o a)
 one-beyond w o a b = record { same = λ x h. set-out w o x a (λ e. omega arith); size = length-set w o a }
 
-run-beyond : {i : ℕ} (w : List ℕ) (o : ℕ) (vs : List ℕ) → o + length vs ≤ 1_312 + i * 24 → Beyond i w (sets w o vs)
+run-beyond : {i : ℕ} (w : List ℕ) (o : ℕ) (vs : List ℕ) → o + length vs ≤ 1_312 + i * rowSize → Beyond i w (sets w o vs)
 run-beyond w o vs b = record { same = λ x h. sets-past vs w o x (omega arith); size = length-sets w o vs }
 
 -- ── names ──
-enlist-beyond : {i : ℕ} (w : List ℕ) (o n : ℕ) (k : Key) → o ≤ 1_032 → n ≤ 2 → Beyond i w (enlist w o n k)
+enlist-beyond : {i : ℕ} (w : List ℕ) (o n : ℕ) (k : Key) → o ≤ chansAt → n ≤ 2 → Beyond i w (enlist w o n k)
 unfolding enlist addKey
 enlist-beyond {i} w o n k low m = go₁ (ltb (numberIn w o (heldIn w n) (keyName k)) (heldIn w n)) (ltb (heldIn w n) 64) refl
   where
@@ -71,7 +71,7 @@ enlist-beyond {i} w o n k low m = go₁ (ltb (numberIn w o (heldIn w n) (keyName
 
 value-beyond : {i : ℕ} (w : List ℕ) (v : Value) → Beyond i w (enterValue w v)
 unfolding enterValue enterLoc
-value-beyond w (loc l) = enlist-beyond w 776 1 (keyOf l) (omega arith) (omega arith)
+value-beyond w (loc l) = enlist-beyond w locsAt 1 (keyOf l) (omega arith) (omega arith)
 value-beyond w (var x) = beyond-none
 
 values-beyond : {i : ℕ} (vs : List Value) (w : List ℕ) → Beyond i w (enterValues w vs)
@@ -81,7 +81,7 @@ values-beyond (v ∷ vs) w = beyond-then (value-beyond w v) (values-beyond vs (e
 
 chan-beyond : {i : ℕ} (w : List ℕ) (c : Name) → Beyond i w (enterChan w c)
 unfolding enterChan
-chan-beyond w c = enlist-beyond w 1_032 2 (keyOf c) (omega arith) (omega arith)
+chan-beyond w c = enlist-beyond w chansAt 2 (keyOf c) (omega arith) (omega arith)
 
 enter-beyond : {i : ℕ} (w : List ℕ) (a : Part) → Beyond i w (enterPart w a)
 unfolding enterPart
@@ -94,15 +94,15 @@ enter-beyond w (call d vs) = values-beyond vs w
 -- ── rows ──
 opened-beyond : (w : List ℕ) (i : ℕ) (sc : Scope) (a : Part) → Eight sc → Beyond i w (opened w i sc a)
 unfolding opened
-opened-beyond w i sc a e = let n = row-length w i sc a e in beyond-then (enter-beyond w a) (run-beyond (enterPart w a) (1_288 + i * 24 + 0) (rowOf w i sc a) (omega arith))
+opened-beyond w i sc a e = let n = row-length w i sc a e in beyond-then (enter-beyond w a) (run-beyond (enterPart w a) (partsAt + i * rowSize + 0) (rowOf w i sc a) (omega arith))
 
 second-beyond : (w : List ℕ) (i q : ℕ) → Beyond i w (setSecond w i q)
 unfolding setSecond
-second-beyond w i q = run-beyond w (1_288 + i * 24 + 5) (q ∷ []) (omega arith)
+second-beyond w i q = run-beyond w (partsAt + i * rowSize + 5) (q ∷ []) (omega arith)
 
 linked-beyond : (w : List ℕ) (i n l : ℕ) → Beyond i w (linked w i n l)
 unfolding linked
-linked-beyond w i n l = run-beyond w (1_288 + i * 24 + 6) (n ∷ l ∷ []) (omega arith)
+linked-beyond w i n l = run-beyond w (partsAt + i * rowSize + 6) (n ∷ l ∷ []) (omega arith)
 
 mark-beyond : {i : ℕ} (w : List ℕ) (sc : Scope) (y : Name) → Beyond i w (scopeMark w sc y)
 unfolding scopeMark
@@ -145,12 +145,12 @@ params-eight : (w : List ℕ) (k j m : ℕ) (sc : Scope) → length (sc .at) ≡
 unfolding paramsFrom enterAt
 params-eight w k j zero sc e h = record { few = omega arith; slots = e }
 params-eight w k j (suc m) sc e h =
-    let g = go₁ (ltb (index (scopeNames w (offsets sc)) (nameAt w (14 + k * 24 + j * 4))) (sc .n)) in
+    let g = go₁ (ltb (index (scopeNames w (offsets sc)) (nameAt w (14 + k * rowSize + j * 4))) (sc .n)) in
     params-eight w k (j + 1) m _ (g .0) (g .1)
   where
-    go₁ : (p : Bool) → (length (cond p sc (record { n = sc .n + 1; at = set (sc .at) (sc .n) (14 + k * 24 + j * 4) }) .at) ≡ 8) × (cond p sc (record { n = sc .n + 1; at = set (sc .at) (sc .n) (14 + k * 24 + j * 4) }) .n + m ≤ 8)
+    go₁ : (p : Bool) → (length (cond p sc (record { n = sc .n + 1; at = set (sc .at) (sc .n) (14 + k * rowSize + j * 4) }) .at) ≡ 8) × (cond p sc (record { n = sc .n + 1; at = set (sc .at) (sc .n) (14 + k * rowSize + j * 4) }) .n + m ≤ 8)
     go₁ true = (e, omega arith)
-    go₁ false = (length-set (sc .at) (sc .n) (14 + k * 24 + j * 4) ∙ e, omega arith)
+    go₁ false = (length-set (sc .at) (sc .n) (14 + k * rowSize + j * 4) ∙ e, omega arith)
 
 bodies-beyond : (ds : List Def) (k i : ℕ) (w : List ℕ) → FewParams ds → Beyond i w (bodiesBy ds k i w)
 unfolding bodiesBy
@@ -161,7 +161,7 @@ brackets-beyond : (ls : List Located) (i : ℕ) (w : List ℕ) → Beyond i w (b
 unfolding brackets putLocated enterLoc
 brackets-beyond [] i w = beyond-none
 brackets-beyond (at l p ∷ ls) i w =
-    beyond-then (enlist-beyond w 776 1 (keyOf l) (omega arith) (omega arith))
+    beyond-then (enlist-beyond w locsAt 1 (keyOf l) (omega arith) (omega arith))
     (beyond-then (put-beyond p i noScope _ none-eight) (lower (omega arith) (brackets-beyond ls (i - sizeP p) _)))
 
 after-low : (ds : List Def) (i : ℕ) → afterBodies ds i ≤ i

@@ -40,6 +40,7 @@ use Rattle.text_read.specs.declared.Spotted.{Spotted}
 use Rattle.text_read.specs.Spread.{Spread}
 use Rattle.text_read.specs.Located.{LocatedAt, NetworkAt, OuterPut, LocatedPut, NetworkPut}
 use Rattle.text_read.proofs.Spreading.{spread-then, spread-none}
+use Rattle.table.specs.Words.{locsAt}
 
 -- ── a located process's parts ──
 module _ {s : List ℕ} {o : ℕ} (x : ProcessAt s o) {w u : List ℕ} {i l : ℕ} {r : Placed} (h : (y : PartAt s o) → PartPut s w u i noScope r (y .what) (y .left)) (b : ℕ) (c : ended s b ≡ the bar (lex (drop (r .end) s)))
@@ -71,9 +72,9 @@ module _ {s : List ℕ} {o : ℕ} (x : ProcessAt s o) {w u : List ℕ} {i l : �
           spread-then few g (rw d at (y′ .gathered))
 
 -- ── a located process ──
-pub loc-few : {w v : List ℕ} {k : Key} {r : ℕ} → Enlisted w v 776 1 k r → r ≤ 64
+pub loc-few : {w v : List ℕ} {k : Key} {r : ℕ} → Enlisted w v locsAt 1 k r → r ≤ 64
 unfolding heldIn
-loc-few {w} {k = k} e = omega (arith, e .place, number-within w 776 (heldIn w 1) (keyName k))
+loc-few {w} {k = k} e = omega (arith, e .place, number-within w locsAt (heldIn w 1) (keyName k))
 
 module _ {s : List ℕ} {o : ℕ} (x : LocatedAt s o) where
   abbrev pub afterName : List Token
@@ -86,7 +87,7 @@ module _ {s : List ℕ} {o : ℕ} (x : LocatedAt s o) where
     pub body-at : ProcessAt s b
     body-at = record { what = x .body; left = sign right ∷ x .left; is = peel-sign s b left (a .left) c; well = x .well .1; over = refl; last = refl }
 
-    module _ {w u v : List ℕ} {l i : ℕ} (d : Enlisted w u 776 1 (r .key) l) {out after : List (List ℕ)} {n : ℕ} (p : Spotted) (h : (y : ProcessAt s b) → OuterPut s u v i l out after n p (y .what) (y .left)) where
+    module _ {w u v : List ℕ} {l i : ℕ} (d : Enlisted w u locsAt 1 (r .key) l) {out after : List (List ℕ)} {n : ℕ} (p : Spotted) (h : (y : ProcessAt s b) → OuterPut s u v i l out after n p (y .what) (y .left)) where
       pub body-low : p .low ≤ suc i
       body-low = let y = h body-at .placed .low in omega arith
 
@@ -95,10 +96,10 @@ module _ {s : List ℕ} {o : ℕ} (x : LocatedAt s o) where
       located-put e f q g =
           let y = h body-at in
           let t = sizeP-some (x .body) in
-          let k : l ≡ numberIn w 776 (heldIn w 1) (keyName (keyOf (x .name))) = d .place ∙ ap (λ z. numberIn w 776 (heldIn w 1) (keyName z)) (a .key) in
+          let k : l ≡ numberIn w locsAt (heldIn w 1) (keyName (keyOf (x .name))) = d .place ∙ ap (λ z. numberIn w locsAt (heldIn w 1) (keyName z)) (a .key) in
           record {
             left-is = peel-sign s e right (y .placed .left) f;
-            script = y .placed .after ∙ ap (put (x .body) i noScope) (d .after ∙ ap (enlist w 776 1) (a .key));
+            script = y .placed .after ∙ ap (put (x .body) i noScope) (d .after ∙ ap (enlist w locsAt 1) (a .key));
             place = g ∙ ap (λ z. z - 1) (y .placed .low) ∙ omega arith;
             gathered = rw k at (y .gathered);
           }

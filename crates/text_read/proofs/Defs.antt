@@ -37,7 +37,7 @@ use Rattle.text_parts.specs.declared.Size.{Size}
 use Rattle.text.proofs.Exact.{clash}
 use Rattle.text_parts.proofs.Rests.{ended-is}
 use Rattle.table.specs.declared.Key.{Key}
-use Rattle.table.specs.Words.{nameAt}
+use Rattle.table.specs.Words.{rowSize, nameAt}
 use Rattle.table.specs.Tests.{keyName}
 use Rattle.table.specs.Valid.{index}
 use Rattle.table.specs.Size.{size, sizeP}
@@ -129,9 +129,9 @@ module _ {s : List ℕ} {at here j : ℕ} {w v : List ℕ} {k : ℕ} {x : NamesA
   going-few = let h = g .rest .few in omega arith
 
   -- the first was read and written
-  module _ (r : Named) (a : NameIs s r (g .rest .first) (behind (g .rest .more) (g .rest .left))) {v′ : List ℕ} (b : v′ ≡ sets v (14 + k * 24 + j * 4) (keyWords (r .key))) (e : ℕ) (c : ended s e ≡ the comma (lex (drop (r .end) s))) where
-    written : v′ ≡ sets v (14 + k * 24 + j * 4) (keyWords (keyOf (g .rest .first)))
-    written = b ∙ ap (λ x. sets v (14 + k * 24 + j * 4) (keyWords x)) (a .key)
+  module _ (r : Named) (a : NameIs s r (g .rest .first) (behind (g .rest .more) (g .rest .left))) {v′ : List ℕ} (b : v′ ≡ sets v (14 + k * rowSize + j * 4) (keyWords (r .key))) (e : ℕ) (c : ended s e ≡ the comma (lex (drop (r .end) s))) where
+    written : v′ ≡ sets v (14 + k * rowSize + j * 4) (keyWords (keyOf (g .rest .first)))
+    written = b ∙ ap (λ x. sets v (14 + k * rowSize + j * 4) (keyWords x)) (a .key)
 
     pub going-end : e ≡ 0 → v′ ≡ putParams w k 0 (x .first ∷ x .more)
     unfolding behind putParams
@@ -211,7 +211,7 @@ enter-few w sc o m h = go₁ (ltb (index (scopeNames w (offsets sc)) (nameAt w o
     go₁ true = omega arith
     go₁ false = omega arith
 
-pub scope-on : (w : List ℕ) (k n j : ℕ) (sc : Scope) → j < n → paramsFrom w k (j + 1) (n - (j + 1)) (enterAt w sc (14 + k * 24 + j * 4)) ≡ paramsFrom w k j (n - j) sc
+pub scope-on : (w : List ℕ) (k n j : ℕ) (sc : Scope) → j < n → paramsFrom w k (j + 1) (n - (j + 1)) (enterAt w sc (14 + k * rowSize + j * 4)) ≡ paramsFrom w k j (n - j) sc
 unfolding paramsFrom
 scope-on w k n j sc h = let e : n - j ≡ suc (n - (j + 1)) = omega arith in rw e
 
@@ -226,7 +226,7 @@ params-grow : (w : List ℕ) (k n m : ℕ) (sc : Scope) → paramsFrom w k m n s
 unfolding paramsFrom
 params-grow w k zero m sc = omega arith
 params-grow w k (suc n) m sc =
-    let o = 14 + k * 24 + m * 4 in
+    let o = 14 + k * rowSize + m * 4 in
     let h = params-grow w k n (m + 1) (enterAt w sc o) in
     let g = enter-few w sc o (sc .n) (omega arith) in
     omega arith
@@ -261,7 +261,7 @@ module _ {s : List ℕ} {at : ℕ} (x : DefAt s at) where
         body-at = record { what = x .body; left = sign dot ∷ x .left; is = peel-sign s e equals body-left c; well = x .well .2; over = refl; last = refl }
 
         -- the body is skipped
-        pub head-put : {w u v : List ℕ} (k i : ℕ) → u ≡ sets w (8 + k * 24) (n .count ∷ i ∷ keyWords (r .key)) → v ≡ putParams u k 0 (x .params) → (p : Size) → sized s p ≡ mapped capped (processCounts (lex (drop e s)))
+        pub head-put : {w u v : List ℕ} (k i : ℕ) → u ≡ sets w (8 + k * rowSize) (n .count ∷ i ∷ keyWords (r .key)) → v ≡ putParams u k 0 (x .params) → (p : Size) → sized s p ≡ mapped capped (processCounts (lex (drop e s)))
             → (d : ℕ) → ended s d ≡ the dot (lex (drop (p .end) s)) → (q : ℕ) → i < 4_096 → q ≡ i - p .parts → HeadPut s w v k i (record { end = d; place = q }) (x .name) (x .params) (x .body) (x .left)
         unfolding putHead body-at
         head-put {w} {u} {v} k i f g p h d j q small l =
@@ -269,7 +269,7 @@ module _ {s : List ℕ} {at : ℕ} (x : DefAt s at) where
             let m = skip-parts s e p (x .body) (sign dot ∷ x .left) (x .well .2) refl refl (y .is) h in
             record {
               left-is = peel-sign s d dot (skip-left s e p (x .body) (sign dot ∷ x .left) (x .well .2) refl refl (y .is) h) j;
-              after = g ∙ ap (λ z. putParams z k 0 (x .params)) (f ∙ ap (λ z. sets w (8 + k * 24) (z ∷ i ∷ keyWords (r .key))) param-count ∙ ap (λ z. sets w (8 + k * 24) (length (x .params) ∷ i ∷ keyWords z)) (a .key));
+              after = g ∙ ap (λ z. putParams z k 0 (x .params)) (f ∙ ap (λ z. sets w (8 + k * rowSize) (z ∷ i ∷ keyWords (r .key))) param-count ∙ ap (λ z. sets w (8 + k * rowSize) (length (x .params) ∷ i ∷ keyWords z)) (a .key));
               place = l ∙ omega arith;
             }
 

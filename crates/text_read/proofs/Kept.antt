@@ -8,7 +8,7 @@ use lib.Dec.{eqb, ltb}
 use lib.ListN.{length, getD, set, replicate, length-set, length-replicate, getD-replicate}
 use lib.Seq.{getD-set-same, ext-getD}
 use borrow.Author.Tests.{eqb-true, eqb-false, ltb-true, ltb-false}
-use Rattle.table.specs.Words.{word}
+use Rattle.table.specs.Words.{rowSize, partsAt, scriptWords, word}
 use Rattle.table.proofs.Stores.{set-out}
 use Rattle.text_tree.specs.Pass.{Blank}
 use Rattle.text_read.specs.Front.{Front}
@@ -30,11 +30,11 @@ pub front-all : (i m : ℕ) (f : ℕ → ℕ) (w v : List ℕ) → i ≡ m → F
 front-all i m f w v e p = record { front = λ o h. p .front o (omega arith); rest = λ o h. p .rest o (omega arith); size = p .size }
 
 -- ── zeros ──
-pub front-blank : (m n : ℕ) (w v : List ℕ) → length w ≡ 99_592 → 1_288 + n * 24 ≤ m → Front m (λ o. 0) w v → Blank v n
+pub front-blank : (m n : ℕ) (w v : List ℕ) → length w ≡ scriptWords → partsAt + n * rowSize ≤ m → Front m (λ o. 0) w v → Blank v n
 front-blank m n w v e b p = record { long = p .size ∙ e; none = λ o h. p .front o (omega arith) }
 
-pub front-zeros : (w v : List ℕ) → length w ≡ 99_592 → Front 99_592 (λ o. 0) w v → v ≡ replicate 99_592 0
-front-zeros w v e p = ext-getD 0 v (replicate 99_592 0) (p .size ∙ e ∙ sym (length-replicate {A = ℕ} 99_592 0)) (λ o h. let b : o < 99_592 = omega (arith, p .size) in p .front o b ∙ sym (getD-replicate 99_592 o 0 0 b))
+pub front-zeros : (w v : List ℕ) → length w ≡ scriptWords → Front scriptWords (λ o. 0) w v → v ≡ replicate scriptWords 0
+front-zeros w v e p = ext-getD 0 v (replicate scriptWords 0) (p .size ∙ e ∙ sym (length-replicate {A = ℕ} scriptWords 0)) (λ o h. let b : o < scriptWords = omega (arith, p .size) in p .front o b ∙ sym (getD-replicate scriptWords o 0 0 b))
 
 -- ── put back ──
 pub back-again : (m : ℕ) (w v k₀ k x : List ℕ) → Front m (word w) k₀ k → ((o : ℕ) → m ≤ o → word v o ≡ word w o) → length v ≡ length w → Front m (word k) v x → x ≡ w

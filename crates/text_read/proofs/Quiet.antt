@@ -17,7 +17,7 @@ use Rattle.terms.specs.Terms.Def.{define}
 use Rattle.text.specs.Tree.{Located}
 use Rattle.text.specs.Tree.Located.{at}
 use Rattle.table.specs.declared.Key.{Key}
-use Rattle.table.specs.Words.{word, arityOf}
+use Rattle.table.specs.Words.{rowSize, chansAt, locsAt, partsAt, word, arityOf}
 use Rattle.table.specs.Tests.{keyName}
 use Rattle.table.specs.Size.{size, sizeP}
 use Rattle.text_build.specs.declared.Scope.{Scope}
@@ -32,7 +32,7 @@ use Rattle.text_read.specs.Ready.{bodiesBy}
 
 -- the words below 776, but for 1, 2 and 4, are the same
 pub record Quiet (w v : List ℕ) : Type 0 where
-  pub same : (o : ℕ) → o < 776 → (o ≡ 1 → ⊥) → (o ≡ 2 → ⊥) → (o ≡ 4 → ⊥) → word v o ≡ word w o
+  pub same : (o : ℕ) → o < locsAt → (o ≡ 1 → ⊥) → (o ≡ 2 → ⊥) → (o ≡ 4 → ⊥) → word v o ≡ word w o
 
 quiet-none : {w : List ℕ} → Quiet w w
 quiet-none = record { same = λ o h a b c. refl }
@@ -41,18 +41,18 @@ pub quiet-then : {w v u : List ℕ} → Quiet w v → Quiet v u → Quiet w u
 quiet-then f g = record { same = λ o h a b c. g .same o h a b c ∙ f .same o h a b c }
 
 -- ── names ──
-enlist-quiet : (w : List ℕ) (o n : ℕ) (k : Key) → 776 ≤ o → 1 ≤ n → n ≤ 2 → Quiet w (enlist w o n k)
+enlist-quiet : (w : List ℕ) (o n : ℕ) (k : Key) → locsAt ≤ o → 1 ≤ n → n ≤ 2 → Quiet w (enlist w o n k)
 unfolding enlist addKey
 enlist-quiet w o n k low l m = record { same = λ x h a b c. go₁ x h a b c (ltb (numberIn w o (heldIn w n) (keyName k)) (heldIn w n)) (ltb (heldIn w n) 64) }
   where
-    go₁ : (x : ℕ) → x < 776 → (x ≡ 1 → ⊥) → (x ≡ 2 → ⊥) → (x ≡ 4 → ⊥) → (p q : Bool) → word (cond p w (cond q (set (sets w (o + heldIn w n * 4) (keyWords k)) n (heldIn w n + 1)) (set w 4 1))) x ≡ word w x
+    go₁ : (x : ℕ) → x < locsAt → (x ≡ 1 → ⊥) → (x ≡ 2 → ⊥) → (x ≡ 4 → ⊥) → (p q : Bool) → word (cond p w (cond q (set (sets w (o + heldIn w n * 4) (keyWords k)) n (heldIn w n + 1)) (set w 4 1))) x ≡ word w x
     go₁ x h a b c true q = refl
     go₁ x h a b c false true = set-out (sets w (o + heldIn w n * 4) (keyWords k)) n x (heldIn w n + 1) (λ e. omega arith) ∙ sets-under (keyWords k) w (o + heldIn w n * 4) x (omega arith)
     go₁ x h a b c false false = set-out w 4 x 1 c
 
 value-quiet : (w : List ℕ) (v : Value) → Quiet w (enterValue w v)
 unfolding enterValue enterLoc
-value-quiet w (loc l) = enlist-quiet w 776 1 (keyOf l) (omega arith) (omega arith) (omega arith)
+value-quiet w (loc l) = enlist-quiet w locsAt 1 (keyOf l) (omega arith) (omega arith) (omega arith)
 value-quiet w (var x) = quiet-none
 
 values-quiet : (vs : List Value) (w : List ℕ) → Quiet w (enterValues w vs)
@@ -62,7 +62,7 @@ values-quiet (v ∷ vs) w = quiet-then (value-quiet w v) (values-quiet vs (enter
 
 chan-quiet : (w : List ℕ) (c : Name) → Quiet w (enterChan w c)
 unfolding enterChan
-chan-quiet w c = enlist-quiet w 1_032 2 (keyOf c) (omega arith) (omega arith) (omega arith)
+chan-quiet w c = enlist-quiet w chansAt 2 (keyOf c) (omega arith) (omega arith) (omega arith)
 
 enter-quiet : (w : List ℕ) (a : Part) → Quiet w (enterPart w a)
 unfolding enterPart
@@ -73,8 +73,8 @@ enter-quiet w (inp c t y p q) = chan-quiet w c
 enter-quiet w (call d vs) = values-quiet vs w
 
 -- ── rows ──
-row-quiet : (w : List ℕ) (i k : ℕ) (vs : List ℕ) → Quiet w (sets w (1_288 + i * 24 + k) vs)
-row-quiet w i k vs = record { same = λ o h a b c. sets-under vs w (1_288 + i * 24 + k) o (omega arith) }
+row-quiet : (w : List ℕ) (i k : ℕ) (vs : List ℕ) → Quiet w (sets w (partsAt + i * rowSize + k) vs)
+row-quiet w i k vs = record { same = λ o h a b c. sets-under vs w (partsAt + i * rowSize + k) o (omega arith) }
 
 opened-quiet : (w : List ℕ) (i : ℕ) (sc : Scope) (a : Part) → Quiet w (opened w i sc a)
 unfolding opened
@@ -134,7 +134,7 @@ pub brackets-quiet : (ls : List Located) (i : ℕ) (w : List ℕ) → Quiet w (b
 unfolding brackets putLocated enterLoc
 brackets-quiet [] i w = quiet-none
 brackets-quiet (at l p ∷ ls) i w =
-    quiet-then (enlist-quiet w 776 1 (keyOf l) (omega arith) (omega arith) (omega arith))
+    quiet-then (enlist-quiet w locsAt 1 (keyOf l) (omega arith) (omega arith) (omega arith))
     (quiet-then (put-quiet p i noScope _) (brackets-quiet ls (i - sizeP p) _))
 
 -- so a body's scope may be taken from its definition's number of parameters

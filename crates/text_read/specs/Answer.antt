@@ -11,10 +11,10 @@ use Rattle.terms.specs.Terms.{Network}
 use Rattle.terms.specs.Rules.{Answer}
 use Rattle.terms.specs.Rules.Answer.{refused, accepted}
 use Rattle.text.specs.Tree.{Tree}
-use Rattle.text.specs.Questions.{form, channels, locations, read}
+use Rattle.text.specs.Questions.{form, channels, locations, read, partCount}
 use Rattle.text_scan.specs.declared.Scanned.{Scanned}
 use Rattle.table.specs.declared.State.{State}
-use Rattle.table.specs.Words.{word, partsIn}
+use Rattle.table.specs.Words.{compSize, rowSize, partsAt, scriptWords, stateWords, word, partsIn}
 use Rattle.table.specs.Meaning.{compsOf, networkOf}
 use Rattle.table.specs.Valid.{valid}
 use Rattle.text_build.specs.Rows.{locsOf, chansOf}
@@ -27,7 +27,7 @@ use Rattle.text_read.specs.declared.Reading.{Reading}
 pub record StateIs (w : List ℕ) (xs : List (List ℕ)) (st : State) : Type 0 where
   pub count : st .n ≡ length xs
   pub comps : compsOf st ≡ map (compOf w) xs
-  pub past : (k : ℕ) → st .n * 12 ≤ k → word (st .c) k ≡ 0
+  pub past : (k : ℕ) → st .n * compSize ≤ k → word (st .c) k ≡ 0
 
 -- ── questions: 0, or the number of the first that is answered by no ──
 -- 1 to 3, and 4 as far as the scan knows it
@@ -44,7 +44,7 @@ asked w = cond (roomy w) (cond (apart w) (cond (callsHeld w) (cond (allBound w) 
 
 -- ── the answer ──
 abbrev pub refusal : ℕ → Reading
-refusal n = record { code = n; state = record { c = replicate 3_072 0; n = 0 } }
+refusal n = record { code = n; state = record { c = replicate stateWords 0; n = 0 } }
 
 -- the locations and channels of a text that has a form, numbered by first place
 abbrev pub locationsIn : Answer Tree → List Name
@@ -55,18 +55,24 @@ abbrev pub channelsIn : Answer Tree → List Name
 channelsIn (refused n) = []
 channelsIn (accepted t) = channels t
 
--- an accepted text s: the script v and the components stand for the network m, pass question 17, and have the text's numbers. The words of the script
--- behind the row of the last part are those of the script w before the call, and the words of the state past the components are zero: only the places in
--- use are free.
+-- how many parts it has
+abbrev pub partsOf : Answer Tree → ℕ
+partsOf (refused n) = 0
+partsOf (accepted t) = partCount t
+
+-- an accepted text s: the script v and the components stand for the network m, pass question 17, have the text's numbers, and as many rows as it has parts.
+-- The words of the script behind the row of the last part are those of the script w before the call, and the words of the state past the components are zero:
+-- only the places in use are free.
 pub record Took (s w v : List ℕ) (m : Network) (r : Reading) : Type 0 where
   pub code : r .code ≡ 0
   pub network : networkOf v (r .state) ≡ m
   pub good : valid v (r .state) ≡ true
   pub locs : locsOf v ≡ locationsIn (form s)
   pub chans : chansOf v ≡ channelsIn (form s)
-  pub size : length v ≡ 99_592
-  pub behind : (o : ℕ) → 1_288 + partsIn v * 24 ≤ o → word v o ≡ word w o
-  pub past : (k : ℕ) → r .state .n * 12 ≤ k → word (r .state .c) k ≡ 0
+  pub parts : partsIn v ≡ partsOf (form s)
+  pub size : length v ≡ scriptWords
+  pub behind : (o : ℕ) → partsAt + partsIn v * rowSize ≤ o → word v o ≡ word w o
+  pub past : (k : ℕ) → r .state .n * compSize ≤ k → word (r .state .c) k ≡ 0
 
 -- the code's answer r for the text s, and the lent script before and after, w and v, stand for the answer of the definition; a refusal leaves the script u
 abbrev pub readsAs : List ℕ → Answer Network → List ℕ → List ℕ → List ℕ → Reading → Type 0
@@ -79,7 +85,7 @@ ReadsAs s w v r = readsAs s (read s) w w v r
 
 -- the same, where a refusal leaves zeros
 abbrev pub ReadsOver : List ℕ → List ℕ → List ℕ → Reading → Type 0
-ReadsOver s w v r = readsAs s (read s) (replicate 99_592 0) w v r
+ReadsOver s w v r = readsAs s (read s) (replicate scriptWords 0) w v r
 
 -- ── inner contracts ──
 -- the text s was written into the script w, now v, and the places of its components into `after`: the number of the definition's refusal, or a script that
@@ -92,7 +98,7 @@ pub record Answered (s w v : List ℕ) (after : List (List ℕ)) (r : Entry) : T
 -- behind the row of the last of n parts the script is as it was
 pub record Entered (s : List ℕ) (n : ℕ) (w v : List ℕ) (after : List (List ℕ)) (r : Entry) : Type 0 where
   pub answer : Answered s w v after r
-  pub rest : (o : ℕ) → 1_288 + n * 24 ≤ o → word v o ≡ word w o
+  pub rest : (o : ℕ) → partsAt + n * rowSize ≤ o → word v o ≡ word w o
   pub size : length v ≡ length w
 
 -- a refusal leaves all of it as it was

@@ -6,8 +6,11 @@ ghost use lib.Seq.{sets};
 ghost use Rattle.text_build.specs.Tables.{keyWords};
 ghost use Rattle.text_tree.specs.Pass.{putParams, heads, noScope, enterAt, paramsFrom};
 ghost use Rattle.text_read.specs.Ready.{Ready, DefAt, NamesAt, ParamsAt, HeadPut, BodyPut, BodiesPut};
+ghost use Rattle.table.specs.Words.{rowSize};
 use super::Passed;
 use table::Key;
+use table::ROW_SIZE;
+use table::Script;
 use text_build::Scope;
 use text_build::put_key;
 use text_put::parts::put_process;
@@ -26,17 +29,17 @@ pub fn less(i: usize, n: usize) -> usize
 }
 
 // Number of parameters, place of the body and identifier of the definition k.
-fn put_front(w: &mut [u32; 99592], k: usize, n: u32, i: u32, x: Key)
+fn put_front(w: &mut Script, k: usize, n: u32, i: u32, x: Key)
     requires { ⌜ k < 32 ⌝ }
-    ensures { λ r. ⌜ now (w .exit) ≡ sets (now (w .entry)) (8 + k * 24) (n ∷ i ∷ keyWords x) ⌝ }
+    ensures { λ r. ⌜ now (w .exit) ≡ sets (now (w .entry)) (8 + k * rowSize) (n ∷ i ∷ keyWords x) ⌝ }
 {
-    w[8 + k * 24] = n;
-    w[8 + k * 24 + 1] = i;
-    put_key(w, 8 + k * 24 + 2, x);
+    w[8 + k * ROW_SIZE] = n;
+    w[8 + k * ROW_SIZE + 1] = i;
+    put_key(w, 8 + k * ROW_SIZE + 2, x);
 }
 
 // The parameters of the definition k, from the first on.
-fn params_from(s: &[u8], at: usize, w: &mut [u32; 99592], k: usize)
+fn params_from(s: &[u8], at: usize, w: &mut Script, k: usize)
     requires { ⌜ (k < 32) × NamesAt (now s) at 0 ⌝ }
     ensures { λ r. ⌜ ((x : NamesAt (now (s .entry)) at 0) → now (w .exit) ≡ putParams (now (w .entry)) k 0 (x .first ∷ x .more)) ⌝ }
 {
@@ -45,7 +48,7 @@ fn params_from(s: &[u8], at: usize, w: &mut [u32; 99592], k: usize)
     loop {
         let x = name_at(s, here);
         let y = x.key;
-        put_key(w, 14 + k * 24 + j * 4, y);
+        put_key(w, 14 + k * ROW_SIZE + j * 4, y);
         let b = text_words::eat(s, x.end, b',');
         if b == 0 {
             return;
@@ -56,7 +59,7 @@ fn params_from(s: &[u8], at: usize, w: &mut [u32; 99592], k: usize)
 }
 
 // Nothing, or parameters in brackets.
-fn params_at(s: &[u8], at: usize, w: &mut [u32; 99592], k: usize)
+fn params_at(s: &[u8], at: usize, w: &mut Script, k: usize)
     requires { ⌜ (k < 32) × ParamsAt (now s) at ⌝ }
     ensures { λ r. ⌜ ((x : ParamsAt (now (s .entry)) at) → now (w .exit) ≡ putParams (now (w .entry)) k 0 (x .what)) ⌝ }
 {
@@ -68,7 +71,7 @@ fn params_at(s: &[u8], at: usize, w: &mut [u32; 99592], k: usize)
 }
 
 // The head of the definition k, whose body is to stand at i.
-fn put_head(s: &[u8], at: usize, w: &mut [u32; 99592], k: usize, i: usize) -> Passed
+fn put_head(s: &[u8], at: usize, w: &mut Script, k: usize, i: usize) -> Passed
     requires { ⌜ (k < 32) × (i < 4096) × DefAt (now s) at ⌝ }
     ensures { λ r. ⌜ ((x : DefAt (now (s .entry)) at) → HeadPut (now (s .entry)) (now (w .entry)) (now (w .exit)) k i r (x .name) (x .params) (x .body) (x .left)) ⌝ }
 {
@@ -87,7 +90,7 @@ fn put_head(s: &[u8], at: usize, w: &mut [u32; 99592], k: usize, i: usize) -> Pa
 }
 
 // The name that stands at the word o goes behind the names in scope, unless it is among them.
-fn entered(w: &[u32; 99592], sc: Scope, o: usize) -> Scope
+fn entered(w: &Script, sc: Scope, o: usize) -> Scope
     requires { ⌜ (sc .n < 8) × (o < 1000) ⌝ }
     ensures { λ r. ⌜ r ≡ enterAt (now (w .entry)) sc o ⌝ }
 {
@@ -102,21 +105,21 @@ fn entered(w: &[u32; 99592], sc: Scope, o: usize) -> Scope
 }
 
 // The scope of the body of the definition k, which has n parameters.
-fn params_scope(w: &[u32; 99592], k: usize, n: usize) -> Scope
+fn params_scope(w: &Script, k: usize, n: usize) -> Scope
     requires { ⌜ (k < 32) × (n ≤ 4) ⌝ }
     ensures { λ r. ⌜ r ≡ paramsFrom (now (w .entry)) k 0 n noScope ⌝ }
 {
     let mut sc = Scope { n: 0, at: [0; 8] };
     let mut j = 0;
     while j < n {
-        sc = entered(w, sc, 14 + k * 24 + j * 4);
+        sc = entered(w, sc, 14 + k * ROW_SIZE + j * 4);
         j += 1;
     }
     sc
 }
 
 // The body of the definition k, at i.
-fn put_body(s: &[u8], at: usize, w: &mut [u32; 99592], k: usize, i: usize) -> Passed
+fn put_body(s: &[u8], at: usize, w: &mut Script, k: usize, i: usize) -> Passed
     requires { ⌜ (k < 32) × (i < 4096) × DefAt (now s) at ⌝ }
     ensures { λ r. ⌜ ((x : DefAt (now (s .entry)) at) → BodyPut (now (s .entry)) (now (w .entry)) (now (w .exit)) k i r (x .params) (x .body) (x .left)) ⌝ }
 {
@@ -133,7 +136,7 @@ fn put_body(s: &[u8], at: usize, w: &mut [u32; 99592], k: usize, i: usize) -> Pa
 }
 
 // The heads of all definitions, the body of the first at i.
-pub(crate) fn put_heads(s: &[u8], w: &mut [u32; 99592], i: usize)
+pub(crate) fn put_heads(s: &[u8], w: &mut Script, i: usize)
     requires { ⌜ (i < 4096) × Ready (now s) ⌝ }
     ensures { λ r. ⌜ ((x : Ready (now (s .entry))) → now (w .exit) ≡ heads (x .tree .defs) 0 i (now (w .entry))) ⌝ }
 {
@@ -149,7 +152,7 @@ pub(crate) fn put_heads(s: &[u8], w: &mut [u32; 99592], i: usize)
 }
 
 // The bodies of all definitions: where the network begins, and the place of its first part.
-pub(crate) fn put_bodies(s: &[u8], w: &mut [u32; 99592], i: usize) -> Passed
+pub(crate) fn put_bodies(s: &[u8], w: &mut Script, i: usize) -> Passed
     requires { ⌜ (i < 4096) × Ready (now s) ⌝ }
     ensures { λ r. ⌜ ((x : Ready (now (s .entry))) → BodiesPut (now (s .entry)) (now (w .entry)) (now (w .exit)) i r (x .tree)) ⌝ }
 {

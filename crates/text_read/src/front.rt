@@ -2,17 +2,19 @@
 ghost use mathlib.Core.Path.{_≡_};
 ghost use Prim.Native.Nat.{_≤_};
 ghost use lib.ListN.{length, replicate};
-ghost use Rattle.table.specs.Words.{word};
+ghost use Rattle.table.specs.Words.{scriptWords, word};
 ghost use Rattle.text_read.specs.Front.{Front};
+use table::SCRIPT_WORDS;
+use table::Script;
 
 // Nothing to run: it says how many words a lent script has, which is known of an array by value and not behind a reference.
-pub(crate) fn script_sized(w: [u32; 99592])
-    ensures { λ _. ⌜ length w ≡ 99592 ⌝ }
+pub(crate) fn script_sized(w: Script)
+    ensures { λ _. ⌜ length w ≡ scriptWords ⌝ }
 {}
 
 // The first m words of w in front of kept.
-pub(crate) fn keep(w: &[u32; 99592], m: usize, kept: &mut [u32])
-    requires { ⌜ (m ≤ 99592) × (m ≤ length (now kept)) ⌝ }
+pub(crate) fn keep(w: &Script, m: usize, kept: &mut [u32])
+    requires { ⌜ (m ≤ scriptWords) × (m ≤ length (now kept)) ⌝ }
     ensures { λ _. ⌜ Front m (word (now (w .entry))) (now (kept .entry)) (now (kept .exit)) ⌝ }
 {
     let mut i: usize = 0;
@@ -23,8 +25,8 @@ pub(crate) fn keep(w: &[u32; 99592], m: usize, kept: &mut [u32])
 }
 
 // Zeros in front of w.
-pub(crate) fn clear(w: &mut [u32; 99592], m: usize)
-    requires { ⌜ (m ≤ 99592) × (length (now w) ≡ 99592) ⌝ }
+pub(crate) fn clear(w: &mut Script, m: usize)
+    requires { ⌜ (m ≤ scriptWords) × (length (now w) ≡ scriptWords) ⌝ }
     ensures { λ _. ⌜ Front m (λ o. 0) (now (w .entry)) (now (w .exit)) ⌝ }
 {
     let mut i: usize = 0;
@@ -35,8 +37,8 @@ pub(crate) fn clear(w: &mut [u32; 99592], m: usize)
 }
 
 // The first m words of kept in front of w.
-pub(crate) fn put_back(kept: &[u32], m: usize, w: &mut [u32; 99592])
-    requires { ⌜ (m ≤ length (now kept)) × (m ≤ 99592) × (length (now w) ≡ 99592) ⌝ }
+pub(crate) fn put_back(kept: &[u32], m: usize, w: &mut Script)
+    requires { ⌜ (m ≤ length (now kept)) × (m ≤ scriptWords) × (length (now w) ≡ scriptWords) ⌝ }
     ensures { λ _. ⌜ Front m (word (now (kept .entry))) (now (w .entry)) (now (w .exit)) ⌝ }
 {
     let mut i: usize = 0;
@@ -47,9 +49,9 @@ pub(crate) fn put_back(kept: &[u32], m: usize, w: &mut [u32; 99592])
 }
 
 // Zeros and nothing else.
-pub(crate) fn wipe(w: &mut [u32; 99592])
-    ensures { λ _. ⌜ now (w .exit) ≡ replicate 99592 0 ⌝ }
+pub(crate) fn wipe(w: &mut Script)
+    ensures { λ _. ⌜ now (w .exit) ≡ replicate scriptWords 0 ⌝ }
 {
     script_sized(*w);
-    clear(w, 99592);
+    clear(w, SCRIPT_WORDS);
 }

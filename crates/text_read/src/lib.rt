@@ -24,7 +24,7 @@
 ghost use mathlib.Core.Path.{_≡_};
 ghost use Prim.Native.Nat.{_+_, _*_, _≤_};
 ghost use lib.ListN.{length};
-ghost use Rattle.table.specs.Words.{partsIn, defsIn};
+ghost use Rattle.table.specs.Words.{rowSize, partsAt, partsIn, defsIn};
 ghost use Rattle.text_scan.specs.Answers.{scanOf};
 ghost use Rattle.text_read.specs.Ready.{Ready, Filled};
 ghost use Rattle.text_read.specs.Answer.{limits, asked, refusal, Entered, Tried, ReadsAs, ReadsOver};
@@ -39,6 +39,10 @@ use front::wipe;
 use network::put_network;
 use state::accept;
 use state::no_state;
+use table::PARTS;
+use table::ROW_SIZE;
+use table::SCRIPT_WORDS;
+use table::Script;
 
 mod definitions;
 mod front;
@@ -100,7 +104,7 @@ fn limits(c: text_scan::Scanned) -> u32
 }
 
 // Questions 4 to 7 asked of a script: 0, or the number of the first that is answered by no.
-fn asked(w: &[u32; 99592]) -> u32
+fn asked(w: &Script) -> u32
     requires { ⌜ (partsIn (now w) ≤ 4096) × (defsIn (now w) ≤ 32) ⌝ }
     ensures { λ r. ⌜ r ≡ asked (now (w .entry)) ⌝ }
 {
@@ -120,7 +124,7 @@ fn asked(w: &[u32; 99592]) -> u32
 }
 
 // The three passes over a text, into a script with zeros up to the last row: how many components there are.
-fn fill(s: &[u8], parts: usize, defs: usize, w: &mut [u32; 99592], out: &mut [[u32; 2]]) -> usize
+fn fill(s: &[u8], parts: usize, defs: usize, w: &mut Script, out: &mut [[u32; 2]]) -> usize
     requires { ⌜ (parts ≤ 4096) × (defs ≤ 32) × Ready (now s) ⌝ }
     ensures { λ r. ⌜ ((x : Ready (now (s .entry))) → Filled (now (w .entry)) (now (w .exit)) parts defs (now (out .entry)) (now (out .exit)) r (x .tree)) ⌝ }
 {
@@ -142,13 +146,13 @@ fn refuse(n: u32) -> Reading
 
 // A text that passes the scan, written into the lent script itself, which is then asked questions 4 to 7: a refusal leaves it written up to the row of its
 // last part.
-fn enter(text: &[u8], c: text_scan::Scanned, w: &mut [u32; 99592], out: &mut [[u32; 2]]) -> Entry
+fn enter(text: &[u8], c: text_scan::Scanned, w: &mut Script, out: &mut [[u32; 2]]) -> Entry
     requires { ⌜ (c ≡ scanOf (now text)) × (limits c ≡ 0) × (length (now out) ≡ 256) ⌝ }
     ensures { λ r. ⌜ Entered (now (text .entry)) (c .parts) (now (w .entry)) (now (w .exit)) (now (out .exit)) r ⌝ }
 {
     script_sized(*w);
     let parts = c.parts as usize;
-    clear(w, 1288 + parts * 24);
+    clear(w, PARTS + parts * ROW_SIZE);
     let n = fill(text, parts, c.definitions as usize, w, out);
     let a = asked(w);
     Entry { code: a, n: n }
@@ -158,15 +162,15 @@ fn enter(text: &[u8], c: text_scan::Scanned, w: &mut [u32; 99592], out: &mut [[u
 fn enter_kept(
     text: &[u8],
     c: text_scan::Scanned,
-    w: &mut [u32; 99592],
+    w: &mut Script,
     out: &mut [[u32; 2]],
     kept: &mut [u32],
 ) -> Entry
-    requires { ⌜ (c ≡ scanOf (now text)) × (limits c ≡ 0) × (length (now out) ≡ 256) × (1288 + c .parts * 24 ≤ length (now kept)) ⌝ }
+    requires { ⌜ (c ≡ scanOf (now text)) × (limits c ≡ 0) × (length (now out) ≡ 256) × (partsAt + c .parts * rowSize ≤ length (now kept)) ⌝ }
     ensures { λ r. ⌜ Tried (now (text .entry)) (now (w .entry)) (now (w .exit)) (now (out .exit)) r ⌝ }
 {
     script_sized(*w);
-    let m = 1288 + c.parts as usize * 24;
+    let m = PARTS + c.parts as usize * ROW_SIZE;
     keep(w, m, kept);
     let e = enter(text, c, w, out);
     if e.code != 0 {
@@ -177,12 +181,7 @@ fn enter_kept(
 }
 
 // A text of few parts needs little space to keep words aside.
-fn enter_few(
-    text: &[u8],
-    c: text_scan::Scanned,
-    w: &mut [u32; 99592],
-    out: &mut [[u32; 2]],
-) -> Entry
+fn enter_few(text: &[u8], c: text_scan::Scanned, w: &mut Script, out: &mut [[u32; 2]]) -> Entry
     requires { ⌜ (c ≡ scanOf (now text)) × (limits c ≡ 0) × (length (now out) ≡ 256) × (c .parts ≤ 128) ⌝ }
     ensures { λ r. ⌜ Tried (now (text .entry)) (now (w .entry)) (now (w .exit)) (now (out .exit)) r ⌝ }
 {
@@ -191,26 +190,16 @@ fn enter_few(
 }
 
 // Another may need as much as a whole script.
-fn enter_many(
-    text: &[u8],
-    c: text_scan::Scanned,
-    w: &mut [u32; 99592],
-    out: &mut [[u32; 2]],
-) -> Entry
+fn enter_many(text: &[u8], c: text_scan::Scanned, w: &mut Script, out: &mut [[u32; 2]]) -> Entry
     requires { ⌜ (c ≡ scanOf (now text)) × (limits c ≡ 0) × (length (now out) ≡ 256) ⌝ }
     ensures { λ r. ⌜ Tried (now (text .entry)) (now (w .entry)) (now (w .exit)) (now (out .exit)) r ⌝ }
 {
-    let mut kept = [0u32; 99592];
+    let mut kept = [0u32; SCRIPT_WORDS];
     enter_kept(text, c, w, out, &mut kept)
 }
 
 // A text that passes the scan, written into the lent script: a refusal leaves the script as it was.
-fn try_enter(
-    text: &[u8],
-    c: text_scan::Scanned,
-    w: &mut [u32; 99592],
-    out: &mut [[u32; 2]],
-) -> Entry
+fn try_enter(text: &[u8], c: text_scan::Scanned, w: &mut Script, out: &mut [[u32; 2]]) -> Entry
     requires { ⌜ (c ≡ scanOf (now text)) × (limits c ≡ 0) × (length (now out) ≡ 256) ⌝ }
     ensures { λ r. ⌜ Tried (now (text .entry)) (now (w .entry)) (now (w .exit)) (now (out .exit)) r ⌝ }
 {
@@ -221,7 +210,7 @@ fn try_enter(
 }
 
 // The call `read`: questions 1 to 7, and the network in the lent script and the answer's components.
-pub fn read(text: &[u8], w: &mut [u32; 99592]) -> Reading
+pub fn read(text: &[u8], w: &mut Script) -> Reading
     ensures { λ r. ⌜ ReadsAs (now (text .entry)) (now (w .entry)) (now (w .exit)) r ⌝ }
 {
     let c = text_scan::scan(text);
@@ -238,7 +227,7 @@ pub fn read(text: &[u8], w: &mut [u32; 99592]) -> Reading
 }
 
 // The call `read` for a caller that does not need the script's words after a refusal, which sets them all to zero: nothing is kept aside.
-pub fn read_over(text: &[u8], w: &mut [u32; 99592]) -> Reading
+pub fn read_over(text: &[u8], w: &mut Script) -> Reading
     ensures { λ r. ⌜ ReadsOver (now (text .entry)) (now (w .entry)) (now (w .exit)) r ⌝ }
 {
     let c = text_scan::scan(text);

@@ -7,6 +7,8 @@ ghost use Rattle.text_read.specs.Spread.{Spread};
 ghost use Rattle.text_read.specs.Located.{LocatedAt, NetworkAt, OuterPut, LocatedPut, NetworkPut};
 use super::Spotted;
 use super::definitions::less;
+use table::LOCATIONS;
+use table::Script;
 use text_build::Scope;
 use text_build::link;
 use text_build::number;
@@ -29,7 +31,7 @@ fn spot(out: &mut [[u32; 2]], n: usize, l: u32, i: u32) -> usize
 fn put_outer(
     s: &[u8],
     at: usize,
-    w: &mut [u32; 99592],
+    w: &mut Script,
     i: usize,
     l: u32,
     out: &mut [[u32; 2]],
@@ -59,7 +61,7 @@ fn put_outer(
 fn put_located(
     s: &[u8],
     at: usize,
-    w: &mut [u32; 99592],
+    w: &mut Script,
     i: usize,
     out: &mut [[u32; 2]],
     n: usize,
@@ -69,7 +71,7 @@ fn put_located(
 {
     let x = name_at(s, at);
     let y = x.key;
-    let l = number(w, 776, 1, y);
+    let l = number(w, LOCATIONS, 1, y);
     let b = text_words::eat(s, x.end, b'[');
     let p = put_outer(s, b, w, i, l as u32, out, n);
     let e = text_words::eat(s, p.end, b']');
@@ -84,7 +86,7 @@ fn put_located(
 pub(crate) fn put_network(
     s: &[u8],
     at: usize,
-    w: &mut [u32; 99592],
+    w: &mut Script,
     i: usize,
     out: &mut [[u32; 2]],
 ) -> usize

@@ -5,16 +5,21 @@ ghost use mathlib.Core.Path.{_≡_};
 ghost use lib.ListN.{length, take, replicate};
 ghost use Rattle.text_tree.specs.Asked.{compOf};
 ghost use Rattle.text_read.specs.Answer.{StateIs};
+ghost use Rattle.table.specs.Words.{stateWords};
 use crate::Reading;
 use table::Comp;
+use table::PARTS;
+use table::ROW_SIZE;
+use table::STATE_WORDS;
+use table::Script;
 use table::State;
 use table::comps::put_comp;
 
 // The component at the place i and the location l: unmarked, with the timer of its part.
-fn comp_of(w: &[u32; 99592], l: u32, i: u32) -> Comp
+fn comp_of(w: &Script, l: u32, i: u32) -> Comp
     ensures { λ r. ⌜ r ≡ compOf (now (w .entry)) (l ∷ i ∷ []) ⌝ }
 {
-    let t = table::words::word(w, 1288 + table::words::wide(i) * 24 + 2);
+    let t = table::words::word(w, PARTS + table::words::wide(i) * ROW_SIZE + 2);
     Comp {
         loc: l,
         mark: 64,
@@ -26,19 +31,25 @@ fn comp_of(w: &[u32; 99592], l: u32, i: u32) -> Comp
 
 // A network of no components.
 pub fn no_state() -> State
-    ensures { λ r. ⌜ r ≡ record { c = replicate 3072 0; n = 0 } ⌝ }
+    ensures { λ r. ⌜ r ≡ record { c = replicate stateWords 0; n = 0 } ⌝ }
 {
-    State { c: [0; 3072], n: 0 }
+    State {
+        c: [0; STATE_WORDS],
+        n: 0,
+    }
 }
 
 // The components at the first n places, as an accepted answer.
-pub(crate) fn accept(w: &[u32; 99592], out: &[[u32; 2]], n: usize) -> Reading
+pub(crate) fn accept(w: &Script, out: &[[u32; 2]], n: usize) -> Reading
     requires { ⌜ (n ≤ 256) × (n ≤ length (now out)) ⌝ }
     ensures { λ r. ⌜ (r .code ≡ 0) × StateIs (now (w .entry)) (take n (now (out .entry))) (r .state) ⌝ }
 {
     let mut r = Reading {
         code: 0,
-        state: State { c: [0; 3072], n: n },
+        state: State {
+            c: [0; STATE_WORDS],
+            n: n,
+        },
     };
     let mut j = 0;
     while j < n {

@@ -11,7 +11,7 @@ use Rattle.terms.specs.Terms.Def.{define}
 use Rattle.text.specs.Tree.{Tree}
 use Rattle.text.specs.WellFormed.{WellTree}
 use Rattle.text.specs.Questions.{firsts, defPlaces, locatedPlaces, places, locatedNames, locationsAt, channelsAt, channels, locations, most, params, partCount, definitionCount, parameterCount}
-use Rattle.table.specs.Words.{word}
+use Rattle.table.specs.Words.{rowSize, partsAt, scriptWords, word}
 use Rattle.table.specs.Meaning.{listFrom}
 use Rattle.text_build.specs.Rows.{locsOf, chansOf}
 use Rattle.text_build.specs.Growth.{Making}
@@ -34,11 +34,11 @@ few-params (define x us p ∷ ds) h = (omega arith, few-params ds (omega arith))
 
 -- ── the start ──
 module _ (z : List ℕ) (t : Tree) (blank : Blank z (partCount t)) where
-  pub started-long : length (started z t) ≡ 99_592
+  pub started-long : length (started z t) ≡ scriptWords
   unfolding started
   started-long = length-set (set z 0 (partCount t)) 3 (definitionCount t) ∙ length-set z 0 (partCount t) ∙ blank .long
 
-  started-zero : (o : ℕ) → (o ≡ 0 → ⊥) → (o ≡ 3 → ⊥) → o < 1_288 + partCount t * 24 → word (started z t) o ≡ 0
+  started-zero : (o : ℕ) → (o ≡ 0 → ⊥) → (o ≡ 3 → ⊥) → o < partsAt + partCount t * rowSize → word (started z t) o ≡ 0
   unfolding started
   started-zero o a b h = set-out (set z 0 (partCount t)) 3 o (definitionCount t) b ∙ set-out z 0 o (partCount t) a ∙ blank .none o h
 
@@ -80,8 +80,8 @@ module _ (z : List ℕ) (t : Tree) (blank : Blank z (partCount t)) (l : Within t
   headed-timely : Timely (partCount t) headed
   headed-timely j b =
       let d : length (t .defs) ≤ 32 = headed-few in
-      let e = heads-past (t .defs) (started z t) 0 (top t) (1_288 + j * 24 + 2) few (omega arith) in
-      let y = started-zero z t blank (1_288 + j * 24 + 2) (λ e. omega arith) (λ e. omega arith) (omega arith) in
+      let e = heads-past (t .defs) (started z t) 0 (top t) (partsAt + j * rowSize + 2) few (omega arith) in
+      let y = started-zero z t blank (partsAt + j * rowSize + 2) (λ e. omega arith) (λ e. omega arith) (omega arith) in
       rw (e, y) (omega arith)
 
   pub headed-locs : locsOf headed ≡ []

@@ -18,7 +18,7 @@ use Rattle.terms.specs.Letters.{member, isLocation, isSmall}
 use Rattle.text.specs.WellFormed.{Is, Each, WellValue, WellPart}
 use Rattle.text.specs.Questions.{Place, into, firsts, locOf, processPlaces, locationsAt, channelsAt}
 use Rattle.table.specs.declared.Key.{Key}
-use Rattle.table.specs.Words.{word, nameAt, locName, chanName, boundAt}
+use Rattle.table.specs.Words.{chansAt, locsAt, word, nameAt, locName, chanName, boundAt}
 use Rattle.table.specs.Tests.{keyName, rowName}
 use Rattle.table.specs.Valid.{index}
 use Rattle.table.proofs.Tests.{length-listFrom}
@@ -66,7 +66,7 @@ fits-rest w v ls ls′ cs cs′ n f = record {
 }
 
 -- ── a name ──
-enlist-room : (w : List ℕ) (o c : ℕ) (k : Key) → 776 ≤ o → c < 4 → word w c ≤ 64 → word w 4 ≡ 0 → length (into (names w o c) (keyName k)) ≤ 64 → word (enlist w o c k) 4 ≡ 0
+enlist-room : (w : List ℕ) (o c : ℕ) (k : Key) → locsAt ≤ o → c < 4 → word w c ≤ 64 → word w 4 ≡ 0 → length (into (names w o c) (keyName k)) ≤ 64 → word (enlist w o c k) 4 ≡ 0
 unfolding enlist numberIn addKey heldIn
 enlist-room w o c k a b few z h =
     let e : min (word w c) 64 ≡ word w c = omega arith in
@@ -85,11 +85,11 @@ enlist-room w o c k a b few z h =
 
 pub loc-room : (w : List ℕ) (l : Name) → Making w → Is isLocation l → word w 4 ≡ 0 → length (into (locsOf w) l) ≤ 64 → word (enterLoc w l) 4 ≡ 0
 unfolding enterLoc locsOf locName
-loc-room w l m e z h = enlist-room w 776 1 (keyOf l) (omega arith) (omega arith) (m .locs) z (unfold rowName in rw (loc-spelt l e) h)
+loc-room w l m e z h = enlist-room w locsAt 1 (keyOf l) (omega arith) (omega arith) (m .locs) z (unfold rowName in rw (loc-spelt l e) h)
 
 chan-room : (w : List ℕ) (c : Name) → Making w → Is isSmall c → word w 4 ≡ 0 → length (into (chansOf w) c) ≤ 64 → word (enterChan w c) 4 ≡ 0
 unfolding enterChan chansOf chanName
-chan-room w c m e z h = enlist-room w 1_032 2 (keyOf c) (omega arith) (omega arith) (m .chans) z (unfold rowName in rw (small-spelt c e) h)
+chan-room w c m e z h = enlist-room w chansAt 2 (keyOf c) (omega arith) (omega arith) (m .chans) z (unfold rowName in rw (small-spelt c e) h)
 
 value-room : (w : List ℕ) (v : Value) → Making w → WellValue v → word w 4 ≡ 0 → length (firsts (locsOf w) (locOf v)) ≤ 64 → word (enterValue w v) 4 ≡ 0
 unfolding enterValue firsts locOf

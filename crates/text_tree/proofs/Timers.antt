@@ -17,7 +17,7 @@ use Rattle.terms.specs.Terms.Part.{stop, go, out, inp, call}
 use Rattle.terms.specs.Terms.Process.{one, _∥_}
 use Rattle.text.specs.WellFormed.{WellTimer, WellPart, WellProcess}
 use Rattle.table.specs.declared.Key.{Key}
-use Rattle.table.specs.Words.{word, field}
+use Rattle.table.specs.Words.{rowSize, chansAt, locsAt, partsAt, word, field}
 use Rattle.table.specs.Tests.{keyName}
 use Rattle.table.specs.Size.{size, sizeP}
 use Rattle.text_build.specs.declared.Scope.{Scope}
@@ -32,9 +32,9 @@ use Rattle.text_build.proofs.Puts.{inner-eight}
 
 -- ── names lie below the rows ──
 abbrev pub High : List ℕ → List ℕ → Type 0
-High w v = (x : ℕ) → 1_288 ≤ x → word v x ≡ word w x
+High w v = (x : ℕ) → partsAt ≤ x → word v x ≡ word w x
 
-enlist-high : (w : List ℕ) (o c : ℕ) (k : Key) → o + 256 ≤ 1_288 → c < 8 → High w (enlist w o c k)
+enlist-high : (w : List ℕ) (o c : ℕ) (k : Key) → o + 256 ≤ partsAt → c < 8 → High w (enlist w o c k)
 unfolding enlist addKey
 enlist-high w o c k a b x h = go (ltb (numberIn w o (heldIn w c) (keyName k)) (heldIn w c)) (ltb (heldIn w c) 64) refl
   where
@@ -47,11 +47,11 @@ enlist-high w o c k a b x h = go (ltb (numberIn w o (heldIn w c) (keyName k)) (h
 
 pub loc-high : (w : List ℕ) (l : Name) → High w (enterLoc w l)
 unfolding enterLoc
-loc-high w l = enlist-high w 776 1 (keyOf l) (omega arith) (omega arith)
+loc-high w l = enlist-high w locsAt 1 (keyOf l) (omega arith) (omega arith)
 
 chan-high : (w : List ℕ) (c : Name) → High w (enterChan w c)
 unfolding enterChan
-chan-high w c = enlist-high w 1_032 2 (keyOf c) (omega arith) (omega arith)
+chan-high w c = enlist-high w chansAt 2 (keyOf c) (omega arith) (omega arith)
 
 value-high : (w : List ℕ) (v : Value) → High w (enterValue w v)
 unfolding enterValue
@@ -86,7 +86,7 @@ abbrev pub Timely : ℕ → List ℕ → Type 0
 Timely n w = (j : ℕ) → j < n → field w j 2 ≤ 1_000_001
 
 pub timely-high : {m : ℕ} → (w v : List ℕ) → High w v → Timely m w → Timely m v
-timely-high w v e t j b = rw (e (1_288 + j * 24 + 2) (omega arith)) (t j b)
+timely-high w v e t j b = rw (e (partsAt + j * rowSize + 2) (omega arith)) (t j b)
 
 -- one word
 set-small : (w : List ℕ) (o a x : ℕ) → (o ≡ x → a ≤ 1_000_001) → word w x ≤ 1_000_001 → word (set w o a) x ≤ 1_000_001
@@ -119,13 +119,13 @@ row-small (call d vs) w i sc f = omega arith
 opened-timely : {m : ℕ} → (a : Part) (w : List ℕ) (i : ℕ) (sc : Scope) → Eight sc → WellPart a → Timely m w → Timely m (opened w i sc a)
 unfolding opened
 opened-timely a w i sc e f t j b =
-    sets-small (rowOf w i sc a) (enterPart w a) (1_288 + i * 24 + 0) (1_288 + j * 24 + 2)
+    sets-small (rowOf w i sc a) (enterPart w a) (partsAt + i * rowSize + 0) (partsAt + j * rowSize + 2)
     (λ k l q. let n = row-length w i sc a e in let two : k ≡ 2 = omega arith in rw two (row-small a w i sc f))
     (timely-high w (enterPart w a) (part-high a w) t j b)
 
 -- words 5 to 7 of a row
-later-timely : {m : ℕ} → (w : List ℕ) (i k : ℕ) (vs : List ℕ) → 5 ≤ k → k + length vs ≤ 8 → Timely m w → Timely m (sets w (1_288 + i * 24 + k) vs)
-later-timely w i k vs a b t j d = sets-small vs w (1_288 + i * 24 + k) (1_288 + j * 24 + 2) (λ m l q. absurd (omega arith)) (t j d)
+later-timely : {m : ℕ} → (w : List ℕ) (i k : ℕ) (vs : List ℕ) → 5 ≤ k → k + length vs ≤ 8 → Timely m w → Timely m (sets w (partsAt + i * rowSize + k) vs)
+later-timely w i k vs a b t j d = sets-small vs w (partsAt + i * rowSize + k) (partsAt + j * rowSize + 2) (λ m l q. absurd (omega arith)) (t j d)
 
 second-timely : {m : ℕ} → (w : List ℕ) (i q : ℕ) → Timely m w → Timely m (setSecond w i q)
 unfolding setSecond

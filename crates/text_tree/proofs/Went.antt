@@ -10,7 +10,7 @@ use Rattle.terms.specs.Terms.{Process, Def}
 use Rattle.terms.specs.Terms.Def.{define}
 use Rattle.text.specs.Tree.Located.{at}
 use Rattle.text.specs.Questions.{firsts}
-use Rattle.table.specs.Words.{word}
+use Rattle.table.specs.Words.{rowSize, partsAt, word}
 use Rattle.table.specs.Size.{sizeP}
 use Rattle.text_build.specs.Rows.{scopeNames, Stands}
 use Rattle.text_build.specs.Growth.{placeListed, Grown, SameRows, Making}
@@ -32,7 +32,7 @@ pub record Went (w v : List ℕ) (n : ℕ) : Type 0 where
   pub parts : word v 0 ≡ word w 0
   pub defs : word v 3 ≡ word w 3
   pub between : Between w v
-  pub above : (o : ℕ) → 1_288 + n * 24 ≤ o → word v o ≡ word w o
+  pub above : (o : ℕ) → partsAt + n * rowSize ≤ o → word v o ≡ word w o
 
 pub went-none : (w : List ℕ) (n : ℕ) → Making w → Went w w n
 went-none w n m = record { grown = grown-none w; making = m; parts = refl; defs = refl; between = λ o a b. refl; above = λ o a. refl }
@@ -51,7 +51,7 @@ pub went-grew : {w v : List ℕ} {low i : ℕ} → Grew w v low i → Went w v (
 went-grew g = record { grown = g .grown; making = g .making; parts = g .frame .parts; defs = g .frame .defs; between = g .frame .between; above = g .frame .above }
 
 rows-same : (w v : List ℕ) (n low i : ℕ) → Went w v n → n ≤ low → SameRows w v low i
-rows-same w v n low i g h j k a b l = g .above (1_288 + j * 24 + k) (omega arith)
+rows-same w v n low i g h j k a b l = g .above (partsAt + j * rowSize + k) (omega arith)
 
 -- ── what stands goes on standing ──
 module _ (w v : List ℕ) (n : ℕ) (g : Went w v n) where

@@ -16,7 +16,7 @@ use Rattle.terms.specs.Clock.{ticksOf}
 use Rattle.terms.proofs.Names.{and-inv}
 use Rattle.table.specs.declared.Head.{Head}
 use Rattle.table.specs.declared.Head.the-variants.{Stop, Go, Out, In, Call}
-use Rattle.table.specs.Words.{defsIn, nameAt, chanName, defName, arityOf, field, headAt, nextAt, ownAt, boundAt, scopeAt, namesAt}
+use Rattle.table.specs.Words.{rowSize, ownsAt, defsIn, nameAt, chanName, defName, arityOf, field, headAt, nextAt, ownAt, boundAt, scopeAt, namesAt}
 use Rattle.table.specs.Meaning.{valueOf, valuesOf, partOf, joined, processAt, partAt, withTimer}
 use Rattle.table.specs.Valid.{index, refOk, entered, headOk, nextOk}
 use Rattle.table.proofs.Tests.{Inner, inner, PartFine, part-fine, script-fine, def-fine}
@@ -84,7 +84,7 @@ module _ (w : List ℕ) (i : ℕ) (vs : List ℕ) (at : Places w i vs) where
         unfold partSeen partAt partOf withTimer sub openText in rw (e, h (r .value))
 
     pub open-in : {c s k p q : ℕ} → headAt w i ≡ In c s k p q
-        → bytes "in(" ++ (chanName w c ++ (44 ∷ fieldsText (ticksOf t) (nameAt w (1_305 + i * 24)))) ≡ openText (partSeen w i t vs)
+        → bytes "in(" ++ (chanName w c ++ (44 ∷ fieldsText (ticksOf t) (nameAt w (ownsAt + i * rowSize)))) ≡ openText (partSeen w i t vs)
     open-in e = unfold partSeen partAt partOf withTimer sub openText boundAt ownAt in rw e
 
     pub open-call : {d n a₀ a₁ a₂ a₃ : ℕ} {os : List ℕ} → headAt w i ≡ Call d n a₀ a₁ a₂ a₃ → Named w (someAt w i vs) (namesAt w i) (a₀ ∷ a₁ ∷ a₂ ∷ a₃ ∷ []) os

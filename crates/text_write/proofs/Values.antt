@@ -15,7 +15,7 @@ use Rattle.terms.specs.Substitution.{Held, env, hide, held, subV}
 use Rattle.terms.specs.Substitution.Held.{unset}
 use Rattle.terms.proofs.Names.{and-inv, name-eq, name-refl}
 use Rattle.terms.proofs.Substitution.{empty}
-use Rattle.table.specs.Words.{nameAt, locName, field, ownAt, boundAt, atMost8, scopeAt, namesAt}
+use Rattle.table.specs.Words.{locsAt, nameAt, locName, field, ownAt, boundAt, atMost8, scopeAt, namesAt}
 use Rattle.table.specs.Meaning.{valueOf, envAt}
 use Rattle.table.specs.Valid.{index, slotOk, refOk, entered}
 use Rattle.table.proofs.Scopes.{enter, enter-is, index-enter}
@@ -147,7 +147,7 @@ module _ (w : List ℕ) (i : ℕ) (vs : List ℕ) (n : length vs ≡ 8) where
   abbrev written : ℕ → List ℕ
   written v = valueText (valueSeen w i vs v)
 
-  pub location-written : (v : ℕ) → v < 64 → nameAt w (776 + v * 4) ≡ written v
+  pub location-written : (v : ℕ) → v < 64 → nameAt w (locsAt + v * 4) ≡ written v
   location-written v h = unfold locName valueOf valueText subV in rw (lt-ltb v 64 h)
 
   pub record Slot (v : ℕ) : Type 0 where
@@ -172,7 +172,7 @@ module _ (w : List ℕ) (i : ℕ) (vs : List ℕ) (n : length vs ≡ 8) where
   variable-is : (v : ℕ) → 64 ≤ v → written v ≡ valueText (held (someAt w i vs (getD (namesAt w i) (v - 64) [])) (getD (namesAt w i) (v - 64) []))
   variable-is v h = unfold valueOf subV in rw (le-ltb v 64 h)
 
-  pub value-written : (v : ℕ) → 64 ≤ v → refOk w (namesAt w i) v ≡ true → getD vs (v - 64) 0 < 64 → nameAt w (776 + getD vs (v - 64) 0 * 4) ≡ written v
+  pub value-written : (v : ℕ) → 64 ≤ v → refOk w (namesAt w i) v ≡ true → getD vs (v - 64) 0 < 64 → nameAt w (locsAt + getD vs (v - 64) 0 * 4) ≡ written v
   value-written v h e k =
       sym (variable-is v h ∙ rw (slot-held v (slot v h e)) (unfold shown held valueText locName in rw (lt-ltb (getD vs (v - 64) 0) 64 k)))
 

@@ -31,6 +31,8 @@ ghost use Rattle.table.specs.Valid.{valid};
 ghost use Rattle.text_write.specs.Answer.{noMark, writeAnswer, Answers};
 use network::all_unmarked;
 use network::write_text;
+use table::Script;
+use table::Words;
 use table::valid::is_valid;
 use table::words::word;
 
@@ -42,7 +44,7 @@ pub struct Written {
 }
 
 // The write call: 17, then the others.
-pub fn write(w: &[u32; 99592], c: &[u32; 3072], n: usize, buf: &mut [u8]) -> Written
+pub fn write(w: &Script, c: &Words, n: usize, buf: &mut [u8]) -> Written
     ensures { λ r. ⌜ Answers (writeAnswer (now (w .entry)) (record { c = now (c .entry); n = n }) (length (now (buf .entry)))) (now (buf .entry)) r (now (buf .exit)) ⌝ }
 {
     if !is_valid(w, c, n) {
@@ -65,13 +67,7 @@ fn copy_front(s: &[u8], n: usize, buf: &mut [u8])
 
 // The text of an unmarked network, or 15: it is written beside the buffer first, into bytes whose content does not matter. Only a text that is longer than
 // these is written a second time.
-fn write_beside(
-    w: &[u32; 99592],
-    c: &[u32; 3072],
-    n: usize,
-    text: &mut [u8],
-    buf: &mut [u8],
-) -> Written
+fn write_beside(w: &Script, c: &Words, n: usize, text: &mut [u8], buf: &mut [u8]) -> Written
     requires { ⌜ (valid (now w) (record { c = now c; n = n }) ≡ true) × (noMark (now w) (record { c = now c; n = n }) ≡ true) ⌝ }
     ensures { λ r. ⌜ Answers (writeAnswer (now (w .entry)) (record { c = now (c .entry); n = n }) (length (now (buf .entry)))) (now (buf .entry)) r (now (buf .exit)) ⌝ }
 {
@@ -88,7 +84,7 @@ fn write_beside(
 }
 
 // The same on a network that passes question 17: 14, then 15 and the text. Few parts mostly have a short text.
-fn write_valid(w: &[u32; 99592], c: &[u32; 3072], n: usize, buf: &mut [u8]) -> Written
+fn write_valid(w: &Script, c: &Words, n: usize, buf: &mut [u8]) -> Written
     requires { ⌜ valid (now w) (record { c = now c; n = n }) ≡ true ⌝ }
     ensures { λ r. ⌜ Answers (writeAnswer (now (w .entry)) (record { c = now (c .entry); n = n }) (length (now (buf .entry)))) (now (buf .entry)) r (now (buf .exit)) ⌝ }
 {

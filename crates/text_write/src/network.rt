@@ -20,6 +20,10 @@ use super::put::put_end;
 use super::put::put_list;
 use super::put::put_name;
 use table::Comp;
+use table::LOCATIONS;
+use table::ROW_SIZE;
+use table::Script;
+use table::Words;
 use table::comps::comp_at;
 use table::words::arity_of;
 use table::words::body_of;
@@ -27,13 +31,18 @@ use table::words::wide;
 use table::words::word;
 
 // The definition d, on a line.
-fn write_def(w: &[u32; 99592], d: usize, buf: &mut [u8], at: usize) -> usize
+fn write_def(w: &Script, d: usize, buf: &mut [u8], at: usize) -> usize
     requires { ⌜ (scriptOk (now w) ≡ true) × (d < defsIn (now w)) ⌝ }
     ensures { λ r. ⌜ Wrote (now (buf .entry)) at (defText (defOf (now (w .entry)) d)) (now (buf .exit)) r ⌝ }
 {
-    let o = [14 + d * 24, 18 + d * 24, 22 + d * 24, 26 + d * 24];
+    let o = [
+        14 + d * ROW_SIZE,
+        18 + d * ROW_SIZE,
+        22 + d * ROW_SIZE,
+        26 + d * ROW_SIZE,
+    ];
     let none = [64u32; 8];
-    let a = put_name(w, 10 + d * 24, buf, at);
+    let a = put_name(w, 10 + d * ROW_SIZE, buf, at);
     let b = put_list(w, &o, wide(arity_of(w, d)), buf, a);
     let c = put_all(b" = ", buf, b);
     let e = write_process(w, wide(body_of(w, d)), &none, buf, c);
@@ -41,7 +50,7 @@ fn write_def(w: &[u32; 99592], d: usize, buf: &mut [u8], at: usize) -> usize
 }
 
 // All definitions, in table order.
-fn write_defs(w: &[u32; 99592], buf: &mut [u8], at: usize) -> usize
+fn write_defs(w: &Script, buf: &mut [u8], at: usize) -> usize
     requires { ⌜ scriptOk (now w) ≡ true ⌝ }
     ensures { λ r. ⌜ Wrote (now (buf .entry)) at (defsText (defsOf (now (w .entry)))) (now (buf .exit)) r ⌝ }
 {
@@ -56,19 +65,19 @@ fn write_defs(w: &[u32; 99592], buf: &mut [u8], at: usize) -> usize
 }
 
 // An unmarked component: its one part in brackets, after its location.
-fn write_comp(w: &[u32; 99592], c: Comp, buf: &mut [u8], at: usize) -> usize
+fn write_comp(w: &Script, c: Comp, buf: &mut [u8], at: usize) -> usize
     requires { ⌜ (scriptOk (now w) ≡ true) × (compOk (now w) c ≡ true) × (64 ≤ c .mark) ⌝ }
     ensures { λ r. ⌜ Wrote (now (buf .entry)) at (compText (means (now (w .entry)) c)) (now (buf .exit)) r ⌝ }
 {
     let vals = c.vals;
-    let a = put_name(w, 776 + wide(c.loc) * 4, buf, at);
+    let a = put_name(w, LOCATIONS + wide(c.loc) * 4, buf, at);
     let b = put(b'[', buf, a);
     let d = write_part(w, wide(c.place), c.timer, &vals, buf, b);
     put(b']', buf, d)
 }
 
 // The line of the components, in order.
-fn write_comps(w: &[u32; 99592], c: &[u32; 3072], n: usize, buf: &mut [u8], at: usize) -> usize
+fn write_comps(w: &Script, c: &Words, n: usize, buf: &mut [u8], at: usize) -> usize
     requires { ⌜ (valid (now w) (record { c = now c; n = n }) ≡ true) × (noMark (now w) (record { c = now c; n = n }) ≡ true) ⌝ }
     ensures { λ r. ⌜ Wrote (now (buf .entry)) at (netText (map compText (netOf (now (w .entry)) (record { c = now (c .entry); n = n })))) (now (buf .exit)) r ⌝ }
 {
@@ -85,7 +94,7 @@ fn write_comps(w: &[u32; 99592], c: &[u32; 3072], n: usize, buf: &mut [u8], at: 
 }
 
 // The whole text, from the start of the buffer on.
-pub(crate) fn write_text(w: &[u32; 99592], c: &[u32; 3072], n: usize, buf: &mut [u8]) -> usize
+pub(crate) fn write_text(w: &Script, c: &Words, n: usize, buf: &mut [u8]) -> usize
     requires { ⌜ (valid (now w) (record { c = now c; n = n }) ≡ true) × (noMark (now w) (record { c = now c; n = n }) ≡ true) ⌝ }
     ensures { λ r. ⌜ Wrote (now (buf .entry)) 0 (textOf (now (w .entry)) (record { c = now (c .entry); n = n })) (now (buf .exit)) r ⌝ }
 {
@@ -94,7 +103,7 @@ pub(crate) fn write_text(w: &[u32; 99592], c: &[u32; 3072], n: usize, buf: &mut 
 }
 
 // 14: is no component marked?
-pub(crate) fn all_unmarked(c: &[u32; 3072], n: usize) -> bool
+pub(crate) fn all_unmarked(c: &Words, n: usize) -> bool
     requires { ⌜ n ≤ 256 ⌝ }
     ensures { λ r. ⌜ r ≡ every (λ x. not (ltb (x .mark) 64)) (compsOf (record { c = now (c .entry); n = n })) ⌝ }
 {

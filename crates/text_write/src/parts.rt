@@ -19,20 +19,25 @@ use super::put::put_bar;
 use super::put::put_fields;
 use super::put::put_list;
 use super::put::put_name;
+use table::CHANNELS;
 use table::Head;
+use table::LOCATIONS;
+use table::OWNS;
+use table::ROW_SIZE;
+use table::Script;
 use table::words::field;
 use table::words::head_at;
 use table::words::next_at;
 use table::words::wide;
 
 // Where the name stands that a value at the part i is written as.
-fn value_at(w: &[u32; 99592], i: usize, vals: &[u32; 8], v: u32) -> usize
+fn value_at(w: &Script, i: usize, vals: &[u32; 8], v: u32) -> usize
     requires { ⌜ (i < 4096) × (length (now vals) ≡ 8) ⌝ }
     ensures { λ r. ⌜ (refOk (now (w .entry)) (namesAt (now (w .entry)) i) v ≡ true → nameAt (now (w .entry)) r ≡ valueText (valueSeen (now (w .entry)) i (now (vals .entry)) v)) ⌝ }
 {
     let n = wide(v);
     if n < 64 {
-        return 776 + n * 4;
+        return LOCATIONS + n * 4;
     }
     let k = n - 64;
     if 7 < k {
@@ -41,7 +46,7 @@ fn value_at(w: &[u32; 99592], i: usize, vals: &[u32; 8], v: u32) -> usize
     }
     let x = wide(vals[k]);
     if x < 64 {
-        return 776 + x * 4;
+        return LOCATIONS + x * 4;
     }
     wide(field(w, i, 9 + k))
 }
@@ -60,7 +65,7 @@ fn without(vals: &[u32; 8], k: u32) -> [u32; 8]
 }
 
 // `go(t,x,`, where the name x stands at the word o.
-fn open_one(w: &[u32; 99592], t: u32, o: usize, buf: &mut [u8], at: usize) -> usize
+fn open_one(w: &Script, t: u32, o: usize, buf: &mut [u8], at: usize) -> usize
     ensures { λ r. ⌜ Wrote (now (buf .entry)) at (bytes "go(" ++ fieldsText (ticksOf t) (nameAt (now (w .entry)) o)) (now (buf .exit)) r ⌝ }
 {
     let a = put_all(b"go(", buf, at);
@@ -68,34 +73,26 @@ fn open_one(w: &[u32; 99592], t: u32, o: usize, buf: &mut [u8], at: usize) -> us
 }
 
 // The word s, which is `out(` or `in(`, then `c,t,x,`, where the name x stands at the word o.
-fn open_two(
-    w: &[u32; 99592],
-    s: &[u8],
-    c: u32,
-    t: u32,
-    o: usize,
-    buf: &mut [u8],
-    at: usize,
-) -> usize
+fn open_two(w: &Script, s: &[u8], c: u32, t: u32, o: usize, buf: &mut [u8], at: usize) -> usize
     ensures { λ r. ⌜ Wrote (now (buf .entry)) at (now (s .entry) ++ (chanName (now (w .entry)) c ++ (44 ∷ fieldsText (ticksOf t) (nameAt (now (w .entry)) o)))) (now (buf .exit)) r ⌝ }
 {
     let a = put_all(s, buf, at);
-    let b = put_name(w, 1032 + wide(c) * 4, buf, a);
+    let b = put_name(w, CHANNELS + wide(c) * 4, buf, a);
     let d = put(b',', buf, b);
     put_fields(w, t, o, buf, d)
 }
 
 // A call of the definition d with the n names that stand at the words o.
-fn put_call(w: &[u32; 99592], d: u32, o: &[usize; 4], n: usize, buf: &mut [u8], at: usize) -> usize
+fn put_call(w: &Script, d: u32, o: &[usize; 4], n: usize, buf: &mut [u8], at: usize) -> usize
     requires { ⌜ (n ≤ 4) × (length (now o) ≡ 4) ⌝ }
     ensures { λ r. ⌜ Wrote (now (buf .entry)) at (defName (now (w .entry)) d ++ listed (map (nameAt (now (w .entry))) (take n (now (o .entry))))) (now (buf .exit)) r ⌝ }
 {
-    let a = put_name(w, 10 + wide(d) * 24, buf, at);
+    let a = put_name(w, 10 + wide(d) * ROW_SIZE, buf, at);
     put_list(w, o, n, buf, a)
 }
 
 // The part at i with the timer t, up to its first process.
-fn put_open(w: &[u32; 99592], i: usize, t: u32, vals: &[u32; 8], buf: &mut [u8], at: usize) -> usize
+fn put_open(w: &Script, i: usize, t: u32, vals: &[u32; 8], buf: &mut [u8], at: usize) -> usize
     requires { ⌜ Places (now w) i (now vals) ⌝ }
     ensures { λ r. ⌜ Wrote (now (buf .entry)) at (openText (partSeen (now (w .entry)) i t (now (vals .entry)))) (now (buf .exit)) r ⌝ }
 {
@@ -103,7 +100,7 @@ fn put_open(w: &[u32; 99592], i: usize, t: u32, vals: &[u32; 8], buf: &mut [u8],
         Head::Stop => put_all(b"stop", buf, at),
         Head::Go(_, v, _) => open_one(w, t, value_at(w, i, vals, v), buf, at),
         Head::Out(c, _, v, _, _) => open_two(w, b"out(", c, t, value_at(w, i, vals, v), buf, at),
-        Head::In(c, _, _, _, _) => open_two(w, b"in(", c, t, 1305 + i * 24, buf, at),
+        Head::In(c, _, _, _, _) => open_two(w, b"in(", c, t, OWNS + i * ROW_SIZE, buf, at),
         Head::Call(d, n, a0, a1, a2, a3) => {
             let o = [
                 value_at(w, i, vals, a0),
@@ -118,7 +115,7 @@ fn put_open(w: &[u32; 99592], i: usize, t: u32, vals: &[u32; 8], buf: &mut [u8],
 
 // The part at i with the timer t.
 pub(crate) fn write_part(
-    w: &[u32; 99592],
+    w: &Script,
     i: usize,
     t: u32,
     vals: &[u32; 8],
@@ -154,7 +151,7 @@ pub(crate) fn write_part(
 
 // The process at i, part by part.
 pub(crate) fn write_process(
-    w: &[u32; 99592],
+    w: &Script,
     i: usize,
     vals: &[u32; 8],
     buf: &mut [u8],

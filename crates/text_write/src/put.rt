@@ -12,6 +12,7 @@ ghost use Rattle.table.specs.Tests.{keyName};
 ghost use Rattle.text_write.specs.Put.{Wrote};
 ghost use Rattle.text_write.specs.Forms.{timerText, listed, fieldsText};
 use table::Key;
+use table::Script;
 use table::words::key_at;
 
 // One byte.
@@ -148,7 +149,7 @@ pub fn put_key(k: Key, buf: &mut [u8], at: usize) -> usize
 }
 
 // The name that stands at the word o.
-pub fn put_name(w: &[u32; 99592], o: usize, buf: &mut [u8], at: usize) -> usize
+pub fn put_name(w: &Script, o: usize, buf: &mut [u8], at: usize) -> usize
     ensures { λ r. ⌜ Wrote (now (buf .entry)) at (nameAt (now (w .entry)) o) (now (buf .exit)) r ⌝ }
 {
     let k = key_at(w, o);
@@ -156,13 +157,7 @@ pub fn put_name(w: &[u32; 99592], o: usize, buf: &mut [u8], at: usize) -> usize
 }
 
 // Nothing, or `(x1,..)`: the n names that stand at the words o.
-pub(crate) fn put_list(
-    w: &[u32; 99592],
-    o: &[usize; 4],
-    n: usize,
-    buf: &mut [u8],
-    at: usize,
-) -> usize
+pub(crate) fn put_list(w: &Script, o: &[usize; 4], n: usize, buf: &mut [u8], at: usize) -> usize
     requires { ⌜ (n ≤ 4) × (length (now o) ≡ 4) ⌝ }
     ensures { λ r. ⌜ Wrote (now (buf .entry)) at (listed (map (nameAt (now (w .entry))) (take n (now (o .entry))))) (now (buf .exit)) r ⌝ }
 {
@@ -182,7 +177,7 @@ pub(crate) fn put_list(
 }
 
 // `t,x,`, where the name x stands at the word o.
-pub fn put_fields(w: &[u32; 99592], t: u32, o: usize, buf: &mut [u8], at: usize) -> usize
+pub fn put_fields(w: &Script, t: u32, o: usize, buf: &mut [u8], at: usize) -> usize
     ensures { λ r. ⌜ Wrote (now (buf .entry)) at (fieldsText (ticksOf t) (nameAt (now (w .entry)) o)) (now (buf .exit)) r ⌝ }
 {
     let a = put_timer(t, buf, at);

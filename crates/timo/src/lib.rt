@@ -31,7 +31,9 @@ use host::action_label;
 use host::location_name;
 use host::locations;
 use host::step_line;
+use table::Script;
 use table::State;
+use table::Words;
 use table::valid::is_valid;
 use text_read::Reading;
 use text_write::Written;
@@ -39,7 +41,7 @@ use text_write::write;
 
 // Reading: questions 1 to 7. A refusal leaves the lent script as it was.
 #[no_mangle]
-pub extern "C" fn timo_read(text: &[u8], w: &mut [u32; 99592]) -> Reading
+pub extern "C" fn timo_read(text: &[u8], w: &mut Script) -> Reading
     ensures { λ r. ⌜ ReadsAs (now (text .entry)) (now (w .entry)) (now (w .exit)) r ⌝ }
 {
     text_read::read(text, w)
@@ -47,7 +49,7 @@ pub extern "C" fn timo_read(text: &[u8], w: &mut [u32; 99592]) -> Reading
 
 // Question 17: does the table stand for a network?
 #[no_mangle]
-pub extern "C" fn timo_valid(w: &[u32; 99592], c: &[u32; 3072], n: usize) -> bool
+pub extern "C" fn timo_valid(w: &Script, c: &Words, n: usize) -> bool
     ensures { λ r. ⌜ r ≡ valid (now (w .entry)) (record { c = now (c .entry); n = n }) ⌝ }
 {
     is_valid(w, c, n)
@@ -55,7 +57,7 @@ pub extern "C" fn timo_valid(w: &[u32; 99592], c: &[u32; 3072], n: usize) -> boo
 
 // A single action: questions 17, 8, 9, 10, 11.
 #[no_mangle]
-pub extern "C" fn timo_action(w: &[u32; 99592], st: State, kind: u32, p: usize, q: usize) -> Acted
+pub extern "C" fn timo_action(w: &Script, st: State, kind: u32, p: usize, q: usize) -> Acted
     ensures { λ r. ⌜ actsAs (now (w .entry)) st (actionAnswer (now (w .entry)) st kind p q) r ⌝ }
 {
     action(w, st, kind, p, q)
@@ -63,7 +65,7 @@ pub extern "C" fn timo_action(w: &[u32; 99592], st: State, kind: u32, p: usize, 
 
 // The tick at a location: questions 17, 8, 12, 13.
 #[no_mangle]
-pub extern "C" fn timo_tick(w: &[u32; 99592], st: State, l: u32) -> Ticked
+pub extern "C" fn timo_tick(w: &Script, st: State, l: u32) -> Ticked
     ensures { λ r. ⌜ ticksAs (now (w .entry)) st (tickAnswer (now (w .entry)) st l) r ⌝ }
 {
     tick_at(w, st, l)
@@ -72,8 +74,8 @@ pub extern "C" fn timo_tick(w: &[u32; 99592], st: State, l: u32) -> Ticked
 // The step at a location: questions 17, 8, 15, 13. A refusal leaves the lent components and records as they were.
 #[no_mangle]
 pub extern "C" fn timo_step(
-    w: &[u32; 99592],
-    c: &mut [u32; 3072],
+    w: &Script,
+    c: &mut Words,
     n: usize,
     l: u32,
     records: &mut [[u32; 3]],
@@ -85,7 +87,7 @@ pub extern "C" fn timo_step(
 
 // A proposal: questions 17, 8 for the location, 8 to 11 and 16 for each record, 12, 13.
 #[no_mangle]
-pub extern "C" fn timo_propose(w: &[u32; 99592], st: State, l: u32, records: &[Record]) -> Ticked
+pub extern "C" fn timo_propose(w: &Script, st: State, l: u32, records: &[Record]) -> Ticked
     ensures { λ r. ⌜ ticksAs (now (w .entry)) st (proposeAnswer (now (w .entry)) st l (now (records .entry))) r ⌝ }
 {
     propose(w, st, l, records)
@@ -93,7 +95,7 @@ pub extern "C" fn timo_propose(w: &[u32; 99592], st: State, l: u32, records: &[R
 
 // The forced report: question 17.
 #[no_mangle]
-pub extern "C" fn timo_forced(w: &[u32; 99592], c: &[u32; 3072], n: usize) -> Report
+pub extern "C" fn timo_forced(w: &Script, c: &Words, n: usize) -> Report
     ensures { λ r. ⌜ r ≡ forcedReport (now (w .entry)) (record { c = now (c .entry); n = n }) ⌝ }
 {
     forced_report(w, c, n)
@@ -101,7 +103,7 @@ pub extern "C" fn timo_forced(w: &[u32; 99592], c: &[u32; 3072], n: usize) -> Re
 
 // Writing: questions 17, 14, 15.
 #[no_mangle]
-pub extern "C" fn timo_write(w: &[u32; 99592], c: &[u32; 3072], n: usize, buf: &mut [u8]) -> Written
+pub extern "C" fn timo_write(w: &Script, c: &Words, n: usize, buf: &mut [u8]) -> Written
     ensures { λ r. ⌜ Answers (writeAnswer (now (w .entry)) (record { c = now (c .entry); n = n }) (length (now (buf .entry)))) (now (buf .entry)) r (now (buf .exit)) ⌝ }
 {
     write(w, c, n, buf)
@@ -110,11 +112,11 @@ pub extern "C" fn timo_write(w: &[u32; 99592], c: &[u32; 3072], n: usize, buf: &
 // Comparing: question 17 of both networks.
 #[no_mangle]
 pub extern "C" fn timo_same(
-    w: &[u32; 99592],
-    a: &[u32; 3072],
+    w: &Script,
+    a: &Words,
     n: usize,
-    v: &[u32; 99592],
-    b: &[u32; 3072],
+    v: &Script,
+    b: &Words,
     m: usize,
 ) -> Compared
     ensures { λ r. ⌜ r ≡ compared (sameAnswer (now (w .entry)) (record { c = now (a .entry); n = n }) (now (v .entry)) (record { c = now (b .entry); n = m })) ⌝ }
@@ -124,7 +126,7 @@ pub extern "C" fn timo_same(
 
 // How many locations there are: question 17.
 #[no_mangle]
-pub extern "C" fn timo_locations(w: &[u32; 99592], c: &[u32; 3072], n: usize) -> Counted
+pub extern "C" fn timo_locations(w: &Script, c: &Words, n: usize) -> Counted
     ensures { λ r. ⌜ r ≡ counted (locationsAnswer (now (w .entry)) (record { c = now (c .entry); n = n })) ⌝ }
 {
     locations(w, c, n)
@@ -133,8 +135,8 @@ pub extern "C" fn timo_locations(w: &[u32; 99592], c: &[u32; 3072], n: usize) ->
 // The name of the location numbered l: questions 17, 8, 15.
 #[no_mangle]
 pub extern "C" fn timo_location_name(
-    w: &[u32; 99592],
-    c: &[u32; 3072],
+    w: &Script,
+    c: &Words,
     n: usize,
     l: u32,
     buf: &mut [u8],
@@ -148,8 +150,8 @@ pub extern "C" fn timo_location_name(
 // step-before of run_line; so the records of a step are shown with the components as they were before it (host/proofs/Records).
 #[no_mangle]
 pub extern "C" fn timo_action_label(
-    w: &[u32; 99592],
-    c: &[u32; 3072],
+    w: &Script,
+    c: &Words,
     n: usize,
     kind: u32,
     p: usize,
@@ -163,13 +165,7 @@ pub extern "C" fn timo_action_label(
 
 // The line of the step at a location, from the components before it: questions 17, 8, 13, 15.
 #[no_mangle]
-pub extern "C" fn timo_step_line(
-    w: &[u32; 99592],
-    c: &[u32; 3072],
-    n: usize,
-    l: u32,
-    buf: &mut [u8],
-) -> Written
+pub extern "C" fn timo_step_line(w: &Script, c: &Words, n: usize, l: u32, buf: &mut [u8]) -> Written
     ensures { λ r. ⌜ Answers (lineAnswer (now (w .entry)) (record { c = now (c .entry); n = n }) l (length (now (buf .entry)))) (now (buf .entry)) r (now (buf .exit)) ⌝ }
 {
     step_line(w, c, n, l, buf)

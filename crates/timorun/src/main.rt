@@ -7,9 +7,11 @@ ghost use mathlib.Core.Path.{_≡_};
 ghost use lib.ListN.{length};
 ghost use Rattle.run_print.specs.Pieces.{ProgressOk};
 use run_print::Progress;
+use table::SCRIPT_WORDS;
+use table::Script;
 
 // The pieces that are left, one after the other, each written before the next is made: whether all were written.
-fn show(w: &[u32; 99592], start: Progress, buf: &mut [u8]) -> bool
+fn show(w: &Script, start: Progress, buf: &mut [u8]) -> bool
     requires { ⌜ ProgressOk (now w) start × (length (now buf) ≡ 65536) ⌝ }
 {
     let mut now = start;
@@ -34,7 +36,7 @@ fn main() {
         return;
     }
     let n = r.len;
-    let mut w = [0; 99592];
+    let mut w = [0; SCRIPT_WORDS];
     let start = run_print::begin(&text[..n], &mut w);
     if !show(&w, start, &mut text) {
         run_emit::report(b"timorun: the printout could not be written\n");

@@ -2,7 +2,7 @@
 -- By the law that the labels of the records are those of the step.
 use Prim.Native.Nat.{_+_, _*_}
 use mathlib.Core.Path.{ap}
-use Rattle.table.specs.Words.{nameAt, locName}
+use Rattle.table.specs.Words.{locsAt, nameAt, locName}
 use Rattle.text_write.proofs.Puts.{then, same}
 use Rattle.run_line.specs.Line.{spaced, lineText}
 use Rattle.run_line.proofs.Lines.{held-labels, held-fire}
@@ -39,7 +39,7 @@ unfolding lineText locName
 returns c =
     let k = c .before .before .before .before .before .before .before .before .before .before .before .before .before .before .args in
     let labels = held-labels (k .w .now) (k .st) (k .l) (k .records .now) (k .n) (c .before .before .before .before .before .before .before .before .before .before .before .before .before .before .pre) in
-    then (same (ap (λ n. nameAt (k .w .now) (776 + n * 4)) (c .before .before .before .before .before .before .before .before .before .before .before .before .wide .ensures)) (c .before .before .before .before .before .before .before .before .before .before .put-name .ensures))
+    then (same (ap (λ n. nameAt (k .w .now) (locsAt + n * 4)) (c .before .before .before .before .before .before .before .before .before .before .before .before .wide .ensures)) (c .before .before .before .before .before .before .before .before .before .before .put-name .ensures))
     (then (same (ap spaced labels) (c .before .before .before .before .before .before .put-actions .ensures)) (c .before .before .put .ensures))
 
 pub put-line-spec : {M : Type 1} → statement M

@@ -2,7 +2,7 @@
 -- By what each call puts.
 use Prim.Native.Nat.{_+_, _*_}
 use mathlib.Core.Path.{ap}
-use Rattle.table.specs.Words.{nameAt, locName}
+use Rattle.table.specs.Words.{locsAt, nameAt, locName}
 use Rattle.text_write.proofs.Puts.{then, same}
 use borrow.Author.Needs.{needs}
 use Rattle.run_line.proofs.put_named.Statement.{statement}
@@ -33,7 +33,7 @@ returns : tie.Need-returns
 unfolding locName
 returns c =
     let w = c .before .before .before .before .before .before .before .before .before .before .before .before .before .before .args .w .now in
-    then (c .before .before .before .before .before .before .before .before .before .before .before .put-name .ensures) (then (c .before .before .before .before .before .before .before .put .ensures) (same (ap (λ n. nameAt w (776 + n * 4)) (c .before .before .before .before .wide .ensures)) (c .before .before .put-name2 .ensures)))
+    then (c .before .before .before .before .before .before .before .before .before .before .before .put-name .ensures) (then (c .before .before .before .before .before .before .before .put .ensures) (same (ap (λ n. nameAt w (locsAt + n * 4)) (c .before .before .before .before .wide .ensures)) (c .before .before .put-name2 .ensures)))
 
 pub put-named-spec : {M : Type 1} → statement M
 put-named-spec =

@@ -2,7 +2,7 @@
 -- By what each call puts.
 use Prim.Native.Nat.{_+_, _*_}
 use mathlib.Core.Path.{ap}
-use Rattle.table.specs.Words.{nameAt, locName, chanName}
+use Rattle.table.specs.Words.{chansAt, locsAt, nameAt, locName, chanName}
 use Rattle.text_write.proofs.Puts.{then, same}
 use borrow.Author.Needs.{needs}
 use Rattle.run_line.proofs.put_sent.Statement.{statement}
@@ -60,11 +60,11 @@ returns : tie.Need-returns
 unfolding locName chanName
 returns c =
     let w = c .before .before .before .before .before .before .before .before .before .before .before .before .before .before .before .before .before .before .before .before .before .before .before .before .before .args .w .now in
-    then (same (ap (λ n. nameAt w (1_032 + n * 4)) (c .before .before .before .before .before .before .before .before .before .before .before .before .before .before .before .before .before .before .before .before .before .before .before .wide .ensures)) (c .before .before .before .before .before .before .before .before .before .before .before .before .before .before .before .before .before .before .before .before .before .put-name .ensures))
+    then (same (ap (λ n. nameAt w (chansAt + n * 4)) (c .before .before .before .before .before .before .before .before .before .before .before .before .before .before .before .before .before .before .before .before .before .before .before .wide .ensures)) (c .before .before .before .before .before .before .before .before .before .before .before .before .before .before .before .before .before .before .before .before .before .put-name .ensures))
     (then (c .before .before .before .before .before .before .before .before .before .before .before .before .before .before .before .before .before .put .ensures)
-    (then (same (ap (λ n. nameAt w (776 + n * 4)) (c .before .before .before .before .before .before .before .before .before .before .before .before .before .before .wide2 .ensures)) (c .before .before .before .before .before .before .before .before .before .before .before .before .put-name2 .ensures))
+    (then (same (ap (λ n. nameAt w (locsAt + n * 4)) (c .before .before .before .before .before .before .before .before .before .before .before .before .before .before .wide2 .ensures)) (c .before .before .before .before .before .before .before .before .before .before .before .before .put-name2 .ensures))
     (then (c .before .before .before .before .before .before .before .put-all .ensures)
-    (same (ap (λ n. nameAt w (776 + n * 4)) (c .before .before .before .before .wide3 .ensures)) (c .before .before .put-name3 .ensures)))))
+    (same (ap (λ n. nameAt w (locsAt + n * 4)) (c .before .before .before .before .wide3 .ensures)) (c .before .before .put-name3 .ensures)))))
 
 pub put-sent-spec : {M : Type 1} → statement M
 put-sent-spec =

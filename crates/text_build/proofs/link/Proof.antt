@@ -6,6 +6,7 @@ use Rattle.text_build.specs.Put.{linked}
 use borrow.Author.Needs.{needs}
 use Rattle.text_build.proofs.link.Statement.{statement}
 use Rattle.text_build.proofs.link.Tie as tie
+use Rattle.table.specs.Words.{rowSize, partsAt}
 
 mul-w : tie.Need-mul-w
 mul-w c = search needs
@@ -41,7 +42,7 @@ returns : tie.Need-returns
 unfolding linked
 returns c =
     let i = c .args .i in
-    let e : 1_288 + i * 24 + 7 ≡ suc (1_288 + i * 24 + 6) = omega arith in
+    let e : partsAt + i * rowSize + 7 ≡ suc (partsAt + i * rowSize + 6) = omega arith in
     rw e
 
 pub link-spec : {M : Type 1} → statement M

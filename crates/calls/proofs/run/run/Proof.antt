@@ -1,21 +1,25 @@
 -- `run` meets its contract. The loop's invariant: the calls made so far are a run, and the codes past them are as they were.
 use native.Mathlib.Omega.{arith}
-use mathlib.Core.Path.{_≡_, refl}
+use mathlib.Core.Path.{_≡_, refl, sym, _∙_}
 use borrow.Author.Needs.{needs}
 use Prim.Native.Nat.{_≤_, _-_}
 use lib.ListN.{length}
+use Rattle.table.specs.Valid.{valid}
 use Rattle.calls.proofs.Calls.{Running, running-begin, running-more, running-end}
 use Rattle.calls.proofs.run.run.Statement.{statement}
 use Rattle.calls.proofs.run.run.Tie as tie
 
 abbrev Inv-loop : tie.InvT-loop
-Inv-loop w calls codes₀ n m state₀ j₀ codes state j = (n ≡ length calls) × (m ≡ length codes₀) × (j ≤ n) × Running w state₀ calls codes₀ codes j state
+Inv-loop w calls codes₀ n m good state₀ j₀ codes state j = (n ≡ length calls) × (m ≡ length codes₀) × (j ≤ n) × Running w state₀ calls codes₀ codes j state × (good ≡ valid w state₀)
 
 abbrev μ-loop : tie.MeasureT-loop
-μ-loop w calls codes₀ n m state₀ j₀ codes state j = n - j
+μ-loop w calls codes₀ n m good state₀ j₀ codes state j = n - j
+
+is-valid-requires : tie.Need-is-valid-requires Inv-loop μ-loop
+is-valid-requires c κs = search needs
 
 loop-holds : tie.Need-loop-holds Inv-loop μ-loop
-loop-holds c = (refl, refl, omega arith, running-begin _ _ _ _)
+loop-holds c = (refl, refl, omega arith, running-begin _ _ _ _, c .is-valid .ensures)
 
 same-length : tie.Need-same-length Inv-loop μ-loop
 same-length c = c .before .before .loop .inv .3 .size
@@ -41,7 +45,7 @@ array-read-call-3 : tie.Need-array-read-call-3 Inv-loop μ-loop
 array-read-call-3 c = search needs
 
 call-requires : tie.Need-call-requires Inv-loop μ-loop
-call-requires c κs = search needs
+call-requires c κs = let i = c .before .before .before .loop .inv in i .4 ∙ sym (i .3 .good)
 
 mul-codes : tie.Need-mul-codes Inv-loop μ-loop
 mul-codes c = search needs
@@ -58,7 +62,7 @@ loop-less c = omega arith
 loop-again : tie.Need-loop-again Inv-loop μ-loop
 loop-again c =
     let i = c .before .before .before .before .before .loop .inv in
-    (i .0, i .1, omega arith, running-more _ _ _ _ _ _ _ _ _ (omega arith) (omega arith) (i .3) (c .before .call .ensures))
+    (i .0, i .1, omega arith, running-more _ _ _ _ _ _ _ _ _ (omega arith) (omega arith) (i .3) (c .before .call .ensures), i .4)
 
 same-length-2 : tie.Need-same-length-2 Inv-loop μ-loop
 same-length-2 c = c .before .loop .inv .3 .size
@@ -74,6 +78,7 @@ run-spec =
     (tie.spec
     Inv-loop
     μ-loop
+    is-valid-requires
     loop-holds
     same-length
     returns

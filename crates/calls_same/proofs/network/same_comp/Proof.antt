@@ -5,7 +5,7 @@ use mathlib.Core.Path.{_≡_, ap, sym, _∙_}
 use Rattle.terms.specs.Names.{Name}
 use Rattle.terms.specs.Terms.{Process, Mark}
 use Rattle.terms.specs.Terms.Component.{comp}
-use Rattle.table.specs.Words.{nameAt}
+use Rattle.table.specs.Words.{locsAt, nameAt}
 use Rattle.table.specs.Meaning.{means}
 use Rattle.calls_same.proofs.Decided.{carried, differ, shown, placed, one-answer, equal-decides}
 use Rattle.calls_same.proofs.Networks.{comp-is}
@@ -51,7 +51,7 @@ returns c =
     let k = c .before .before .before .before .args in
     let p = comp-is (k .w .now) (k .c) in
     let q = comp-is (k .v .now) (k .d) in
-    one-answer (differ (placed (λ n. nameAt (k .w .now) (776 + n * 4)) (λ n. nameAt (k .v .now) (776 + n * 4)) (c .before .before .before .wide .ensures) (c .before .before .wide2 .ensures) (c .before .same-name .ensures)) (c .if1 .taken) (λ e. loc-is (sym p ∙ e ∙ q))) (equal-decides (means (k .w .now) (k .c)) (means (k .v .now) (k .d)))
+    one-answer (differ (placed (λ n. nameAt (k .w .now) (locsAt + n * 4)) (λ n. nameAt (k .v .now) (locsAt + n * 4)) (c .before .before .before .wide .ensures) (c .before .before .wide2 .ensures) (c .before .same-name .ensures)) (c .if1 .taken) (λ e. loc-is (sym p ∙ e ∙ q))) (equal-decides (means (k .w .now) (k .c)) (means (k .v .now) (k .d)))
 
 same-held-requires : tie.Need-same-held-requires
 same-held-requires c κs = search needs
@@ -61,7 +61,7 @@ returns-2 c =
     let k = c .before .before .before .before .before .args in
     let p = comp-is (k .w .now) (k .c) in
     let q = comp-is (k .v .now) (k .d) in
-    let l = shown (placed (λ n. nameAt (k .w .now) (776 + n * 4)) (λ n. nameAt (k .v .now) (776 + n * 4)) (c .before .before .before .before .wide .ensures) (c .before .before .before .wide2 .ensures) (c .before .before .same-name .ensures)) (c .before .if1 .left) in
+    let l = shown (placed (λ n. nameAt (k .w .now) (locsAt + n * 4)) (λ n. nameAt (k .v .now) (locsAt + n * 4)) (c .before .before .before .before .wide .ensures) (c .before .before .before .wide2 .ensures) (c .before .before .same-name .ensures)) (c .before .if1 .left) in
     one-answer (carried (c .same-held .ensures) (λ e. p ∙ comp-same l e ∙ sym q) (λ e. held-is (sym p ∙ e ∙ q))) (equal-decides (means (k .w .now) (k .c)) (means (k .v .now) (k .d)))
 
 pub same-comp-spec : {M : Type 1} → statement M

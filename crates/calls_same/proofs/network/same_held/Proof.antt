@@ -7,7 +7,7 @@ use Rattle.terms.specs.Names.{Name}
 use Rattle.terms.specs.Terms.{Part, Process, Mark}
 use Rattle.terms.specs.Terms.Process.{one}
 use Rattle.terms.specs.Terms.Mark.{none, by}
-use Rattle.table.specs.Words.{nameAt}
+use Rattle.table.specs.Words.{locsAt, nameAt}
 use Rattle.text_write.specs.Values.{partSeen, processSeen}
 use Rattle.text_write.proofs.Networks.{comp-place}
 use Rattle.calls_same.proofs.Decided.{never, carried, differ, shown, placed}
@@ -61,7 +61,7 @@ returns-2 c =
     let k = c .before .before .before .before .before .before .before .before .before .before .args in
     let p = marked-parted (k .w .now) (c .before .before .before .before .before .before .before .before .before .before .pre .0) (k .c) (c .before .before .before .before .before .before .before .before .before .before .pre .1) (c .before .before .before .before .before .before .if1 .taken) in
     let q = marked-parted (k .v .now) (c .before .before .before .before .before .before .before .before .before .before .pre .2) (k .d) (c .before .before .before .before .before .before .before .before .before .before .pre .3) (c .before .before .before .before .if2 .left) in
-    differ (placed (λ n. nameAt (k .w .now) (776 + n * 4)) (λ n. nameAt (k .v .now) (776 + n * 4)) (c .before .before .before .wide .ensures) (c .before .before .wide2 .ensures) (c .before .same-name .ensures)) (c .if3 .taken) (λ e. owner-is (sym p ∙ e ∙ q))
+    differ (placed (λ n. nameAt (k .w .now) (locsAt + n * 4)) (λ n. nameAt (k .v .now) (locsAt + n * 4)) (c .before .before .before .wide .ensures) (c .before .before .wide2 .ensures) (c .before .same-name .ensures)) (c .if3 .taken) (λ e. owner-is (sym p ∙ e ∙ q))
 
 wide-requires-3 : tie.Need-wide-requires-3
 wide-requires-3 c κs = search needs
@@ -79,7 +79,7 @@ returns-3 c =
     let k = c .before .before .before .before .before .before .before .before .before .before .before .before .before .before .before .args in
     let p = marked-parted (k .w .now) (c .before .before .before .before .before .before .before .before .before .before .before .before .before .before .before .pre .0) (k .c) (c .before .before .before .before .before .before .before .before .before .before .before .before .before .before .before .pre .1) (c .before .before .before .before .before .before .before .before .before .before .before .if1 .taken) in
     let q = marked-parted (k .v .now) (c .before .before .before .before .before .before .before .before .before .before .before .before .before .before .before .pre .2) (k .d) (c .before .before .before .before .before .before .before .before .before .before .before .before .before .before .before .pre .3) (c .before .before .before .before .before .before .before .before .before .if2 .left) in
-    let o = shown (placed (λ n. nameAt (k .w .now) (776 + n * 4)) (λ n. nameAt (k .v .now) (776 + n * 4)) (c .before .before .before .before .before .before .before .before .wide .ensures) (c .before .before .before .before .before .before .before .wide2 .ensures) (c .before .before .before .before .before .before .same-name .ensures)) (c .before .before .before .before .before .if3 .left) in
+    let o = shown (placed (λ n. nameAt (k .w .now) (locsAt + n * 4)) (λ n. nameAt (k .v .now) (locsAt + n * 4)) (c .before .before .before .before .before .before .before .before .wide .ensures) (c .before .before .before .before .before .before .before .wide2 .ensures) (c .before .before .before .before .before .before .same-name .ensures)) (c .before .before .before .before .before .if3 .left) in
     carried (placed (λ z. processSeen (k .w .now) z (k .c .vals)) (λ z. processSeen (k .v .now) z (k .d .vals)) (c .before .before .before .before .wide3 .ensures) (c .before .before .wide4 .ensures) (c .same-process .ensures))
     (λ e. p ∙ owned-same o e ∙ sym q) (λ e. ap (λ z. z .1) (sym p ∙ e ∙ q))
 

@@ -4,7 +4,7 @@ use Prim.Native.Nat.{ℕ, _+_, _-_, _*_, _≤_, _<_}
 use native.Mathlib.Omega.{arith}
 use mathlib.Core.Path.{_≡_, sym, _∙_}
 use borrow.Author.Count.{below-more}
-use Rattle.table.specs.Words.{nameAt, arityOf}
+use Rattle.table.specs.Words.{rowSize, nameAt, arityOf}
 use Rattle.table.proofs.Tests.{script-fine, def-fine}
 use Rattle.calls_same.proofs.Decided.{never, always, differ, shown}
 use Rattle.calls_same.proofs.Fronts.{params-same, params-at, params-long}
@@ -13,7 +13,7 @@ use Rattle.calls_same.proofs.network.same_params.Statement.{statement}
 use Rattle.calls_same.proofs.network.same_params.Tie as tie
 
 abbrev Inv-loop : tie.InvT-loop
-Inv-loop w d v e n k₀ k = (n ≤ 4) × (k ≤ n) × (arityOf w d ≡ n) × (arityOf v e ≡ n) × ((m : ℕ) → m < k → nameAt w (14 + d * 24 + m * 4) ≡ nameAt v (14 + e * 24 + m * 4))
+Inv-loop w d v e n k₀ k = (n ≤ 4) × (k ≤ n) × (arityOf w d ≡ n) × (arityOf v e ≡ n) × ((m : ℕ) → m < k → nameAt w (14 + d * rowSize + m * 4) ≡ nameAt v (14 + e * rowSize + m * 4))
 
 abbrev μ-loop : tie.MeasureT-loop
 μ-loop w d v e n k₀ k = n - k

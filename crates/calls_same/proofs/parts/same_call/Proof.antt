@@ -7,7 +7,7 @@ use mathlib.Core.Path.{_≡_, sym, _∙_}
 use Rattle.terms.specs.Names.{Name}
 use Rattle.terms.specs.Terms.{Value}
 use Rattle.terms.specs.Terms.Part.{call}
-use Rattle.table.specs.Words.{nameAt, defName, field}
+use Rattle.table.specs.Words.{rowSize, nameAt, defName, field}
 use Rattle.text_write.proofs.Heads.{place-small}
 use Rattle.calls_same.specs.Pieces.{argsSeen, callSeen}
 use Rattle.calls_same.proofs.Decided.{never, carried, differ, shown, placed}
@@ -71,7 +71,7 @@ returns-2 : tie.Need-returns-2
 unfolding callSeen defName
 returns-2 c =
     let k = c .before .before .before .before .before .before .before .before .before .args in
-    differ (placed (λ n. nameAt (k .w .now) (10 + n * 24)) (λ n. nameAt (k .v .now) (10 + n * 24)) (c .before .before .before .before .wide .ensures ∙ c .before .before .before .before .before .field3 .ensures) (c .before .before .wide2 .ensures ∙ c .before .before .before .field4 .ensures) (c .before .same-name .ensures)) (c .if2 .taken) name-is
+    differ (placed (λ n. nameAt (k .w .now) (10 + n * rowSize)) (λ n. nameAt (k .v .now) (10 + n * rowSize)) (c .before .before .before .before .wide .ensures ∙ c .before .before .before .before .before .field3 .ensures) (c .before .before .wide2 .ensures ∙ c .before .before .before .field4 .ensures) (c .before .same-name .ensures)) (c .if2 .taken) name-is
 
 wide-requires-3 : tie.Need-wide-requires-3
 wide-requires-3 c κs = search needs
@@ -89,7 +89,7 @@ returns-3 : tie.Need-returns-3
 unfolding callSeen defName
 returns-3 c =
     let k = c .before .before .before .before .before .before .before .before .before .before .before .args in
-    let d = placed (λ n. nameAt (k .w .now) (10 + n * 24)) (λ n. nameAt (k .v .now) (10 + n * 24)) (c .before .before .before .before .before .before .wide .ensures ∙ c .before .before .before .before .before .before .before .field3 .ensures) (c .before .before .before .before .wide2 .ensures ∙ c .before .before .before .before .before .field4 .ensures) (c .before .before .before .same-name .ensures) in
+    let d = placed (λ n. nameAt (k .w .now) (10 + n * rowSize)) (λ n. nameAt (k .v .now) (10 + n * rowSize)) (c .before .before .before .before .before .before .wide .ensures ∙ c .before .before .before .before .before .before .before .field3 .ensures) (c .before .before .before .before .wide2 .ensures ∙ c .before .before .before .before .before .field4 .ensures) (c .before .before .before .same-name .ensures) in
     carried (placed (argsSeen (k .w .now) (k .i) (k .vals .now)) (argsSeen (k .v .now) (k .j) (k .vals2 .now)) (c .before .wide3 .ensures ∙ c .before .before .before .before .before .before .before .before .before .before .field .ensures) (c .before .wide3 .ensures ∙ c .before .before .before .before .before .before .before .before .if1 .left ∙ c .before .before .before .before .before .before .before .before .before .field2 .ensures) (c .same-args .ensures))
     (λ e. call-same (shown d (c .before .before .if2 .left)) e) args-are
 

@@ -2,7 +2,7 @@
 -- By where the names stand.
 use Prim.Native.Nat.{_+_, _*_}
 use mathlib.Core.Path.{_∙_}
-use Rattle.table.specs.Words.{nameAt, chanName}
+use Rattle.table.specs.Words.{chansAt, nameAt, chanName}
 use Rattle.calls_same.proofs.Decided.{placed}
 use borrow.Author.Needs.{needs}
 use Rattle.calls_same.proofs.parts.same_channel.Statement.{statement}
@@ -39,7 +39,7 @@ returns : tie.Need-returns
 unfolding chanName
 returns c =
     let k = c .before .before .before .before .before .args in
-    placed (λ n. nameAt (k .w .now) (1_032 + n * 4)) (λ n. nameAt (k .v .now) (1_032 + n * 4)) (c .before .before .before .wide .ensures ∙ c .before .before .before .before .field .ensures) (c .before .wide2 .ensures ∙ c .before .before .field2 .ensures) (c .same-name .ensures)
+    placed (λ n. nameAt (k .w .now) (chansAt + n * 4)) (λ n. nameAt (k .v .now) (chansAt + n * 4)) (c .before .before .before .wide .ensures ∙ c .before .before .before .before .field .ensures) (c .before .wide2 .ensures ∙ c .before .before .field2 .ensures) (c .same-name .ensures)
 
 pub same-channel-spec : {M : Type 1} → statement M
 same-channel-spec =

@@ -7,7 +7,7 @@ use mathlib.Core.Path.{_≡_, ap, sym, _∙_}
 use borrow.Author.Tests.{lt-ltb, le-ltb}
 use Rattle.terms.specs.Names.{Name}
 use Rattle.terms.specs.Terms.Value.{loc, var}
-use Rattle.table.specs.Words.{nameAt, locName, field}
+use Rattle.table.specs.Words.{locsAt, nameAt, locName, field}
 use Rattle.calls_same.specs.Pieces.{named}
 use Rattle.calls_same.proofs.Decided.{never, carried, placed}
 use borrow.Author.Needs.{needs}
@@ -23,7 +23,7 @@ loc-is e = cc
 var-is : {x y : Name} → var x ≡ var y → x ≡ y
 var-is e = cc
 
-location : (w : List ℕ) (i a : ℕ) → a < 64 → named w i a ≡ loc (nameAt w (776 + a * 4))
+location : (w : List ℕ) (i a : ℕ) → a < 64 → named w i a ≡ loc (nameAt w (locsAt + a * 4))
 unfolding named locName
 location w i a h = rw (lt-ltb a 64 h)
 
@@ -62,7 +62,7 @@ returns-2 c =
     let k = c .before .before .before .before .before .args in
     let p = location (k .w .now) (k .i) (k .a) (omega (arith, c .before .before .before .before .wide .ensures, c .before .before .if1 .taken)) in
     let q = location (k .v .now) (k .j) (k .b) (omega (arith, c .before .before .before .wide2 .ensures, c .before .if2 .left)) in
-    carried (placed (λ n. nameAt (k .w .now) (776 + n * 4)) (λ n. nameAt (k .v .now) (776 + n * 4)) (c .before .before .before .before .wide .ensures) (c .before .before .before .wide2 .ensures) (c .same-name .ensures))
+    carried (placed (λ n. nameAt (k .w .now) (locsAt + n * 4)) (λ n. nameAt (k .v .now) (locsAt + n * 4)) (c .before .before .before .before .wide .ensures) (c .before .before .before .wide2 .ensures) (c .same-name .ensures))
     (λ e. p ∙ ap loc e ∙ sym q) (λ e. loc-is (sym p ∙ e ∙ q))
 
 returns-3 : tie.Need-returns-3

@@ -5,6 +5,7 @@ use Rattle.table.proofs.Stores.{twelve-stores}
 use borrow.Author.Needs.{needs}
 use Rattle.table.proofs.comps.put_comp.Statement.{statement}
 use Rattle.table.proofs.comps.put_comp.Tie as tie
+use Rattle.table.specs.Words.{compSize}
 
 mul-o : tie.Need-mul-o
 mul-o c = search needs
@@ -142,7 +143,7 @@ returns : tie.Need-returns
 returns c =
     let a = c .before .args in
     let v = a .x .vals in
-    twelve-stores (a .c .now) (a .i * 12) (a .x .loc) (a .x .mark) (a .x .place) (a .x .timer) (getD v 0 0) (getD v 1 0) (getD v 2 0) (getD v 3 0) (getD v 4 0) (getD v 5 0) (getD v 6 0) (getD v 7 0)
+    twelve-stores (a .c .now) (a .i * compSize) (a .x .loc) (a .x .mark) (a .x .place) (a .x .timer) (getD v 0 0) (getD v 1 0) (getD v 2 0) (getD v 3 0) (getD v 4 0) (getD v 5 0) (getD v 6 0) (getD v 7 0)
 
 pub put-comp-spec : {M : Type 1} → statement M
 put-comp-spec =

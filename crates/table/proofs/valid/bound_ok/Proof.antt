@@ -7,7 +7,7 @@ use mathlib.Core.Bool.{true, false}
 use lib.Dec.{eqb}
 use borrow.Author.Tests.{eq-eqb, ne-eqb}
 use borrow.Author.Needs.{needs}
-use Rattle.table.specs.Words.{field, atMost8, ownAt}
+use Rattle.table.specs.Words.{rowSize, ownsAt, field, atMost8, ownAt}
 use Rattle.table.specs.Valid.{innerOk}
 use Rattle.table.proofs.ValidScopes.{inner-high, entered-found, bound-uneven, bound-is}
 use Rattle.table.proofs.ValidBool.{and-false, and-true}
@@ -67,7 +67,7 @@ returns-4 c =
     let k : c .before .before .before .before .before .before .before .before .wide .result ≡ a .k = c .before .before .before .before .before .before .before .before .wide .ensures in
     let e : c .before .before .before .before .at-most-8 .result ≡ atMost8 (field (a .w .now) (a .p) 8) = c .before .before .before .before .at-most-8 .ensures ∙ ap atMost8 (c .before .before .before .before .before .field .ensures) in
     let f : c .before .wide2 .result ≡ field (a .w .now) (a .p) (9 + a .n) = c .before .wide2 .ensures ∙ c .before .before .field2 .ensures in
-    let n : eqb (field (a .w .now) (a .p) (9 + a .n)) (1_305 + a .i * 24) ≡ false = ne-eqb _ _ (λ z. c .if4 .taken (f ∙ z)) in
+    let n : eqb (field (a .w .now) (a .p) (9 + a .n)) (ownsAt + a .i * rowSize) ≡ false = ne-eqb _ _ (λ z. c .if4 .taken (f ∙ z)) in
     sym (bound-is (a .w .now) (a .i) (a .n) (c .before .before .before .before .before .before .before .before .before .pre) (a .p) (a .k) (omega (arith, k)) (omega arith) (sym e ∙ c .before .before .before .if3 .left) ∙ simp (n, and-false))
 
 same-slots-requires : tie.Need-same-slots-requires
@@ -80,7 +80,7 @@ returns-5 c =
     let k : c .before .before .before .before .before .before .before .before .before .wide .result ≡ a .k = c .before .before .before .before .before .before .before .before .before .wide .ensures in
     let e : c .before .before .before .before .before .at-most-8 .result ≡ atMost8 (field (a .w .now) (a .p) 8) = c .before .before .before .before .before .at-most-8 .ensures ∙ ap atMost8 (c .before .before .before .before .before .before .field .ensures) in
     let f : c .before .before .wide2 .result ≡ field (a .w .now) (a .p) (9 + a .n) = c .before .before .wide2 .ensures ∙ c .before .before .before .field2 .ensures in
-    let n : eqb (field (a .w .now) (a .p) (9 + a .n)) (1_305 + a .i * 24) ≡ true = eq-eqb _ _ (sym f ∙ c .before .if4 .left) in
+    let n : eqb (field (a .w .now) (a .p) (9 + a .n)) (ownsAt + a .i * rowSize) ≡ true = eq-eqb _ _ (sym f ∙ c .before .if4 .left) in
     c .same-slots .ensures
     ∙ sym (bound-is (a .w .now) (a .i) (a .n) (c .before .before .before .before .before .before .before .before .before .before .pre) (a .p) (a .k) (omega (arith, k)) (omega arith) (sym e ∙ c .before .before .before .before .if3 .left) ∙ simp (n, and-true))
 

@@ -8,7 +8,7 @@ use lib.Dec.{eqb}
 use borrow.Author.Tests.{eq-eqb, ne-eqb}
 use borrow.Author.Needs.{needs}
 use Rattle.terms.specs.Letters.{isName, isSmall}
-use Rattle.table.specs.Words.{field, namesAt, nameAt, ownAt, boundAt}
+use Rattle.table.specs.Words.{rowSize, ownsAt, field, namesAt, nameAt, ownAt, boundAt}
 use Rattle.table.specs.Valid.{innerOk, headOk, stacked, floor, index, entered}
 use Rattle.table.specs.Tests.{restOk, sendOk, firstOf}
 use Rattle.table.specs.declared.Sort.the-variants.{Small}
@@ -35,7 +35,7 @@ returns c =
     let a = c .before .before .before .args in
     let w = a .w .now in
     let i = a .i in
-    let y : isName (firstOf Small) (nameAt w (1_305 + i * 24)) ≡ false = failed (c .if1 .taken) (c .before .is-name .ensures ∙ ap (isName (firstOf Small)) (c .before .before .key-at .ensures)) in
+    let y : isName (firstOf Small) (nameAt w (ownsAt + i * rowSize)) ≡ false = failed (c .if1 .taken) (c .before .is-name .ensures ∙ ap (isName (firstOf Small)) (c .before .before .key-at .ensures)) in
     simp (y, and-false)
 
 field-requires : tie.Need-field-requires
@@ -54,8 +54,8 @@ returns-2 c =
     let w = a .w .now in
     let i = a .i in
     let k : c .before .wide .result ≡ field w i 3 = c .before .wide .ensures ∙ c .before .before .before .field .ensures in
-    let j : c .before .before .find-slot .result ≡ index (namesAt w i) (nameAt w (1_305 + i * 24)) = c .before .before .find-slot .ensures ∙ ap (index (namesAt w i)) (c .before .before .before .before .before .before .key-at .ensures) in
-    let x : eqb (index (namesAt w i) (nameAt w (1_305 + i * 24))) (field w i 3) ≡ false = ne-eqb (index (namesAt w i) (nameAt w (1_305 + i * 24))) (field w i 3) (λ z. c .if2 .taken (j ∙ z ∙ sym k)) in
+    let j : c .before .before .find-slot .result ≡ index (namesAt w i) (nameAt w (ownsAt + i * rowSize)) = c .before .before .find-slot .ensures ∙ ap (index (namesAt w i)) (c .before .before .before .before .before .before .key-at .ensures) in
+    let x : eqb (index (namesAt w i) (nameAt w (ownsAt + i * rowSize))) (field w i 3) ≡ false = ne-eqb (index (namesAt w i) (nameAt w (ownsAt + i * rowSize))) (field w i 3) (λ z. c .if2 .taken (j ∙ z ∙ sym k)) in
     simp (x, and-false)
 
 field-requires-2 : tie.Need-field-requires-2
@@ -93,10 +93,10 @@ returns-4 c =
     let a = c .before .before .before .before .before .before .before .before .before .before .before .before .args in
     let w = a .w .now in
     let i = a .i in
-    let y : isName (firstOf Small) (nameAt w (1_305 + i * 24)) ≡ true = passed (c .before .before .before .before .before .before .before .before .before .if1 .left) (c .before .before .before .before .before .before .before .before .before .before .is-name .ensures ∙ ap (isName (firstOf Small)) (c .before .before .before .before .before .before .before .before .before .before .before .key-at .ensures)) in
+    let y : isName (firstOf Small) (nameAt w (ownsAt + i * rowSize)) ≡ true = passed (c .before .before .before .before .before .before .before .before .before .if1 .left) (c .before .before .before .before .before .before .before .before .before .before .is-name .ensures ∙ ap (isName (firstOf Small)) (c .before .before .before .before .before .before .before .before .before .before .before .key-at .ensures)) in
     let k : c .before .before .before .before .before .before .wide .result ≡ field w i 3 = c .before .before .before .before .before .before .wide .ensures ∙ c .before .before .before .before .before .before .before .before .field .ensures in
-    let j : c .before .before .before .before .before .before .before .find-slot .result ≡ index (namesAt w i) (nameAt w (1_305 + i * 24)) = c .before .before .before .before .before .before .before .find-slot .ensures ∙ ap (index (namesAt w i)) (c .before .before .before .before .before .before .before .before .before .before .before .key-at .ensures) in
-    let x : eqb (index (namesAt w i) (nameAt w (1_305 + i * 24))) (field w i 3) ≡ true = eq-eqb (index (namesAt w i) (nameAt w (1_305 + i * 24))) (field w i 3) (sym j ∙ c .before .before .before .before .before .if2 .left ∙ k) in
+    let j : c .before .before .before .before .before .before .before .find-slot .result ≡ index (namesAt w i) (nameAt w (ownsAt + i * rowSize)) = c .before .before .before .before .before .before .before .find-slot .ensures ∙ ap (index (namesAt w i)) (c .before .before .before .before .before .before .before .before .before .before .before .key-at .ensures) in
+    let x : eqb (index (namesAt w i) (nameAt w (ownsAt + i * rowSize))) (field w i 3) ≡ true = eq-eqb (index (namesAt w i) (nameAt w (ownsAt + i * rowSize))) (field w i 3) (sym j ∙ c .before .before .before .before .before .if2 .left ∙ k) in
     let p : c .before .before .before .wide2 .result ≡ field w i 4 = c .before .before .before .wide2 .ensures ∙ c .before .before .before .before .field2 .ensures in
     let n : innerOk w i (field w i 4) (entered w i (field w i 3)) ≡ true = passed (c .before .if3 .left) (c .before .before .bound-ok .ensures ∙ ap (λ o. innerOk w i o (entered w i (c .before .before .before .before .before .before .before .before .field .result))) p ∙ ap (λ o. innerOk w i (field w i 4) (entered w i o)) (c .before .before .before .before .before .before .before .before .field .ensures)) in
     c .send-ok .ensures ∙ simp (y, x, n)

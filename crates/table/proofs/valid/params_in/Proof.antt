@@ -5,13 +5,13 @@ use native.Mathlib.Omega.{arith}
 use mathlib.Core.Path.{_≡_, sym, ap, _∙_}
 use borrow.Author.Needs.{needs}
 use borrow.Author.Count.{below-none, below-more}
-use Rattle.table.specs.Words.{field, atMost8}
+use Rattle.table.specs.Words.{rowSize, field, atMost8}
 use Rattle.table.proofs.ValidDefs.{params-uneven, params-differ, params-alike}
 use Rattle.table.proofs.valid.params_in.Statement.{statement}
 use Rattle.table.proofs.valid.params_in.Tie as tie
 
 abbrev Inv-loop : tie.InvT-loop
-Inv-loop w d b a m k₀ k = (m ≡ a) × (k ≤ a) × ((j : ℕ) → j < k → field w b (9 + j) ≡ 14 + d * 24 + j * 4)
+Inv-loop w d b a m k₀ k = (m ≡ a) × (k ≤ a) × ((j : ℕ) → j < k → field w b (9 + j) ≡ 14 + d * rowSize + j * 4)
 
 abbrev μ-loop : tie.MeasureT-loop
 μ-loop w d b a m k₀ k = a - k

@@ -8,13 +8,13 @@ use lib.Dec.{ltb}
 use borrow.Author.Needs.{needs}
 use borrow.Author.Count.{below-none, below-more}
 use borrow.Author.Tests.{lt-ltb, le-ltb}
-use Rattle.table.specs.Words.{field}
+use Rattle.table.specs.Words.{lastName, field}
 use Rattle.table.proofs.ValidScopes.{scope-every, scope-miss}
 use Rattle.table.proofs.valid.slots_in.Statement.{statement}
 use Rattle.table.proofs.valid.slots_in.Tie as tie
 
 abbrev Inv-loop : tie.InvT-loop
-Inv-loop w i n k₀ k = (k ≤ n) × ((j : ℕ) → j < k → ltb (field w i (9 + j)) 99_589 ≡ true)
+Inv-loop w i n k₀ k = (k ≤ n) × ((j : ℕ) → j < k → ltb (field w i (9 + j)) lastName ≡ true)
 
 abbrev μ-loop : tie.MeasureT-loop
 μ-loop w i n k₀ k = n - k
@@ -32,7 +32,7 @@ returns : tie.Need-returns Inv-loop μ-loop
 returns c =
     let a = c .before .before .before .before .args in
     let l = c .before .before .before .loop in
-    sym (scope-miss (a .w .now) (a .i) (a .n) (c .before .before .before .before .pre) (λ o. ltb o 99_589) (l .k) (omega arith) (le-ltb (field (a .w .now) (a .i) (9 + l .k)) 99_589 (omega (arith, c .before .field .ensures))))
+    sym (scope-miss (a .w .now) (a .i) (a .n) (c .before .before .before .before .pre) (λ o. ltb o lastName) (l .k) (omega arith) (le-ltb (field (a .w .now) (a .i) (9 + l .k)) lastName (omega (arith, c .before .field .ensures))))
 
 add-k : tie.Need-add-k Inv-loop μ-loop
 add-k c = omega arith
@@ -44,12 +44,12 @@ loop-again : tie.Need-loop-again Inv-loop μ-loop
 loop-again c =
     let a = c .before .before .before .before .args in
     let l = c .before .before .before .loop in
-    (omega arith, below-more _ _ (l .inv .1) (lt-ltb (field (a .w .now) (a .i) (9 + l .k)) 99_589 (omega (arith, c .before .field .ensures))))
+    (omega arith, below-more _ _ (l .inv .1) (lt-ltb (field (a .w .now) (a .i) (9 + l .k)) lastName (omega (arith, c .before .field .ensures))))
 
 returns-2 : tie.Need-returns-2 Inv-loop μ-loop
 returns-2 c =
     let a = c .before .before .args in
-    sym (scope-every (a .w .now) (a .i) (a .n) (c .before .before .pre) (λ o. ltb o 99_589) (λ k b. c .before .loop .inv .1 k (omega arith)))
+    sym (scope-every (a .w .now) (a .i) (a .n) (c .before .before .pre) (λ o. ltb o lastName) (λ k b. c .before .loop .inv .1 k (omega arith)))
 
 pub slots-in-spec : {M : Type 1} → statement M
 slots-in-spec =

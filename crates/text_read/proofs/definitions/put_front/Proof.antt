@@ -5,6 +5,7 @@ use mathlib.Core.Path.{_≡_, _∙_}
 use borrow.Author.Needs.{needs}
 use Rattle.text_read.proofs.definitions.put_front.Statement.{statement}
 use Rattle.text_read.proofs.definitions.put_front.Tie as tie
+use Rattle.table.specs.Words.{rowSize}
 
 mul-w : tie.Need-mul-w
 mul-w c = search needs
@@ -48,8 +49,8 @@ put-key-requires c κs = search needs
 returns : tie.Need-returns
 returns c =
     let k = c .before .before .args .k in
-    let e₁ : 8 + k * 24 + 1 ≡ suc (8 + k * 24) = omega arith in
-    let e₂ : 8 + k * 24 + 2 ≡ suc (suc (8 + k * 24)) = omega arith in
+    let e₁ : 8 + k * rowSize + 1 ≡ suc (8 + k * rowSize) = omega arith in
+    let e₂ : 8 + k * rowSize + 2 ≡ suc (suc (8 + k * rowSize)) = omega arith in
     c .put-key .ensures ∙ rw (e₁, e₂)
 
 pub put-front-spec : {M : Type 1} → statement M

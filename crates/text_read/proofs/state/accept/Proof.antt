@@ -6,7 +6,7 @@ use mathlib.Core.Path.{_≡_, refl, sym, ap, _∙_}
 use lib.ListN.{length, take}
 use lib.Seq.{length-sets, length-take-le}
 use borrow.Author.Needs.{needs}
-use Rattle.table.specs.Words.{word}
+use Rattle.table.specs.Words.{compSize, stateWords, word}
 use Rattle.table.specs.Meaning.{listFrom, compIn, wordsIn, compsOf}
 use Rattle.text_tree.specs.Asked.{compOf}
 use Rattle.text_read.proofs.States.{made-on, zeros-past, past-on}
@@ -14,14 +14,14 @@ use Rattle.text_read.proofs.state.accept.Statement.{statement}
 use Rattle.text_read.proofs.state.accept.Tie as tie
 
 abbrev Inv-loop : tie.InvT-loop
-Inv-loop w out n r₀ j₀ r j = (j ≤ n) × (r .state .n ≡ n) × (length (r .state .c) ≡ 3_072) × (listFrom 0 j (compIn (r .state .c)) ≡ map (compOf w) (take j out)) × ((k : ℕ) → j * 12 ≤ k → word (r .state .c) k ≡ 0) × (r .code ≡ 0)
+Inv-loop w out n r₀ j₀ r j = (j ≤ n) × (r .state .n ≡ n) × (length (r .state .c) ≡ stateWords) × (listFrom 0 j (compIn (r .state .c)) ≡ map (compOf w) (take j out)) × ((k : ℕ) → j * compSize ≤ k → word (r .state .c) k ≡ 0) × (r .code ≡ 0)
 
 abbrev μ-loop : tie.MeasureT-loop
 μ-loop w out n r₀ j₀ r j = n - j
 
 loop-holds : tie.Need-loop-holds Inv-loop μ-loop
 unfolding listFrom
-loop-holds c = (omega arith, refl, refl, refl, λ k h. zeros-past 3_072 k, refl)
+loop-holds c = (omega arith, refl, refl, refl, λ k h. zeros-past stateWords k, refl)
 
 mul-y : tie.Need-mul-y Inv-loop μ-loop
 mul-y c = let q = c .before .before .pre in let h = c .loop-test .taken in omega arith
@@ -55,7 +55,7 @@ loop-again c =
     let l = c .before .before .before .before .before .loop in
     let h = c .before .before .before .before .loop-test .taken in
     let v = l .inv in
-    (omega arith, v .1, ap length (c .put-comp .ensures) ∙ length-sets (l .r .state .c) (l .j * 12) (wordsIn (c .before .before .comp-of .result)) ∙ v .2, rw (c .put-comp .ensures, c .before .before .comp-of .ensures) (made-on (compOf (a .w .now)) (a .out .now) (l .r .state .c) (l .j) [] (omega arith) (omega arith) (v .2) refl (v .3)), rw (c .put-comp .ensures) (past-on (l .r .state .c) (l .j) (c .before .before .comp-of .result) (v .4)), v .5)
+    (omega arith, v .1, ap length (c .put-comp .ensures) ∙ length-sets (l .r .state .c) (l .j * compSize) (wordsIn (c .before .before .comp-of .result)) ∙ v .2, rw (c .put-comp .ensures, c .before .before .comp-of .ensures) (made-on (compOf (a .w .now)) (a .out .now) (l .r .state .c) (l .j) [] (omega arith) (omega arith) (v .2) refl (v .3)), rw (c .put-comp .ensures) (past-on (l .r .state .c) (l .j) (c .before .before .comp-of .result) (v .4)), v .5)
 
 returns : tie.Need-returns Inv-loop μ-loop
 unfolding compsOf

@@ -2,7 +2,7 @@
 -- By what an unmarked component stands for.
 use Prim.Native.Nat.{_+_, _*_}
 use mathlib.Core.Path.{ap}
-use Rattle.table.specs.Words.{nameAt}
+use Rattle.table.specs.Words.{locsAt, nameAt}
 use Rattle.text_write.specs.Forms.{partText}
 use Rattle.text_write.specs.Values.{partSeen}
 use Rattle.text_write.proofs.Puts.{then, same}
@@ -42,7 +42,7 @@ returns : tie.Need-returns
 returns c =
     let k = c .before .before .before .before .before .before .before .before .before .before .before .before .before .before .before .before .before .before .before .before .before .args in
     same (comp-written (k .w .now) (c .before .before .before .before .before .before .before .before .before .before .before .before .before .before .before .before .before .before .before .before .before .pre .0) (k .c) (c .before .before .before .before .before .before .before .before .before .before .before .before .before .before .before .before .before .before .before .before .before .pre .1) (c .before .before .before .before .before .before .before .before .before .before .before .before .before .before .before .before .before .before .before .before .before .pre .2))
-    (then (same (ap (λ n. nameAt (k .w .now) (776 + n * 4)) (c .before .before .before .before .before .before .before .before .before .before .before .before .before .before .before .before .before .before .wide .ensures)) (c .before .before .before .before .before .before .before .before .before .before .before .before .before .before .before .before .put-name .ensures))
+    (then (same (ap (λ n. nameAt (k .w .now) (locsAt + n * 4)) (c .before .before .before .before .before .before .before .before .before .before .before .before .before .before .before .before .before .before .wide .ensures)) (c .before .before .before .before .before .before .before .before .before .before .before .before .before .before .before .before .put-name .ensures))
     (then (c .before .before .before .before .before .before .before .before .before .before .before .before .put .ensures)
     (then (same (ap (λ n. partText (partSeen (k .w .now) n (k .c .timer) (k .c .vals))) (c .before .before .before .before .before .before .before .before .before .wide2 .ensures)) (c .before .before .before .before .before .before .write-part .ensures)) (c .before .before .put2 .ensures))))
 

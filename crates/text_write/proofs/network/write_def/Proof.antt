@@ -6,7 +6,7 @@ use mathlib.Core.List.{List, _∷_, [], map}
 use mathlib.Core.Bool.{true}
 use mathlib.Core.Path.{_≡_, refl, ap, _∙_}
 use lib.ListN.{take, replicate}
-use Rattle.table.specs.Words.{nameAt, defsIn}
+use Rattle.table.specs.Words.{rowSize, nameAt, defsIn}
 use Rattle.table.specs.Valid.{scriptOk}
 use Rattle.table.proofs.Tests.{script-fine, def-fine}
 use Rattle.text_write.specs.Forms.{listed, processText}
@@ -88,7 +88,7 @@ returns : tie.Need-returns
 returns c =
     let w = c .before .before .before .before .before .before .before .before .before .before .before .before .before .before .before .before .before .before .before .before .before .before .before .before .before .before .before .before .args .w .now in
     let d = c .before .before .before .before .before .before .before .before .before .before .before .before .before .before .before .before .before .before .before .before .before .before .before .before .before .before .before .before .args .d in
-    let names = same (ap (λ n. listed (map (nameAt w) (take n ((14 + d * 24) ∷ (18 + d * 24) ∷ (22 + d * 24) ∷ (26 + d * 24) ∷ [])))) (c .before .before .before .before .before .before .before .before .before .before .before .before .before .before .before .before .before .before .before .before .wide .ensures ∙ c .before .before .before .before .before .before .before .before .before .before .before .before .before .before .before .before .before .before .before .before .before .arity-of .ensures)) (c .before .before .before .before .before .before .before .before .before .before .before .before .before .before .before .before .before .before .put-list .ensures) in
+    let names = same (ap (λ n. listed (map (nameAt w) (take n ((14 + d * rowSize) ∷ (18 + d * rowSize) ∷ (22 + d * rowSize) ∷ (26 + d * rowSize) ∷ [])))) (c .before .before .before .before .before .before .before .before .before .before .before .before .before .before .before .before .before .before .before .before .wide .ensures ∙ c .before .before .before .before .before .before .before .before .before .before .before .before .before .before .before .before .before .before .before .before .before .arity-of .ensures)) (c .before .before .before .before .before .before .before .before .before .before .before .before .before .before .before .before .before .before .put-list .ensures) in
     let body = same (ap (λ n. processText (processSeen w n (replicate 8 64))) (c .before .before .before .before .before .before .before .before .before .wide2 .ensures ∙ c .before .before .before .before .before .before .before .before .before .before .body-of .ensures)) (c .before .before .before .before .before .before .write-process .ensures) in
     same (def-written w d) (then (c .before .before .before .before .before .before .before .before .before .before .before .before .before .before .before .before .before .before .before .before .before .before .before .before .before .put-name .ensures) (then names (then (c .before .before .before .before .before .before .before .before .before .before .before .before .before .put-all .ensures) (then body (c .before .before .put-end .ensures)))))
 

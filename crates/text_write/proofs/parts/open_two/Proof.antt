@@ -2,7 +2,7 @@
 -- By what each call puts.
 use Prim.Native.Nat.{_+_, _*_}
 use mathlib.Core.Path.{ap}
-use Rattle.table.specs.Words.{nameAt, chanName}
+use Rattle.table.specs.Words.{chansAt, nameAt, chanName}
 use Rattle.text_write.proofs.Puts.{then, same}
 use borrow.Author.Needs.{needs}
 use Rattle.text_write.proofs.parts.open_two.Statement.{statement}
@@ -35,7 +35,7 @@ same-length c = search needs
 returns : tie.Need-returns
 unfolding chanName
 returns c =
-    let named = same (ap (λ n. nameAt (c .before .before .before .before .before .before .before .before .before .before .before .before .before .before .before .before .before .before .before .args .w .now) (1_032 + n * 4)) (c .before .before .before .before .before .before .before .before .before .before .before .before .wide .ensures)) (c .before .before .before .before .before .before .before .before .before .before .put-name .ensures) in
+    let named = same (ap (λ n. nameAt (c .before .before .before .before .before .before .before .before .before .before .before .before .before .before .before .before .before .before .before .args .w .now) (chansAt + n * 4)) (c .before .before .before .before .before .before .before .before .before .before .before .before .wide .ensures)) (c .before .before .before .before .before .before .before .before .before .before .put-name .ensures) in
     then (c .before .before .before .before .before .before .before .before .before .before .before .before .before .before .before .put-all .ensures) (then named (then (c .before .before .before .before .before .before .put .ensures) (c .before .before .put-fields .ensures)))
 
 pub open-two-spec : {M : Type 1} → statement M

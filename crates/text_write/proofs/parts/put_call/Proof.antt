@@ -2,7 +2,7 @@
 -- By what each call puts.
 use Prim.Native.Nat.{_+_, _*_}
 use mathlib.Core.Path.{ap}
-use Rattle.table.specs.Words.{nameAt, defName}
+use Rattle.table.specs.Words.{rowSize, nameAt, defName}
 use Rattle.text_write.proofs.Puts.{then, same}
 use borrow.Author.Needs.{needs}
 use Rattle.text_write.proofs.parts.put_call.Statement.{statement}
@@ -29,7 +29,7 @@ same-length c = search needs
 returns : tie.Need-returns
 unfolding defName
 returns c =
-    let named = same (ap (λ n. nameAt (c .before .before .before .before .before .before .before .before .before .before .args .w .now) (10 + n * 24)) (c .before .before .before .before .before .before .before .before .wide .ensures)) (c .before .before .before .before .before .before .put-name .ensures) in
+    let named = same (ap (λ n. nameAt (c .before .before .before .before .before .before .before .before .before .before .args .w .now) (10 + n * rowSize)) (c .before .before .before .before .before .before .before .before .wide .ensures)) (c .before .before .before .before .before .before .put-name .ensures) in
     then named (c .before .before .put-list .ensures)
 
 pub put-call-spec : {M : Type 1} → statement M

@@ -4,7 +4,7 @@ use native.Mathlib.Omega.{arith}
 use Prim.Native.Nat.{_+_, _*_, _-_}
 use mathlib.Core.Path.{_≡_, ap, _∙_}
 use lib.ListN.{getD}
-use Rattle.table.specs.Words.{nameAt}
+use Rattle.table.specs.Words.{rowSize, locsAt, partsAt, nameAt}
 use Rattle.text_write.proofs.Values.{location-written, value-written, name-written, slot-few}
 use borrow.Author.Needs.{needs}
 use Rattle.text_write.proofs.parts.value_at.Statement.{statement}
@@ -22,7 +22,7 @@ add-result c = search needs
 returns : tie.Need-returns
 returns c = λ e.
     let k = c .before .before .args in
-    ap (λ n. nameAt (k .w .now) (776 + n * 4)) (c .before .wide .ensures) ∙ location-written (k .w .now) (k .i) (k .vals .now) (c .before .before .pre .1) (k .v) (omega arith)
+    ap (λ n. nameAt (k .w .now) (locsAt + n * 4)) (c .before .wide .ensures) ∙ location-written (k .w .now) (k .i) (k .vals .now) (c .before .before .pre .1) (k .v) (omega arith)
 
 returns-2 : tie.Need-returns-2
 returns-2 c = λ e.
@@ -48,7 +48,7 @@ returns-3 : tie.Need-returns-3
 returns-3 c = λ e.
     let k = c .before .before .before .before .before .before .args in
     let x : c .before .wide2 .result ≡ getD (k .vals .now) (k .v - 64) 0 = c .before .wide2 .ensures ∙ ap (λ n. getD (k .vals .now) (n - 64) 0) (c .before .before .before .before .before .wide .ensures) in
-    ap (λ n. nameAt (k .w .now) (776 + n * 4)) x
+    ap (λ n. nameAt (k .w .now) (locsAt + n * 4)) x
     ∙ value-written (k .w .now) (k .i) (k .vals .now) (c .before .before .before .before .before .before .pre .1) (k .v) (omega arith) e (omega arith)
 
 add-field : tie.Need-add-field
@@ -64,7 +64,7 @@ returns-4 : tie.Need-returns-4
 returns-4 c = λ e.
     let k = c .before .before .before .before .before .before .before .before .args in
     let x : c .before .before .before .wide2 .result ≡ getD (k .vals .now) (k .v - 64) 0 = c .before .before .before .wide2 .ensures ∙ ap (λ n. getD (k .vals .now) (n - 64) 0) (c .before .before .before .before .before .before .before .wide .ensures) in
-    ap (nameAt (k .w .now)) (c .wide3 .ensures ∙ c .before .field .ensures ∙ ap (λ n. getD (k .w .now) (1_288 + k .i * 24 + (9 + (n - 64))) 0) (c .before .before .before .before .before .before .before .wide .ensures))
+    ap (nameAt (k .w .now)) (c .wide3 .ensures ∙ c .before .field .ensures ∙ ap (λ n. getD (k .w .now) (partsAt + k .i * rowSize + (9 + (n - 64))) 0) (c .before .before .before .before .before .before .before .wide .ensures))
     ∙ name-written (k .w .now) (k .i) (k .vals .now) (c .before .before .before .before .before .before .before .before .pre .1) (k .v) (omega arith) e (omega arith)
 
 pub value-at-spec : {M : Type 1} → statement M
