@@ -33,21 +33,21 @@ static void put(struct timo_written written, const uint8_t *bytes)
 static void put_network(const struct timo_state *state)
 {
     uint8_t text[256];
-    put(timo_write(script, state->c, state->n, text, sizeof text), text);
+    put(timo_write(script, &state->c, state->n, text, sizeof text), text);
 }
 
 static void put_location(const struct timo_state *state, uint32_t l)
 {
     uint8_t name[TIMO_NAME];
-    put(timo_location_name(script, state->c, state->n, l, name, sizeof name), name);
+    put(timo_location_name(script, &state->c, state->n, l, name, sizeof name), name);
 }
 
 /* What there is, what must happen, and the line of the step to come. */
 static uint32_t look(const struct timo_state *state)
 {
     uint8_t line[TIMO_LINE];
-    struct timo_counted locations = timo_locations(script, state->c, state->n);
-    struct timo_report forced = timo_forced(script, state->c, state->n);
+    struct timo_counted locations = timo_locations(script, &state->c, state->n);
+    struct timo_report forced = timo_forced(script, &state->c, state->n);
     uint32_t l;
 
     put_network(state);
@@ -59,7 +59,7 @@ static uint32_t look(const struct timo_state *state)
     printf("\nforced: %u, the lowest ", (unsigned)forced.count);
     put_location(state, forced.lowest);
     printf("\nto come: ");
-    put(timo_step_line(script, state->c, state->n, 0, line, sizeof line), line);
+    put(timo_step_line(script, &state->c, state->n, 0, line, sizeof line), line);
     return locations.count;
 }
 
@@ -69,7 +69,7 @@ static void step(struct timo_state *state, uint32_t l)
 {
     struct timo_state before = *state;
     uint32_t records[TIMO_COMPONENTS][3];
-    struct timo_stepped stepped = timo_step(script, state->c, state->n, l, records, TIMO_COMPONENTS);
+    struct timo_stepped stepped = timo_step(script, &state->c, state->n, l, records, TIMO_COMPONENTS);
     size_t k;
 
     if (stepped.code != 0) {
@@ -81,7 +81,7 @@ static void step(struct timo_state *state, uint32_t l)
     for (k = 0; k < stepped.count; k++) {
         uint8_t label[TIMO_LABEL];
         putchar(' ');
-        put(timo_action_label(script, before.c, before.n, records[k][0], records[k][1], records[k][2], label, sizeof label), label);
+        put(timo_action_label(script, &before.c, before.n, records[k][0], records[k][1], records[k][2], label, sizeof label), label);
     }
     putchar('\n');
 }
@@ -90,33 +90,35 @@ static void step(struct timo_state *state, uint32_t l)
 static void single_calls(struct timo_state state)
 {
     struct timo_record records[1] = {{TIMO_CALL, 0, 0}};
-    struct timo_acted acted = timo_action(script, state, TIMO_CALL, 0, 0);
-    struct timo_ticked ticked, proposed;
+    struct timo_state one = state, other = state;
+    struct timo_acted acted;
+    struct timo_ticked proposed;
     struct timo_compared compared;
 
-    refused("tick first", timo_tick(script, state, 0).code);
+    refused("tick first", timo_tick(script, &one.c, one.n, 0).code);
+    acted = timo_action(script, &one.c, one.n, TIMO_CALL, 0, 0);
     printf("action: kind %u, definition %u, at location %u\n", (unsigned)acted.label.kind, (unsigned)acted.label.a, (unsigned)acted.label.at);
-    refused("the action again", timo_action(script, acted.state, TIMO_CALL, 0, 0).code);
-    refused("writing a mark", timo_write(script, acted.state.c, acted.state.n, NULL, 0).code);
-    ticked = timo_tick(script, acted.state, 0);
-    proposed = timo_propose(script, state, 0, records, 1);
-    compared = timo_same(script, ticked.state.c, ticked.state.n, script, proposed.state.c, proposed.state.n);
+    refused("the action again", timo_action(script, &one.c, one.n, TIMO_CALL, 0, 0).code);
+    refused("writing a mark", timo_write(script, &one.c, one.n, NULL, 0).code);
+    one.n = timo_tick(script, &one.c, one.n, 0).n;
+    proposed = timo_propose(script, &other.c, other.n, 0, records, 1);
+    compared = timo_same(script, &one.c, one.n, script, &other.c, proposed.n);
     printf("proposal: code %u, same %s\n", (unsigned)proposed.code, compared.yes ? "yes" : "no");
-    refused("a proposal of nothing", timo_propose(script, state, 0, NULL, 0).code);
+    refused("a proposal of nothing", timo_propose(script, &state.c, state.n, 0, NULL, 0).code);
 }
 
 static void refusals(struct timo_state state, uint32_t locations)
 {
     refused("no text", timo_read(NULL, 0, other).code);
     refused("unbound variable", read_text("A[go(1,x,stop)] .", other).code);
-    refused("no such location", timo_location_name(script, state.c, state.n, locations, NULL, 0).code);
-    refused("no bytes", timo_location_name(script, state.c, state.n, 0, NULL, 0).code);
-    refused("no records", timo_step(script, state.c, state.n, 0, NULL, 0).code);
-    printf("valid: %s\n", timo_valid(script, state.c, state.n) ? "yes" : "no");
-    state.c[0].vals[7] = locations;
-    printf("valid with a value out of range: %s\n", timo_valid(script, state.c, state.n) ? "yes" : "no");
+    refused("no such location", timo_location_name(script, &state.c, state.n, locations, NULL, 0).code);
+    refused("no bytes", timo_location_name(script, &state.c, state.n, 0, NULL, 0).code);
+    refused("no records", timo_step(script, &state.c, state.n, 0, NULL, 0).code);
+    printf("valid: %s\n", timo_valid(script, &state.c, state.n) ? "yes" : "no");
+    state.c.at[0].vals[7] = locations;
+    printf("valid with a value out of range: %s\n", timo_valid(script, &state.c, state.n) ? "yes" : "no");
     state.n = 0;
-    refused("no component", timo_tick(script, state, 0).code);
+    refused("no component", timo_tick(script, &state.c, state.n, 0).code);
 }
 
 int main(void)

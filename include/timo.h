@@ -1,12 +1,13 @@
 /* The proved step engine for TiMo as a library, for C99 and C++11 on x86-64.
  *
- * A network is a script, 99,592 words that reading writes and no other call
+ * A network is a script, 99,984 words that reading writes and no other call
  * changes, and a state, the components. Every call on a network takes tables of
  * any content and first asks question 17: does the table stand for a network? A
- * call that is refused answers the question's number as its code and returns
- * the state that it was given; what was lent to it is unchanged. Code 0 is no
- * refusal. Calls that only look at the components, and the step, are lent them
- * with the number in use; action, tick and proposal take and return a state.
+ * call that is refused answers the question's number as its code; what was lent
+ * to it is unchanged. Code 0 is no refusal. Every call is lent the components,
+ * with the number in use. Action, tick, step and proposal leave in them what
+ * they do, and the last three answer the number in use from then on, which a
+ * refusal leaves as it was; an action never changes it.
  *
  * What is lent. A pointer to a script or to components is never null. Where a
  * number says how many bytes or records are lent and it is 0, the pointer is not
@@ -14,10 +15,12 @@
  * that it is lent; what it only reads may: timo_same can be given one network
  * twice. Nothing else may write any of it during the call.
  *
- * Words that are not in use. After an accepted action, tick, step or proposal
- * every word past the components in use is as it was; reading returns zeros
- * there, and leaves every word of the script behind the row of its last part as
- * it was.
+ * Words that are not in use. No call looks at the spare words of a component,
+ * at the ledger behind the components, at positions past the components in use,
+ * or at the words of a script behind the row of its last part. After an accepted
+ * action, tick, step or proposal all of them are as they were; reading returns
+ * zeros in the state's, and leaves the script's as they were. A later version
+ * may give them a meaning: a host that makes tables itself sets them to 0.
  *
  * Threads. The calls share nothing and keep nothing, so that several threads
  * may call at the same time, also with one script.
@@ -40,7 +43,7 @@
 extern "C" {
 #endif
 
-#define TIMO_WORDS 99592      /* words of a script */
+#define TIMO_WORDS 99984      /* words of a script */
 #define TIMO_COMPONENTS 256   /* components of a state; no step has more actions */
 #define TIMO_LOCATIONS 64     /* most locations of a network */
 #define TIMO_UNMARKED 64      /* the mark of a component that has none */
@@ -58,18 +61,27 @@ extern "C" {
 #define TIMO_PRINTOUT 3477760 /* a printout */
 
 /* A component: the numbers of its location and its owner, the place of its
- * part, its timer, and the location that each slot of its scope has. Question 17
+ * part, its timer, the location that each slot of its scope has, and four words
+ * that are not used. Question 17
  * asks of each component in use that loc and all eight of vals, also those of
  * slots that nothing reads, are below the number of locations, that mark is too
  * or is TIMO_UNMARKED, and that timer is at most TIMO_INF, marked or not. */
 struct timo_comp {
     uint32_t loc, mark, place, timer;
     uint32_t vals[8];
+    uint32_t spare[4];
+};
+
+/* What is lent to a call as components: all of them, and behind them words that
+ * are not used. */
+struct timo_comps {
+    struct timo_comp at[TIMO_COMPONENTS];
+    uint32_t ledger[16];
 };
 
 /* The first n components are in use. */
 struct timo_state {
-    struct timo_comp c[TIMO_COMPONENTS];
+    struct timo_comps c;
     size_t n;
 };
 
@@ -92,13 +104,12 @@ struct timo_reading {
 
 struct timo_acted {
     uint32_t code;
-    struct timo_label label;
-    struct timo_state state;
+    struct timo_label label;  /* zeros where code is not 0 */
 };
 
 struct timo_ticked {
     uint32_t code;
-    struct timo_state state;
+    size_t n;                 /* components in use from now on */
 };
 
 struct timo_stepped {
@@ -138,62 +149,62 @@ struct timo_counted {
 struct timo_reading timo_read(const uint8_t *text, size_t n, uint32_t script[TIMO_WORDS]);
 
 /* Question 17. */
-bool timo_valid(const uint32_t script[TIMO_WORDS], const struct timo_comp c[TIMO_COMPONENTS], size_t n);
+bool timo_valid(const uint32_t script[TIMO_WORDS], const struct timo_comps *c, size_t n);
 
 /* A single action of kind 1 (call at p), 2 (move at p) or 3 (output at p,
  * input at q). For kinds 1 and 2 q is not looked at. Refusals: 17, 8, 9, 10,
  * 11, in this order. */
-struct timo_acted timo_action(const uint32_t script[TIMO_WORDS], struct timo_state state, uint32_t kind, size_t p, size_t q);
+struct timo_acted timo_action(const uint32_t script[TIMO_WORDS], struct timo_comps *c, size_t n, uint32_t kind, size_t p, size_t q);
 
 /* The tick at location l. Refusals: 17, 8, 12, 13. */
-struct timo_ticked timo_tick(const uint32_t script[TIMO_WORDS], struct timo_state state, uint32_t l);
+struct timo_ticked timo_tick(const uint32_t script[TIMO_WORDS], struct timo_comps *c, size_t n, uint32_t l);
 
 /* The step at location l: its actions as records (kind, p, q) in the records
  * lent, then the tick, all in the components lent. Records past the count are
  * unchanged; a refusal leaves components, n and records unchanged. Refusals: 17,
  * 8, 15, 13. */
-struct timo_stepped timo_step(const uint32_t script[TIMO_WORDS], struct timo_comp c[TIMO_COMPONENTS], size_t n, uint32_t l, uint32_t (*records)[3], size_t lent);
+struct timo_stepped timo_step(const uint32_t script[TIMO_WORDS], struct timo_comps *c, size_t n, uint32_t l, uint32_t (*records)[3], size_t lent);
 
-/* A proposal at location l: the n records in order, then the tick, all or
- * none. Refusals: 17, 8 for the location, for each record 8, 9, 10, 11, 16,
- * then 12, 13. */
-struct timo_ticked timo_propose(const uint32_t script[TIMO_WORDS], struct timo_state state, uint32_t l, const struct timo_record *records, size_t n);
+/* A proposal at location l: the records in order, so many as are given, then
+ * the tick, all or none. Refusals: 17, 8 for the location, for each record 8, 9,
+ * 10, 11, 16, then 12, 13. */
+struct timo_ticked timo_propose(const uint32_t script[TIMO_WORDS], struct timo_comps *c, size_t n, uint32_t l, const struct timo_record *records, size_t given);
 
 /* The locations where the tick is not allowed. Refusal: 17. */
-struct timo_report timo_forced(const uint32_t script[TIMO_WORDS], const struct timo_comp c[TIMO_COMPONENTS], size_t n);
+struct timo_report timo_forced(const uint32_t script[TIMO_WORDS], const struct timo_comps *c, size_t n);
 
 /* The network as text in the bytes lent. Bytes past the length are unchanged.
  * Refusals: 17, 14, 15. What a text of at most TIMO_TEXT bytes gives can still
  * be longer than that, with values put in. */
-struct timo_written timo_write(const uint32_t script[TIMO_WORDS], const struct timo_comp c[TIMO_COMPONENTS], size_t n, uint8_t *bytes, size_t lent);
+struct timo_written timo_write(const uint32_t script[TIMO_WORDS], const struct timo_comps *c, size_t n, uint8_t *bytes, size_t lent);
 
 /* Whether two networks are the same: the same definitions as a set and, in any
  * order, the same components, each as often, location and owner by name, parts
  * letter by letter with values put in. The numbers that names have do not count,
  * nor does a name that no longer occurs. yes is false where code is not 0.
  * Refusal: 17, for either network. */
-struct timo_compared timo_same(const uint32_t script_a[TIMO_WORDS], const struct timo_comp a[TIMO_COMPONENTS], size_t n, const uint32_t script_b[TIMO_WORDS], const struct timo_comp b[TIMO_COMPONENTS], size_t m);
+struct timo_compared timo_same(const uint32_t script_a[TIMO_WORDS], const struct timo_comps *a, size_t n, const uint32_t script_b[TIMO_WORDS], const struct timo_comps *b, size_t m);
 
 /* ---- In letters. None of these changes a network. Bytes past the length are
  * unchanged; a refusal leaves them all as they were. ---- */
 
 /* How many locations there are; they are numbered from 0. Refusal: 17. */
-struct timo_counted timo_locations(const uint32_t script[TIMO_WORDS], const struct timo_comp c[TIMO_COMPONENTS], size_t n);
+struct timo_counted timo_locations(const uint32_t script[TIMO_WORDS], const struct timo_comps *c, size_t n);
 
 /* The name of location l. Refusals: 17, 8, 15. */
-struct timo_written timo_location_name(const uint32_t script[TIMO_WORDS], const struct timo_comp c[TIMO_COMPONENTS], size_t n, uint32_t l, uint8_t *bytes, size_t lent);
+struct timo_written timo_location_name(const uint32_t script[TIMO_WORDS], const struct timo_comps *c, size_t n, uint32_t l, uint8_t *bytes, size_t lent);
 
 /* The label of an action, `id@l`, `v@l` or `c<v>@l`. Refusals: 17, then 8, 9,
  * 10, 11 as for timo_action, then 15. For a record of a step it is asked with
  * the components as they were before the step, for each of its records alike:
  * an action of a step has the same label there (the law step-before of
  * crates/run_line). */
-struct timo_written timo_action_label(const uint32_t script[TIMO_WORDS], const struct timo_comp c[TIMO_COMPONENTS], size_t n, uint32_t kind, size_t p, size_t q, uint8_t *bytes, size_t lent);
+struct timo_written timo_action_label(const uint32_t script[TIMO_WORDS], const struct timo_comps *c, size_t n, uint32_t kind, size_t p, size_t q, uint8_t *bytes, size_t lent);
 
 /* The line of the step at location l as timorun prints it: the location, each
  * label after one space, a line feed. The components are those before the step.
  * Refusals: 17, 8, 13 as for the step, then 15. */
-struct timo_written timo_step_line(const uint32_t script[TIMO_WORDS], const struct timo_comp c[TIMO_COMPONENTS], size_t n, uint32_t l, uint8_t *bytes, size_t lent);
+struct timo_written timo_step_line(const uint32_t script[TIMO_WORDS], const struct timo_comps *c, size_t n, uint32_t l, uint8_t *bytes, size_t lent);
 
 /* The whole printout of a text of n bytes, as timorun prints it, refusals
  * included. It returns the printout's length, at most TIMO_PRINTOUT, whatever
@@ -210,13 +221,14 @@ size_t timo_printout(const uint8_t *text, size_t n, uint8_t *bytes, size_t lent)
 #define TIMO_ASSERT(test)
 #endif
 TIMO_ASSERT(sizeof(size_t) == 8 && sizeof(bool) == 1)
-TIMO_ASSERT(sizeof(struct timo_comp) == 48 && offsetof(struct timo_comp, vals) == 16)
-TIMO_ASSERT(sizeof(struct timo_state) == 12296 && offsetof(struct timo_state, n) == 12288)
+TIMO_ASSERT(sizeof(struct timo_comp) == 64 && offsetof(struct timo_comp, vals) == 16 && offsetof(struct timo_comp, spare) == 48)
+TIMO_ASSERT(sizeof(struct timo_comps) == 16448 && offsetof(struct timo_comps, ledger) == 16384)
+TIMO_ASSERT(sizeof(struct timo_state) == 16456 && offsetof(struct timo_state, n) == 16448)
 TIMO_ASSERT(sizeof(struct timo_label) == 16 && offsetof(struct timo_label, at) == 12)
 TIMO_ASSERT(sizeof(struct timo_record) == 12 && offsetof(struct timo_record, q) == 8)
-TIMO_ASSERT(sizeof(struct timo_reading) == 12304 && offsetof(struct timo_reading, state) == 8)
-TIMO_ASSERT(sizeof(struct timo_acted) == 12320 && offsetof(struct timo_acted, label) == 4 && offsetof(struct timo_acted, state) == 24)
-TIMO_ASSERT(sizeof(struct timo_ticked) == 12304 && offsetof(struct timo_ticked, state) == 8)
+TIMO_ASSERT(sizeof(struct timo_reading) == 16464 && offsetof(struct timo_reading, state) == 8)
+TIMO_ASSERT(sizeof(struct timo_acted) == 20 && offsetof(struct timo_acted, label) == 4)
+TIMO_ASSERT(sizeof(struct timo_ticked) == 16 && offsetof(struct timo_ticked, n) == 8)
 TIMO_ASSERT(sizeof(struct timo_stepped) == 24 && offsetof(struct timo_stepped, count) == 8 && offsetof(struct timo_stepped, n) == 16)
 TIMO_ASSERT(sizeof(struct timo_report) == 24 && offsetof(struct timo_report, set) == 8 && offsetof(struct timo_report, count) == 16)
 TIMO_ASSERT(sizeof(struct timo_written) == 16 && offsetof(struct timo_written, len) == 8)

@@ -102,7 +102,7 @@ fn refusals(mut table: Table, locations: u32) {
     refused("no bytes", table.location_name(0, &mut []));
     refused("no records", table.step(0, &mut []));
     println!("valid: {}", yes_or_no(table.is_valid()));
-    table.state.c[0].vals[7] = locations;
+    table.state.c.at[0].vals[7] = locations;
     let valid = yes_or_no(table.is_valid());
     println!("valid with a value out of range: {valid}");
     table.state.n = 0;

@@ -133,11 +133,11 @@ fn variations(random: &mut Random, table: &Table) -> Vec<(&'static str, Table)> 
     let from = random.below(n);
     let location = random.below(table.words[1] as usize) as u32;
     add("components in another order", &mut |other| {
-        random.shuffle(&mut other.state.c[..n]);
+        random.shuffle(&mut other.state.c.at[..n]);
     });
     if n < 256 {
         add("a component twice", &mut |other| {
-            other.state.c[n] = other.state.c[from];
+            other.state.c.at[n] = other.state.c.at[from];
             other.state.n += 1;
         });
     }
@@ -145,22 +145,22 @@ fn variations(random: &mut Random, table: &Table) -> Vec<(&'static str, Table)> 
         other.state.n -= 1
     });
     add("a component in another's place", &mut |other| {
-        other.state.c[at] = other.state.c[from];
+        other.state.c.at[at] = other.state.c.at[from];
     });
     add("another owner or a mark", &mut |other| {
-        other.state.c[at].mark = location;
+        other.state.c.at[at].mark = location;
     });
     add("a mark taken away", &mut |other| {
-        other.state.c[at].mark = UNMARKED;
+        other.state.c.at[at].mark = UNMARKED;
     });
     add("another location", &mut |other| {
-        other.state.c[at].loc = location;
+        other.state.c.at[at].loc = location;
     });
     add("another timer", &mut |other| {
-        other.state.c[at].timer += 1;
+        other.state.c.at[at].timer += 1;
     });
     add("other values", &mut |other| {
-        other.state.c[at].vals = [location; 8];
+        other.state.c.at[at].vals = [location; 8];
     });
     add("names of locations exchanged", &mut |other| {
         exchange(other, LOCATIONS, 0, location as usize, 4);

@@ -16,14 +16,18 @@ use crate::timo::{self, Comp, Table};
 
 const BLANK: [u32; 3] = [77; 3];
 const BLANK_BYTE: u8 = b'#';
-/// What is past the components in use.
+/// What is past the components in use, in the spare words of each and behind
+/// all of them.
 const PAST: Comp = Comp {
     loc: 70,
     mark: 71,
     place: 72,
     timer: 73,
     vals: [74; 8],
+    spare: SPARE,
 };
+const SPARE: [u32; 4] = [75, 76, 77, 78];
+const LEDGER: [u32; 16] = [79; 16];
 /// Calls on a network made by hand.
 const ANY_CALLS: usize = 12;
 
@@ -110,10 +114,13 @@ struct Session {
 }
 
 impl Session {
-    /// The words past the components in use hold anything.
+    /// The words that no component in use has as its own hold anything.
     fn new(engine: Engine, mut pair: Pair, run: Option<Run>) -> Session {
         let n = pair.table.state.n;
-        pair.table.state.c[n..].fill(PAST);
+        let components = &mut pair.table.state.c;
+        components.at[n..].fill(PAST);
+        components.at.iter_mut().for_each(|c| c.spare = SPARE);
+        components.ledger = LEDGER;
         Session {
             engine,
             run,
@@ -313,7 +320,7 @@ impl Session {
     }
 
     /// Counts the answer; a refusal has left the state as it was, an accepted
-    /// call what is past the components, and it feeds the run.
+    /// call what is beside the components, and it feeds the run.
     fn settle(
         &mut self,
         accepted: bool,
@@ -322,9 +329,9 @@ impl Session {
     ) -> Agreed {
         if accepted {
             self.tally.accepted += 1;
-            let past = self.table.state.n..;
-            let kept = self.table.state.c[past.clone()] == before.c[past];
-            equal("words past the components", &kept, &true)?;
+            let n = self.table.state.n;
+            let kept = self.table.state.beside(n) == before.beside(n);
+            equal("words beside the components", &kept, &true)?;
             return held(self.run.as_mut().map_or(Ok(()), feed));
         }
         self.tally.refused += 1;

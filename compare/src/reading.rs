@@ -9,7 +9,7 @@ use timo_reference::writing;
 use crate::agree::{equal, Agreed};
 use crate::alike;
 use crate::table;
-use crate::timo::{self, Comp, State, Table, WORDS};
+use crate::timo::{self, State, Table, WORDS};
 
 /// What the words hold that are lent to reading.
 const BLANK: u32 = 0xa5a5_a5a5;
@@ -57,14 +57,15 @@ pub fn read_over(text: &[u8], mut words: Box<[u32; WORDS]>) -> Result<Read, Stri
     Ok(Ok(Pair { table, network }))
 }
 
-/// The words behind the last row are as they were, and those past the
-/// components in use are 0.
+/// The words behind the last row are as they were, and those that no component
+/// in use has as its own are 0.
 fn kept_behind(table: &Table, before: &[u32; WORDS]) -> Agreed {
     let rows = PARTS + ROW * (table.words[0] as usize).min(MOST_PARTS);
     let behind = table.words[rows..] == before[rows..];
     yes(behind, "words kept behind the last row")?;
-    let mut past = table.state.c[table.state.n..].iter();
-    yes(past.all(|c| *c == Comp::ZERO), "zeros past the components")
+    let n = table.state.n;
+    let zeros = table.state.beside(n) == State::ZERO.beside(n);
+    yes(zeros, "zeros beside the components")
 }
 
 /// Names by number, definitions in order and components in order.

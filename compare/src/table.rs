@@ -30,13 +30,14 @@ fn view<'t>(table: &'t Table, components: &'t [u32]) -> table::Table<'t> {
     table::Table::new(table.words.as_slice(), components, table.state.n)
 }
 
-/// The words of all components, in use or not.
+/// The words of all components, in use or not, and those behind them.
 pub fn words(state: &State) -> Vec<u32> {
     let of_one = |c: &Comp| {
         let first = [c.loc, c.mark, c.place, c.timer];
-        first.into_iter().chain(c.vals)
+        first.into_iter().chain(c.vals).chain(c.spare)
     };
-    state.c.iter().flat_map(of_one).collect()
+    let components = state.c.at.iter().flat_map(of_one);
+    components.chain(state.c.ledger).collect()
 }
 
 fn names(words: &[u32; WORDS]) -> table::Table<'_> {

@@ -8,7 +8,8 @@ use std::fmt;
 
 use timo_reference::random::Random;
 use timo_reference::table::{
-    Test, CHANNELS, DEFINITIONS, IN_SCOPE, LOCATIONS, NAME, OWN, PARTS, ROW, SCOPE, SCRIPT,
+    Test, CHANNELS, DEFINITIONS, IN_SCOPE, LOCATIONS, NAME, OWN, PARTS, PARTS_END, ROW, SCOPE,
+    SCRIPT,
 };
 
 use crate::agree::{equal, Agreed};
@@ -16,7 +17,7 @@ use crate::alike::refused_by_all;
 use crate::differ::run_by_itself;
 use crate::reading::Pair;
 use crate::table;
-use crate::timo::{Comp, Table};
+use crate::timo::{Comp, State, Table};
 
 /// A table with what was done to it.
 pub struct Made {
@@ -133,7 +134,7 @@ fn change(random: &mut Random, table: &mut Table) -> String {
 fn content(random: &mut Random, table: &Table, word: u32) -> u32 {
     let limits = [
         0, 1, 2, 3, 4, 5, 7, 8, 9, 63, 64, 65, 66, 71, 72, 255, 256, 4_095, 4_096, 99_588, 99_589,
-        999_999, 1_000_000, 1_000_001, 1_000_002,
+        99_980, 99_984, 999_999, 1_000_000, 1_000_001, 1_000_002,
     ];
     match random.below(8) {
         0 => word.wrapping_add(1),
@@ -268,19 +269,20 @@ fn definition_word(random: &mut Random, table: &mut Table) -> String {
 
 fn component_word(random: &mut Random, table: &mut Table) -> String {
     let p = random.below(table.state.n.clamp(1, 256));
-    let before = table.state.c[p];
-    let k = random.below(12);
+    let before = table.state.c.at[p];
+    let k = random.below(16);
     let mut after = before;
     let word = match k {
         0 => &mut after.loc,
         1 => &mut after.mark,
         2 => &mut after.place,
         3 => &mut after.timer,
-        _ => &mut after.vals[k - 4],
+        4..=11 => &mut after.vals[k - 4],
+        _ => &mut after.spare[k - 12],
     };
     *word = content(random, table, *word);
     let said = format!("component {p}: word {k} to {word}");
-    table.state.c[p] = after;
+    table.state.c.at[p] = after;
     said
 }
 
@@ -312,17 +314,23 @@ fn any_content(random: &mut Random, table: &mut Table) -> String {
     for word in &mut table.words[range] {
         *word = random.below(bound) as u32;
     }
-    let mut any = || random.below(bound) as u32;
-    for c in &mut table.state.c {
+    any_components(&mut table.state, || random.below(bound) as u32);
+    format!("{name} and components below {bound}")
+}
+
+/// Every component, and the words behind them, made of the numbers given.
+pub fn any_components(state: &mut State, mut any: impl FnMut() -> u32) {
+    for c in &mut state.c.at {
         *c = Comp {
             loc: any(),
             mark: any(),
             place: any(),
             timer: any(),
             vals: [(); 8].map(|()| any()),
+            spare: [(); 4].map(|()| any()),
         };
     }
-    format!("{name} and components below {bound}")
+    state.c.ledger = [(); 16].map(|()| any());
 }
 
 // --- rows that reading does not write -------------------------------------------
@@ -344,21 +352,27 @@ fn tree_on_top(random: &mut Random, table: &mut Table) -> String {
     if random.chance(2, 3) {
         let p = random.below(table.state.n.clamp(1, 256));
         let locations = table.words[1].max(1) as usize;
-        table.state.c[p].place = place;
-        table.state.c[p].timer = random.below(3) as u32;
-        table.state.c[p].vals = [(); 8].map(|()| random.below(locations) as u32);
+        table.state.c.at[p].place = place;
+        table.state.c.at[p].timer = random.below(3) as u32;
+        table.state.c.at[p].vals = [(); 8].map(|()| random.below(locations) as u32);
         return format!("{tree} with scope {scope:?}, component {p} at it");
     }
     format!("{tree} with scope {scope:?}, at which nothing stands")
 }
 
-/// Places of up to nine names, some of them spelt here, in words past the rows.
+/// Places of up to nine names, some of them spelt here: in words past the rows in
+/// use, or behind the last row, where no name may stand.
 fn any_scope(random: &mut Random, table: &mut Table) -> Vec<u32> {
     let count = random.weighted(&[2, 6, 6, 3, 1, 1, 1, 1, 1, 1]);
     let mut scope = Vec::new();
     for k in 0..count {
         let at = if random.chance(2, 3) {
-            let at = SCRIPT - NAME * (k + 1);
+            let end = if random.chance(1, 20) {
+                SCRIPT
+            } else {
+                PARTS_END
+            };
+            let at = end - NAME * (k + 1);
             write_good_or_any(random, table, at, k);
             at
         } else {

@@ -3,7 +3,7 @@
 //! tested beforehand.
 
 /// Words of a script.
-pub const WORDS: usize = 99_592;
+pub const WORDS: usize = 99_984;
 
 /// Bytes that hold the name of every location, every label, every line of a
 /// step, every printout.
@@ -18,8 +18,8 @@ pub const UNMARKED: u32 = 64;
 /// Stands for the number of a refusal that comes with anything but its number.
 pub const MORE_THAN_A_NUMBER: u32 = 1_000;
 
-/// A component: location, mark, place of its part, timer, and a location for
-/// each slot.
+/// A component: location, mark, place of its part, timer, a location for each
+/// slot, and words that are not used.
 #[repr(C)]
 #[derive(Clone, Copy, Debug, PartialEq, Eq)]
 pub struct Comp {
@@ -28,6 +28,7 @@ pub struct Comp {
     pub place: u32,
     pub timer: u32,
     pub vals: [u32; 8],
+    pub spare: [u32; 4],
 }
 
 impl Comp {
@@ -37,23 +38,42 @@ impl Comp {
         place: 0,
         timer: 0,
         vals: [0; 8],
+        spare: [0; 4],
     };
+}
+
+/// The components, and words behind them that are not used.
+#[repr(C)]
+#[derive(Clone, Copy, Debug, PartialEq, Eq)]
+pub struct Comps {
+    pub at: [Comp; 256],
+    pub ledger: [u32; 16],
 }
 
 /// The components; the first `n` are in use.
 #[repr(C)]
 #[derive(Clone, Copy, Debug, PartialEq, Eq)]
 pub struct State {
-    pub c: [Comp; 256],
+    pub c: Comps,
     pub n: usize,
 }
 
 impl State {
     /// What a refused reading returns.
     pub const ZERO: State = State {
-        c: [Comp::ZERO; 256],
+        c: Comps {
+            at: [Comp::ZERO; 256],
+            ledger: [0; 16],
+        },
         n: 0,
     };
+
+    /// The words that no component in use has as its own: the spare ones of
+    /// every position, the positions past `n` and the ledger.
+    pub fn beside(&self, n: usize) -> ([[u32; 4]; 256], &[Comp], [u32; 16]) {
+        let spare = self.c.at.map(|c| c.spare);
+        (spare, &self.c.at[n..], self.c.ledger)
+    }
 }
 
 impl Default for State {
@@ -92,13 +112,12 @@ pub struct Reading {
 struct Acted {
     code: u32,
     label: Label,
-    state: State,
 }
 
 #[repr(C)]
 struct Ticked {
     code: u32,
-    state: State,
+    n: usize,
 }
 
 #[repr(C)]
@@ -140,30 +159,37 @@ extern "C" {
     fn timo_read(text: *const u8, n: usize, w: *mut u32) -> Reading;
     fn timo_same(
         w: *const u32,
-        a: *const Comp,
+        a: *const Comps,
         n: usize,
         v: *const u32,
-        b: *const Comp,
+        b: *const Comps,
         m: usize,
     ) -> Compared;
-    fn timo_valid(w: *const u32, c: *const Comp, n: usize) -> bool;
-    fn timo_action(w: *const u32, st: State, kind: u32, p: usize, q: usize) -> Acted;
-    fn timo_tick(w: *const u32, st: State, l: u32) -> Ticked;
+    fn timo_valid(w: *const u32, c: *const Comps, n: usize) -> bool;
+    fn timo_action(w: *const u32, c: *mut Comps, n: usize, kind: u32, p: usize, q: usize) -> Acted;
+    fn timo_tick(w: *const u32, c: *mut Comps, n: usize, l: u32) -> Ticked;
     fn timo_step(
         w: *const u32,
-        c: *mut Comp,
+        c: *mut Comps,
         n: usize,
         l: u32,
         records: *mut [u32; 3],
         lent: usize,
     ) -> Stepped;
-    fn timo_propose(w: *const u32, st: State, l: u32, records: *const Record, n: usize) -> Ticked;
-    fn timo_forced(w: *const u32, c: *const Comp, n: usize) -> Report;
-    fn timo_write(w: *const u32, c: *const Comp, n: usize, buf: *mut u8, lent: usize) -> Written;
-    fn timo_locations(w: *const u32, c: *const Comp, n: usize) -> Counted;
+    fn timo_propose(
+        w: *const u32,
+        c: *mut Comps,
+        n: usize,
+        l: u32,
+        records: *const Record,
+        given: usize,
+    ) -> Ticked;
+    fn timo_forced(w: *const u32, c: *const Comps, n: usize) -> Report;
+    fn timo_write(w: *const u32, c: *const Comps, n: usize, buf: *mut u8, lent: usize) -> Written;
+    fn timo_locations(w: *const u32, c: *const Comps, n: usize) -> Counted;
     fn timo_location_name(
         w: *const u32,
-        c: *const Comp,
+        c: *const Comps,
         n: usize,
         l: u32,
         buf: *mut u8,
@@ -171,7 +197,7 @@ extern "C" {
     ) -> Written;
     fn timo_action_label(
         w: *const u32,
-        c: *const Comp,
+        c: *const Comps,
         n: usize,
         kind: u32,
         p: usize,
@@ -181,7 +207,7 @@ extern "C" {
     ) -> Written;
     fn timo_step_line(
         w: *const u32,
-        c: *const Comp,
+        c: *const Comps,
         n: usize,
         l: u32,
         buf: *mut u8,
@@ -208,8 +234,8 @@ pub fn words_of(word: u32) -> Box<[u32; WORDS]> {
     words.expect("a script has its number of words")
 }
 
-/// A script and a state, of any content. A refused call leaves the state as
-/// the library returned it, so that a caller sees whether it changed.
+/// A script and a state, of any content. The calls are lent the state itself,
+/// so that a caller sees whether a refused call changed it.
 #[derive(Clone)]
 pub struct Table {
     pub words: Box<[u32; WORDS]>,
@@ -231,10 +257,10 @@ impl Table {
         let compared = unsafe {
             timo_same(
                 self.words.as_ptr(),
-                a.c.as_ptr(),
+                &a.c,
                 a.n,
                 other.words.as_ptr(),
-                b.c.as_ptr(),
+                &b.c,
                 b.n,
             )
         };
@@ -242,9 +268,9 @@ impl Table {
     }
 
     pub fn is_valid(&self) -> bool {
-        // SAFETY: the pointers are to WORDS words and to 256 components, which the
-        // call only reads.
-        unsafe { timo_valid(self.words.as_ptr(), self.state.c.as_ptr(), self.state.n) }
+        // SAFETY: the pointers are to WORDS words and to a state's components, which
+        // the call only reads.
+        unsafe { timo_valid(self.words.as_ptr(), &self.state.c, self.state.n) }
     }
 
     /// A single action; its label, or the number of its refusal.
@@ -255,16 +281,17 @@ impl Table {
 
     /// A single action; its code and what stands in the label's place.
     pub fn acted(&mut self, kind: u32, p: usize, q: usize) -> (u32, Label) {
-        // SAFETY: as for `is_valid`.
-        let acted = unsafe { timo_action(self.words.as_ptr(), self.state, kind, p, q) };
-        self.state = acted.state;
+        let (c, n) = (&mut self.state.c, self.state.n);
+        // SAFETY: as for `step`.
+        let acted = unsafe { timo_action(self.words.as_ptr(), c, n, kind, p, q) };
         (acted.code, acted.label)
     }
 
     pub fn tick(&mut self, location: u32) -> Result<(), u32> {
-        // SAFETY: as for `is_valid`.
-        let ticked = unsafe { timo_tick(self.words.as_ptr(), self.state, location) };
-        self.state = ticked.state;
+        let (c, n) = (&mut self.state.c, self.state.n);
+        // SAFETY: as for `step`.
+        let ticked = unsafe { timo_tick(self.words.as_ptr(), c, n, location) };
+        self.state.n = ticked.n;
         answer(ticked.code, ())
     }
 
@@ -275,7 +302,7 @@ impl Table {
         let stepped = unsafe {
             timo_step(
                 self.words.as_ptr(),
-                self.state.c.as_mut_ptr(),
+                &mut self.state.c,
                 self.state.n,
                 location,
                 lent.as_mut_ptr(),
@@ -288,64 +315,60 @@ impl Table {
 
     /// The records in order and then the tick, all or none.
     pub fn propose(&mut self, location: u32, records: &[Record]) -> Result<(), u32> {
-        // SAFETY: as for `is_valid`, and the records are only read.
+        let (c, n) = (&mut self.state.c, self.state.n);
+        // SAFETY: as for `step`, and the records are only read.
         let ticked = unsafe {
             timo_propose(
                 self.words.as_ptr(),
-                self.state,
+                c,
+                n,
                 location,
                 records.as_ptr(),
                 records.len(),
             )
         };
-        self.state = ticked.state;
+        self.state.n = ticked.n;
         answer(ticked.code, ())
     }
 
     pub fn forced(&self) -> Result<Report, u32> {
         // SAFETY: as for `is_valid`.
-        let report =
-            unsafe { timo_forced(self.words.as_ptr(), self.state.c.as_ptr(), self.state.n) };
+        let report = unsafe { timo_forced(self.words.as_ptr(), &self.state.c, self.state.n) };
         answer(report.code, Report { code: 0, ..report })
+    }
+
+    /// What a call writes about the table into lent bytes: its length.
+    fn written(
+        &self,
+        lent: &mut [u8],
+        call: impl FnOnce(*const u32, *const Comps, usize, *mut u8, usize) -> Written,
+    ) -> Result<usize, u32> {
+        let (c, n) = (&self.state.c, self.state.n);
+        let written = call(self.words.as_ptr(), c, n, lent.as_mut_ptr(), lent.len());
+        answer(written.code, written.len)
     }
 
     /// Writing; the length of the text.
     pub fn write(&self, lent: &mut [u8]) -> Result<usize, u32> {
         // SAFETY: as for `step`.
-        let written = unsafe {
-            timo_write(
-                self.words.as_ptr(),
-                self.state.c.as_ptr(),
-                self.state.n,
-                lent.as_mut_ptr(),
-                lent.len(),
-            )
-        };
-        answer(written.code, written.len)
+        self.written(lent, |w, c, n, buf, size| unsafe {
+            timo_write(w, c, n, buf, size)
+        })
     }
 
     /// How many locations there are.
     pub fn locations(&self) -> Result<u32, u32> {
         // SAFETY: as for `is_valid`.
-        let counted =
-            unsafe { timo_locations(self.words.as_ptr(), self.state.c.as_ptr(), self.state.n) };
+        let counted = unsafe { timo_locations(self.words.as_ptr(), &self.state.c, self.state.n) };
         answer(counted.code, counted.count)
     }
 
     /// The name of a location; its length.
     pub fn location_name(&self, location: u32, lent: &mut [u8]) -> Result<usize, u32> {
         // SAFETY: as for `step`.
-        let written = unsafe {
-            timo_location_name(
-                self.words.as_ptr(),
-                self.state.c.as_ptr(),
-                self.state.n,
-                location,
-                lent.as_mut_ptr(),
-                lent.len(),
-            )
-        };
-        answer(written.code, written.len)
+        self.written(lent, |w, c, n, buf, size| unsafe {
+            timo_location_name(w, c, n, location, buf, size)
+        })
     }
 
     /// The label of an action, which is not made; its length. The records of a
@@ -358,35 +381,17 @@ impl Table {
         lent: &mut [u8],
     ) -> Result<usize, u32> {
         // SAFETY: as for `step`.
-        let written = unsafe {
-            timo_action_label(
-                self.words.as_ptr(),
-                self.state.c.as_ptr(),
-                self.state.n,
-                kind,
-                p,
-                q,
-                lent.as_mut_ptr(),
-                lent.len(),
-            )
-        };
-        answer(written.code, written.len)
+        self.written(lent, |w, c, n, buf, size| unsafe {
+            timo_action_label(w, c, n, kind, p, q, buf, size)
+        })
     }
 
     /// The line of the step at a location, which is not made; its length.
     pub fn step_line(&self, location: u32, lent: &mut [u8]) -> Result<usize, u32> {
         // SAFETY: as for `step`.
-        let written = unsafe {
-            timo_step_line(
-                self.words.as_ptr(),
-                self.state.c.as_ptr(),
-                self.state.n,
-                location,
-                lent.as_mut_ptr(),
-                lent.len(),
-            )
-        };
-        answer(written.code, written.len)
+        self.written(lent, |w, c, n, buf, size| unsafe {
+            timo_step_line(w, c, n, location, buf, size)
+        })
     }
 }
 

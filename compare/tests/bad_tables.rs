@@ -58,15 +58,15 @@ fn components() {
     refused("no component", |t| t.state.n = 0);
     refused("257 components", |t| t.state.n = 257);
     refused("a huge number of components", |t| t.state.n = usize::MAX);
-    refused("a location out of range", |t| t.state.c[0].loc = 2);
-    refused("an owner out of range", |t| t.state.c[2].mark = 2);
+    refused("a location out of range", |t| t.state.c.at[0].loc = 2);
+    refused("an owner out of range", |t| t.state.c.at[2].mark = 2);
     refused("a mark past the one for none", |t| {
-        t.state.c[2].mark = UNMARKED + 1
+        t.state.c.at[2].mark = UNMARKED + 1
     });
-    refused("a place out of range", |t| t.state.c[1].place = t.words[0]);
-    refused("a timer out of range", |t| t.state.c[0].timer = 1_000_002);
-    refused("a value out of range", |t| t.state.c[0].vals[0] = 2);
-    refused("a component of all ones", |t| t.state.c[1].place = u32::MAX);
+    refused("a place out of range", |t| t.state.c.at[1].place = t.words[0]);
+    refused("a timer out of range", |t| t.state.c.at[0].timer = 1_000_002);
+    refused("a value out of range", |t| t.state.c.at[0].vals[0] = 2);
+    refused("a component of all ones", |t| t.state.c.at[1].place = u32::MAX);
 }
 
 #[test]

@@ -6,7 +6,7 @@ use compare::alike::refused_by_all;
 use compare::differ::run_by_itself;
 use compare::reading::Pair;
 use compare::table;
-use compare::tables::{make, Tally};
+use compare::tables::{any_components, make, Tally};
 use compare::timo::{words_of, Comp, State, Table, UNMARKED, WORDS};
 use timo_reference::calls::Engine;
 use timo_reference::deep::on_big_stack;
@@ -135,7 +135,8 @@ fn every_word_of_a_small_table() {
         .chain(LOCATIONS..LOCATIONS + 12)
         .chain(CHANNELS..CHANNELS + 12)
         .chain(PARTS..rows)
-        .chain(99_580..WORDS);
+        .chain(99_580..99_600)
+        .chain(WORDS - 4..WORDS);
     for at in words {
         let before = table.words[at];
         for content in contents(&table, before) {
@@ -181,7 +182,7 @@ fn past_a_limit() -> [(&'static str, Table); 4] {
 
 fn every_component_word(table: &mut Table, network: &Network, tally: &mut Tally) {
     for p in 0..table.state.n + 1 {
-        let before = table.state.c[p];
+        let before = table.state.c.at[p];
         for content in contents(table, 0) {
             let [mut loc, mut mark, mut place, mut timer] = [before; 4];
             loc.loc = content;
@@ -193,16 +194,22 @@ fn every_component_word(table: &mut Table, network: &Network, tally: &mut Tally)
                 value.vals[k] = content;
                 value
             };
+            let spare = |k: usize| {
+                let mut spare = before;
+                spare.spare[k] = content;
+                spare
+            };
             let changed = [loc, mark, place, timer]
                 .into_iter()
-                .chain((0..8).map(value));
+                .chain((0..8).map(value))
+                .chain((0..4).map(spare));
             for (k, after) in changed.enumerate() {
-                table.state.c[p] = after;
+                table.state.c.at[p] = after;
                 let name = format!("component {p}: word {k} to {content}");
                 one_word(&name, table, network, tally);
             }
         }
-        table.state.c[p] = before;
+        table.state.c.at[p] = before;
     }
     let n = table.state.n;
     for used in [0, 1, n + 1, 256, 257, usize::MAX] {
@@ -223,15 +230,7 @@ fn words_of_any_content() {
             state: State::ZERO,
         };
         table.words.fill_with(&mut any);
-        for c in &mut table.state.c {
-            *c = Comp {
-                loc: any(),
-                mark: any(),
-                place: any(),
-                timer: any(),
-                vals: [(); 8].map(|()| any()),
-            };
-        }
+        any_components(&mut table.state, &mut any);
         table.state.n = 1 + any() as usize % 256;
         judged(&format!("words below {bound}"), &table);
     }
@@ -273,12 +272,13 @@ fn put_go(table: &mut Table, scope: &[u32]) {
 
 /// The same with a component at the `go`.
 fn stood_at(mut table: Table) -> Table {
-    table.state.c[0] = Comp {
+    table.state.c.at[0] = Comp {
         loc: 0,
         mark: UNMARKED,
         place: table.words[0] - 1,
         timer: 0,
         vals: [1, 0, 0, 0, 0, 0, 0, 0],
+        spare: [0; 4],
     };
     table
 }
@@ -388,9 +388,9 @@ fn the_deepest_and_the_longest_table() {
     }
     for table in [&mut deep, &mut long] {
         table.words[0] = 4_096;
-        table.state.c[0].place = 4_095;
+        table.state.c.at[0].place = 4_095;
         assert_eq!(on_big_stack(|| judged("unmarked", table)), None);
-        table.state.c[0].mark = 0;
+        table.state.c.at[0].mark = 0;
         assert_eq!(on_big_stack(|| judged("marked", table)), None);
         table.words[PARTS + ROW * 2_000 + LEAST] = 1;
         assert_eq!(judged("another least place", table), Some(Test::Least));

@@ -49,8 +49,8 @@ fn a_mark_across_two_clocks() {
     let mut table = read(CLOCKS);
     table.action(MOVE, 0, 0).expect("the move");
     assert_eq!(table.tick(1), Ok(()));
-    assert_eq!(table.state.c[0].mark, 0, "marked by A");
-    assert_eq!(table.state.c[1].timer, 0);
+    assert_eq!(table.state.c.at[0].mark, 0, "marked by A");
+    assert_eq!(table.state.c.at[1].timer, 0);
     assert_eq!(table.action(MEET, 0, 1).err(), Some(9));
     assert_eq!(table.tick(0), Ok(()));
     assert_eq!(written(&table), M);

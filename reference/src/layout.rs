@@ -4,7 +4,7 @@
 
 use crate::reading::{MOST_COMPONENTS, MOST_PARTS, MOST_VARIABLES};
 use crate::table::{
-    Table, CHANNELS, COMPONENT, COMPONENTS, DEFINITIONS, LOCATIONS, NAME, OWN, PARTS, ROW, SCRIPT,
+    Table, CHANNELS, COMPONENT, DEFINITIONS, LOCATIONS, NAME, OWN, PARTS, ROW, SCRIPT, STATE,
 };
 use crate::term::{Component, Network, Part, Process, Script, Timer, Value};
 
@@ -41,7 +41,7 @@ pub fn lay(network: &Network) -> Option<Laid> {
     layer.counts(parts);
     layer.names();
     layer.definitions()?;
-    let mut components = vec![0; COMPONENTS];
+    let mut components = vec![0; STATE];
     for (component, words) in network
         .components
         .iter()

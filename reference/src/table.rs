@@ -18,18 +18,22 @@ use crate::rules::Rules;
 use crate::term::{Component, Definition, Network, Part, Process, Script, Timer, Value};
 
 /// Words of a script.
-pub const SCRIPT: usize = 99_592;
-/// Words of the components.
-pub const COMPONENTS: usize = 12 * MOST_COMPONENTS;
+pub const SCRIPT: usize = 99_984;
+/// Words of a state: those of the components, and some behind them.
+pub const STATE: usize = COMPONENT * MOST_COMPONENTS + 16;
 
 /// Where the script's lists begin, and the words of one entry.
 pub const DEFINITIONS: usize = 8;
 pub const LOCATIONS: usize = 776;
 pub const CHANNELS: usize = 1_032;
 pub const PARTS: usize = 1_288;
+/// Where the rows of parts end.
+pub const PARTS_END: usize = PARTS + ROW * MOST_PARTS;
 pub const ROW: usize = 24;
 pub const NAME: usize = 4;
-pub const COMPONENT: usize = 12;
+pub const COMPONENT: usize = 16;
+/// Where the locations of its slots stand; words behind them are not used.
+pub const SLOTS: std::ops::Range<usize> = 4..12;
 
 /// Words of a part's row.
 pub const KIND: usize = 0;
@@ -78,7 +82,7 @@ pub struct Fault {
 /// The tests of question 17, with their numbers in `docs/LAYOUT.md`.
 #[derive(Clone, Copy, Debug, PartialEq, Eq, Hash, PartialOrd, Ord)]
 pub enum Test {
-    /// Not the words of a script and of 256 components.
+    /// Not the words of a script and of a state.
     Sizes,
     /// 1
     Counts,
@@ -250,7 +254,7 @@ impl<'w> Table<'w> {
 
     /// Question 17, or the first test that is not passed.
     pub fn question_17(&self) -> Asked {
-        let sizes = self.script.len() == SCRIPT && self.components.len() == COMPONENTS;
+        let sizes = self.script.len() == SCRIPT && self.components.len() == STATE;
         self.ask(sizes, Test::Sizes, 0)?;
         self.counts()?;
         self.names()?;
@@ -325,7 +329,7 @@ impl<'w> Table<'w> {
         let held = self.field(place, IN_SCOPE) as usize;
         self.ask(held <= MOST_VARIABLES, Test::ScopeSize, place)?;
         let words = self.scope_words(place);
-        let inside = words.iter().all(|at| at + NAME <= SCRIPT);
+        let inside = words.iter().all(|at| at + NAME <= PARTS_END);
         self.ask(inside, Test::ScopeWord, place)?;
         let names: Vec<Letters> = words.iter().map(|at| self.letters(*at)).collect();
         let held = names.iter().copied();
@@ -443,7 +447,8 @@ impl<'w> Table<'w> {
         let place = (words[2] as usize) < self.parts();
         self.ask(place, Test::ComponentPlace, p)?;
         self.ask(words[3] <= INF, Test::ComponentTimer, p)?;
-        self.ask(words[4..].iter().all(location), Test::ComponentValue, p)
+        let held = words[SLOTS].iter().all(location);
+        self.ask(held, Test::ComponentValue, p)
     }
 
     /// Each name of its form, and each held once.
@@ -644,7 +649,7 @@ impl Table<'_> {
         let [location, mark, place, timer] = [0, 1, 2, 3].map(|k| words[k]);
         let place = place as usize;
         let names = self.names_in_scope(place);
-        let values: Vec<Value> = words[4..]
+        let values: Vec<Value> = words[SLOTS]
             .iter()
             .map(|l| Value::Location(self.location(*l as usize)))
             .collect();

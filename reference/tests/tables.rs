@@ -11,7 +11,7 @@ use timo_reference::generate;
 use timo_reference::layout::{lay, Laid};
 use timo_reference::random::Random;
 use timo_reference::table::{
-    Table, Test, CHANNELS, COMPONENT, COMPONENTS, DEFINITIONS, LOCATIONS, PARTS, ROW, SCRIPT,
+    Table, Test, CHANNELS, COMPONENT, DEFINITIONS, LOCATIONS, PARTS, ROW, SCRIPT, SLOTS, STATE,
 };
 use timo_reference::writing;
 
@@ -317,6 +317,9 @@ fn words_that_nothing_looks_at() {
         for word in unused {
             laid.script[word] = 0xdead_beef;
         }
+        for component in laid.components.chunks_mut(COMPONENT) {
+            component[SLOTS.end..].fill(u32::MAX);
+        }
         laid.components[2 * COMPONENT..].fill(u32::MAX);
     };
     let mut laid = good();
@@ -327,7 +330,7 @@ fn words_that_nothing_looks_at() {
 #[test]
 fn other_sizes_do_not_pass() {
     let laid = good();
-    for (script, components) in [(0, 0), (SCRIPT - 1, COMPONENTS), (SCRIPT, COMPONENTS - 1)] {
+    for (script, components) in [(0, 0), (SCRIPT - 1, STATE), (SCRIPT, STATE - 1)] {
         let (script, components) = (&laid.script[..script], &laid.components[..components]);
         let table = Table::new(script, components, laid.n);
         assert_eq!(
@@ -346,7 +349,7 @@ fn values_and_marks() {
     let mut laid = lay(&read(text)).expect("a small network");
     let body = laid.script[DEFINITIONS + 1];
     let second = laid.script[at(body as usize, 6)] - 1;
-    laid.components[..COMPONENT].copy_from_slice(&[1, 64, second, 7, 1, 0, 0, 0, 0, 0, 0, 0]);
+    laid.components[..SLOTS.end].copy_from_slice(&[1, 64, second, 7, 1, 0, 0, 0, 0, 0, 0, 0]);
     let shown = |laid: &Laid| {
         let network = laid.table().network().expect("a network");
         writing::component(&network.components[0])

@@ -15,9 +15,10 @@ use Rattle.terms.specs.Rules.Answer.{refused, accepted}
 use Rattle.table.specs.declared.State.{State}
 use Rattle.table.specs.Valid.{valid}
 use Rattle.calls_act.specs.declared.Acted.{Acted}
-use Rattle.calls_act.specs.Acted.{actionAnswer, actsAs}
+use Rattle.calls_act.specs.Acted.{actionAnswer, after, actsAs}
 use Rattle.calls_tick.specs.declared.Ticked.{Ticked}
 use Rattle.calls_tick.specs.Ticked.{tickAnswer, refusal, ticksAs}
+use Rattle.calls_tick.specs.Ticked as T
 use Rattle.table.proofs.Fires.{map-append}
 use Rattle.terms.specs.Runs.{Fed}
 use Rattle.calls_step.specs.declared.Stepped.{Stepped}
@@ -27,18 +28,13 @@ use Rattle.calls.specs.Run.{Given, answerTo, does, feeds, givenBy, Run, 
 use Rattle.calls.proofs.Demand3.{mixed-calls}
 use Rattle.calls.specs.Run.Run.{over, then}
 
-pub tick-does : (w : List ℕ) (st : State) (x : Answer (List Component)) (r : Ticked) → ticksAs w st x r → does w st x (r .code) (r .state)
-tick-does w st (refused n) r e = (ap (λ z. z .code) e, ap (λ z. z .state) e)
-tick-does w st (accepted cs) r t = record { code = t .code; comps = t .comps; good = t .good; past = t .past }
+pub tick-does : (w : List ℕ) (st : State) (x : Answer (List Component)) (r : Ticked) (out : List ℕ) → ticksAs w st x r out → does w st x (r .code) (T.left r out)
+tick-does w st (refused n) r out e = (ap (λ z. z .code) (e .0), λ i. record { c = e .1 i; n = e .0 i .n })
+tick-does w st (accepted cs) r out t = record { code = t .code; comps = t .comps; good = t .good; past = t .past }
 
-pub act-does : (w : List ℕ) (st : State) (x : Answer ActedBy) (r : Acted) → actsAs w st x r → does w st (x >>= λ a. accepted (a .comps)) (r .code) (r .state)
-act-does w st (refused n) r e = (ap (λ z. z .code) e, ap (λ z. z .state) e)
-act-does w st (accepted a) r t = record { code = t .code; comps = t .comps; good = t .good; past = record { words = λ o b. t .past .words o (omega (arith, t .size)) } }
-
-pub step-does : (w : List ℕ) (st : State) (x : Answer Step) (r : Stepped) (cs : List ℕ) (before after : List (List ℕ)) → stepsAs w st x r cs before after
-    → does w st (x >>= λ s. accepted (s .comps)) (r .code) (left r cs)
-step-does w st (refused n) r cs before after e = (ap (λ z. z .code) (e .0), λ i. record { c = e .1 i; n = e .0 i .n })
-step-does w st (accepted s) r cs before after t = record { code = t .code; comps = t .comps; good = t .good; past = t .past }
+pub act-does : (w : List ℕ) (st : State) (x : Answer ActedBy) (r : Acted) (cs : List ℕ) → actsAs w st x r cs → does w st (x >>= λ a. accepted (a .comps)) (r .code) (after st cs)
+act-does w st (refused n) r cs e = (ap (λ z. z .code) (e .0), ap (after st) (e .1))
+act-does w st (accepted a) r cs t = record { code = t .code; comps = t .comps; good = t .good; past = t .past }
 
 -- ── question 17 in a list of actions and ticks: no call changes its answer ──
 not-good : (w : List ℕ) (st : State) (e : List ℕ) → valid w st ≡ false → answerTo w st (givenBy e) ≡ refused 17
@@ -49,8 +45,8 @@ not-good w st e v = go (eqb (getD e 0 0) 4)
     go true = unfold answerTo tickAnswer in rw v
     go false = unfold answerTo actionAnswer in rw v
 
-pub refused-17 : (w : List ℕ) (st : State) (e : List ℕ) (r : Ticked) → valid w st ≡ false → r ≡ refusal 17 st → does w st (answerTo w st (givenBy e)) (r .code) (r .state)
-refused-17 w st e r v q = rw (not-good w st e v) (ap (λ z. z .code) q, ap (λ z. z .state) q)
+pub refused-17 : (w : List ℕ) (st : State) (e : List ℕ) (r : Ticked) → valid w st ≡ false → r ≡ refusal 17 (st .n) → does w st (answerTo w st (givenBy e)) (r .code) (T.left r (st .c))
+refused-17 w st e r v q = rw (not-good w st e v) (ap (λ z. z .code) q, ap (λ z. T.left z (st .c)) q)
 
 still-good : (w : List ℕ) (st next : State) (e : List ℕ) (k : ℕ) (b : Bool) → valid w st ≡ b → does w st (answerTo w st (givenBy e)) k next → valid w next ≡ b
 still-good w st next e k true v d = go (answerTo w st (givenBy e)) d

@@ -8,7 +8,7 @@ use mathlib.Core.Path.{_≡_, refl, sym, ap, subst, _∙_}
 use lib.Dec.{eqb, ltb, leb}
 use lib.ListN.{length}
 use Rattle.terms.specs.Names.{Name, sameName}
-use Rattle.terms.specs.Terms.{Component, Def, firesAt}
+use Rattle.terms.specs.Terms.{Component, Context, firesAt}
 use Rattle.terms.specs.Rules.{Answer, Action, Acted, _>>=_, act, tick, ok}
 use Rattle.terms.specs.Rules.Answer.{refused, accepted}
 use Rattle.terms.specs.Rules.Kind.{calls, moves}
@@ -21,7 +21,7 @@ use Rattle.terms.proofs.Answers.{clash, took, bind-inv, cond-inv}
 use Rattle.terms.proofs.Steps.{step-whole}
 use Rattle.table.specs.declared.State.{State}
 use Rattle.table.specs.Words.{locsIn, locName}
-use Rattle.table.specs.Meaning.{defsOf, netOf}
+use Rattle.table.specs.Meaning.{contextOf, netOf}
 use Rattle.table.specs.Valid.{valid}
 use Rattle.calls_act.specs.Acted.{asked, actionOf, actionRule, actionAnswer}
 use Rattle.calls_tick.specs.Ticked.{room, tickRule, tickAnswer}
@@ -41,33 +41,33 @@ unfolding room
 room-inv cs ds e = took (asked-inv 13 (leb (length cs) 256) (accepted cs) ds e .1)
 
 -- ── one call that is accepted ──
-tick-allowed : (w : List ℕ) (st : State) (l : ℕ) (cs : List Component) → tickAnswer w st l ≡ accepted cs → tick (defsOf w) (locName w l) (netOf w st) ≡ accepted cs
+tick-allowed : (w : List ℕ) (st : State) (l : ℕ) (cs : List Component) → tickAnswer w st l ≡ accepted cs → tick (contextOf w) (locName w l) (netOf w st) ≡ accepted cs
 unfolding tickAnswer tickRule
 tick-allowed w st l cs e =
     let a = asked-inv 17 (valid w st) _ cs e in
     let b = asked-inv 8 (ltb l (locsIn w)) _ cs (a .1) in
-    let r = bind-inv (tick (defsOf w) (locName w l) (netOf w st)) room cs (b .1) in
+    let r = bind-inv (tick (contextOf w) (locName w l) (netOf w st)) room cs (b .1) in
     r .1 ∙ ap accepted (room-inv (r .0) cs (r .2))
 
-action-allowed : (w : List ℕ) (st : State) (k p q : ℕ) (r : Acted) → actionAnswer w st k p q ≡ accepted r → act (defsOf w) (named k p q) (netOf w st) ≡ accepted r
+action-allowed : (w : List ℕ) (st : State) (k p q : ℕ) (r : Acted) → actionAnswer w st k p q ≡ accepted r → act (contextOf w) (named k p q) (netOf w st) ≡ accepted r
 unfolding actionAnswer actionRule
 action-allowed w st k p q r e =
     let a = asked-inv 17 (valid w st) _ r e in
     go (actionOf k p q) (a .1)
   where
-    go : (x : Answer Action) → (x >>= λ a. act (defsOf w) a (netOf w st)) ≡ accepted r → act (defsOf w) (actionFor x p q) (netOf w st) ≡ accepted r
+    go : (x : Answer Action) → (x >>= λ a. act (contextOf w) a (netOf w st)) ≡ accepted r → act (contextOf w) (actionFor x p q) (netOf w st) ≡ accepted r
     go (refused n) e = clash e
     go (accepted a) e = e
 
 -- ── actions one by one, then the tick ──
-act-straight : (d : List Def) (l : Name) (x : Action) (net : List Component) (r : Acted) (fs : List Fed) → actAt d l x net ≡ accepted r → straightRun d (acted x ∷ fs) net ≡ straightRun d fs (r .comps)
+act-straight : (d : Context) (l : Name) (x : Action) (net : List Component) (r : Acted) (fs : List Fed) → actAt d l x net ≡ accepted r → straightRun d (acted x ∷ fs) net ≡ straightRun d fs (r .comps)
 unfolding actAt straightRun
 act-straight d l x net r fs e =
     let a = bind-inv (act d x net) _ r e in
     let c = cond-inv (sameName (firesAt (a .0 .label)) l) (a .0) r 16 (a .2) in
     rw (a .1) (ap (λ z. straightRun d fs (z .comps)) (c .1))
 
-acts-straight : (d : List Def) (l : Name) (xs : List Action) (net : List Component) (s : Done) (fs : List Fed) → actAll d l xs net ≡ accepted s → straightRun d (map acted xs ++ fs) net ≡ straightRun d fs (s .comps)
+acts-straight : (d : Context) (l : Name) (xs : List Action) (net : List Component) (s : Done) (fs : List Fed) → actAll d l xs net ≡ accepted s → straightRun d (map acted xs ++ fs) net ≡ straightRun d fs (s .comps)
 unfolding actAll
 acts-straight d l [] net s fs e = ap (λ z. straightRun d fs (z .comps)) (took e)
 acts-straight d l (x ∷ xs) net s fs e =
@@ -75,7 +75,7 @@ acts-straight d l (x ∷ xs) net s fs e =
     let t = bind-inv (actAll d l xs (u .0 .comps)) _ s (u .2) in
     act-straight d l x net (u .0) (map acted xs ++ fs) (u .1) ∙ acts-straight d l xs (u .0 .comps) (t .0) fs (t .1) ∙ ap (λ z. straightRun d fs (z .comps)) (took (t .2))
 
-records-straight : (d : List Def) (l : Name) (rs : List Record) (net after : List Component) (fs : List Fed) → recordsRule d l rs net ≡ accepted after
+records-straight : (d : Context) (l : Name) (rs : List Record) (net after : List Component) (fs : List Fed) → recordsRule d l rs net ≡ accepted after
     → straightRun d (map acted (map (λ r. named (r .kind) (r .p) (r .q)) rs) ++ fs) net ≡ straightRun d fs after
 unfolding recordsRule recordRule
 records-straight d l [] net after fs e = ap (straightRun d fs) (took e)
@@ -89,39 +89,39 @@ records-straight d l (r ∷ rs) net after fs e =
     ∙ ap (straightRun d _) (took (x .2))
     ∙ records-straight d l rs (u .0) after fs (u .2)
 
-tick-straight : (d : List Def) (l : Name) (net after : List Component) → tick d l net ≡ accepted after → straightRun d (fed (ticking l) true ∷ []) net ≡ accepted after
+tick-straight : (d : Context) (l : Name) (net after : List Component) → tick d l net ≡ accepted after → straightRun d (fed (ticking l) true ∷ []) net ≡ accepted after
 unfolding straightRun
 tick-straight d l net after e = rw e
 
 -- an accepted step
-step-straight : (w : List ℕ) (st : State) (l size : ℕ) (s : Step) → stepAnswer w st l size ≡ accepted s → straightRun (defsOf w) (whole (locName w l) (s .actions)) (netOf w st) ≡ accepted (s .comps)
+step-straight : (w : List ℕ) (st : State) (l size : ℕ) (s : Step) → stepAnswer w st l size ≡ accepted s → straightRun (contextOf w) (whole (locName w l) (s .actions)) (netOf w st) ≡ accepted (s .comps)
 unfolding stepAnswer stepRule wholeStep
 step-straight w st l size s e =
     let a = asked-inv 17 (valid w st) _ s e in
     let b = asked-inv 8 (ltb l (locsIn w)) _ s (a .1) in
-    let c = asked-inv 15 (leb (length (fires (defsOf w) (locName w l) (netOf w st) .actions)) size) _ s (b .1) in
-    let r = bind-inv (step (defsOf w) (locName w l) (netOf w st)) _ s (c .1) in
+    let c = asked-inv 15 (leb (length (fires (contextOf w) (locName w l) (netOf w st) .actions)) size) _ s (b .1) in
+    let r = bind-inv (step (contextOf w) (locName w l) (netOf w st)) _ s (c .1) in
     let m = bind-inv (room (r .0 .comps)) _ s (r .2) in
     let q : s ≡ stepOf (r .0 .actions) (r .0 .comps) = sym (took (m .2)) ∙ ap (stepOf (r .0 .actions)) (sym (room-inv (r .0 .comps) (m .0) (m .1))) in
-    let h = step-whole (defsOf w) (locName w l) (netOf w st) (r .0) (r .1) in
-    let x = bind-inv (actAll (defsOf w) (locName w l) (r .0 .actions) (netOf w st)) _ _ h in
-    let t = bind-inv (tick (defsOf w) (locName w l) (x .0 .comps)) _ _ (x .2) in
-    subst (λ z. straightRun (defsOf w) (whole (locName w l) (z .actions)) (netOf w st) ≡ accepted (z .comps)) (sym q)
-    (acts-straight (defsOf w) (locName w l) (r .0 .actions) (netOf w st) (x .0) _ (x .1) ∙ tick-straight (defsOf w) (locName w l) (x .0 .comps) (t .0) (t .1) ∙ ap accepted (ap (λ z. z .comps) (took (t .2))))
+    let h = step-whole (contextOf w) (locName w l) (netOf w st) (r .0) (r .1) in
+    let x = bind-inv (actAll (contextOf w) (locName w l) (r .0 .actions) (netOf w st)) _ _ h in
+    let t = bind-inv (tick (contextOf w) (locName w l) (x .0 .comps)) _ _ (x .2) in
+    subst (λ z. straightRun (contextOf w) (whole (locName w l) (z .actions)) (netOf w st) ≡ accepted (z .comps)) (sym q)
+    (acts-straight (contextOf w) (locName w l) (r .0 .actions) (netOf w st) (x .0) _ (x .1) ∙ tick-straight (contextOf w) (locName w l) (x .0 .comps) (t .0) (t .1) ∙ ap accepted (ap (λ z. z .comps) (took (t .2))))
 
 -- an accepted proposal
 proposal-straight : (w : List ℕ) (st : State) (l : ℕ) (rs : List Record) (cs : List Component) → proposeAnswer w st l rs ≡ accepted cs
-    → straightRun (defsOf w) (whole (locName w l) (map (λ r. named (r .kind) (r .p) (r .q)) rs)) (netOf w st) ≡ accepted cs
+    → straightRun (contextOf w) (whole (locName w l) (map (λ r. named (r .kind) (r .p) (r .q)) rs)) (netOf w st) ≡ accepted cs
 unfolding proposeAnswer proposeRule
 proposal-straight w st l rs cs e =
     let a = asked-inv 17 (valid w st) _ cs e in
     let b = asked-inv 8 (ltb l (locsIn w)) _ cs (a .1) in
-    let r = bind-inv (recordsRule (defsOf w) (locName w l) rs (netOf w st)) _ cs (b .1) in
-    let t = bind-inv (tick (defsOf w) (locName w l) (r .0)) room cs (r .2) in
-    records-straight (defsOf w) (locName w l) rs (netOf w st) (r .0) _ (r .1) ∙ tick-straight (defsOf w) (locName w l) (r .0) (t .0) (t .1) ∙ ap accepted (room-inv (t .0) cs (t .2))
+    let r = bind-inv (recordsRule (contextOf w) (locName w l) rs (netOf w st)) _ cs (b .1) in
+    let t = bind-inv (tick (contextOf w) (locName w l) (r .0)) room cs (r .2) in
+    records-straight (contextOf w) (locName w l) rs (netOf w st) (r .0) _ (r .1) ∙ tick-straight (contextOf w) (locName w l) (r .0) (t .0) (t .1) ∙ ap accepted (room-inv (t .0) cs (t .2))
 
 -- ── one call of a list ──
-run-append : (d : List Def) (xs ys : List Fed) (net : List Component) → straightRun d (xs ++ ys) net ≡ (straightRun d xs net >>= straightRun d ys)
+run-append : (d : Context) (xs ys : List Fed) (net : List Component) → straightRun d (xs ++ ys) net ≡ (straightRun d xs net >>= straightRun d ys)
 unfolding straightRun
 run-append d [] ys net = refl
 run-append d (fed c false ∷ xs) ys net = run-append d xs ys net
@@ -138,30 +138,30 @@ run-append d (fed (ticking l) true ∷ xs) ys net = go (tick d l net) (λ m. run
     go (refused n) h = refl
     go (accepted m) h = h m
 
-call-straight : (w : List ℕ) (st : State) (g : Given) (k : ℕ) (next : State) → does w st (answerTo w st g) k next → straightRun (defsOf w) (feeds w st g) (netOf w st) ≡ accepted (netOf w next)
+call-straight : (w : List ℕ) (st : State) (g : Given) (k : ℕ) (next : State) → does w st (answerTo w st g) k next → straightRun (contextOf w) (feeds w st g) (netOf w st) ≡ accepted (netOf w next)
 unfolding answerTo feeds
 call-straight w st (G.action k p q) j next h = go (actionAnswer w st k p q) refl h
   where
-    go : (x : Answer Acted) → actionAnswer w st k p q ≡ x → does w st (x >>= λ a. accepted (a .comps)) j next → straightRun (defsOf w) (fed (acting (named k p q)) (ok x) ∷ []) (netOf w st) ≡ accepted (netOf w next)
+    go : (x : Answer Acted) → actionAnswer w st k p q ≡ x → does w st (x >>= λ a. accepted (a .comps)) j next → straightRun (contextOf w) (fed (acting (named k p q)) (ok x) ∷ []) (netOf w st) ≡ accepted (netOf w next)
     go (refused n) e h = unfold straightRun in ap (λ z. accepted (netOf w z)) (sym (h .1))
     go (accepted a) e h = unfold straightRun in rw (action-allowed w st k p q a e) (ap accepted (sym (h .comps)))
 call-straight w st (G.tick l) j next h = go (tickAnswer w st l) refl h
   where
-    go : (x : Answer (List Component)) → tickAnswer w st l ≡ x → does w st x j next → straightRun (defsOf w) (fed (ticking (locName w l)) (ok x) ∷ []) (netOf w st) ≡ accepted (netOf w next)
+    go : (x : Answer (List Component)) → tickAnswer w st l ≡ x → does w st x j next → straightRun (contextOf w) (fed (ticking (locName w l)) (ok x) ∷ []) (netOf w st) ≡ accepted (netOf w next)
     go (refused n) e h = unfold straightRun in ap (λ z. accepted (netOf w z)) (sym (h .1))
-    go (accepted cs) e h = tick-straight (defsOf w) (locName w l) (netOf w st) cs (tick-allowed w st l cs e) ∙ ap accepted (sym (h .comps))
+    go (accepted cs) e h = tick-straight (contextOf w) (locName w l) (netOf w st) cs (tick-allowed w st l cs e) ∙ ap accepted (sym (h .comps))
 call-straight w st (G.step l size) j next h = go (stepAnswer w st l size) refl h
   where
-    go : (x : Answer Step) → stepAnswer w st l size ≡ x → does w st (x >>= λ s. accepted (s .comps)) j next → straightRun (defsOf w) (stepFeeds (locName w l) x) (netOf w st) ≡ accepted (netOf w next)
+    go : (x : Answer Step) → stepAnswer w st l size ≡ x → does w st (x >>= λ s. accepted (s .comps)) j next → straightRun (contextOf w) (stepFeeds (locName w l) x) (netOf w st) ≡ accepted (netOf w next)
     go (refused n) e h = unfold straightRun in ap (λ z. accepted (netOf w z)) (sym (h .1))
     go (accepted s) e h = step-straight w st l size s e ∙ ap accepted (sym (h .comps))
 call-straight w st (G.proposal l rs) j next h = go (proposeAnswer w st l rs) refl h
   where
-    go : (x : Answer (List Component)) → proposeAnswer w st l rs ≡ x → does w st x j next → straightRun (defsOf w) (proposalFeeds (locName w l) rs x) (netOf w st) ≡ accepted (netOf w next)
+    go : (x : Answer (List Component)) → proposeAnswer w st l rs ≡ x → does w st x j next → straightRun (contextOf w) (proposalFeeds (locName w l) rs x) (netOf w st) ≡ accepted (netOf w next)
     go (refused n) e h = unfold straightRun in ap (λ z. accepted (netOf w z)) (sym (h .1))
     go (accepted cs) e h = proposal-straight w st l rs cs e ∙ ap accepted (sym (h .comps))
 
 -- ── the list ──
-pub straight-run : (w : List ℕ) {st last : State} {gs : List Given} {ks : List ℕ} {fs : List Fed} → Run w st gs ks fs last → straightRun (defsOf w) fs (netOf w st) ≡ accepted (netOf w last)
+pub straight-run : (w : List ℕ) {st last : State} {gs : List Given} {ks : List ℕ} {fs : List Fed} → Run w st gs ks fs last → straightRun (contextOf w) fs (netOf w st) ≡ accepted (netOf w last)
 straight-run w over = unfold straightRun in refl
-straight-run w (then {st = st} {next = next} {g = g} {k = k} {fs = fs} d r) = run-append (defsOf w) (feeds w st g) fs (netOf w st) ∙ rw (call-straight w st g k next d) (straight-run w r)
+straight-run w (then {st = st} {next = next} {g = g} {k = k} {fs = fs} d r) = run-append (contextOf w) (feeds w st g) fs (netOf w st) ∙ rw (call-straight w st g k next d) (straight-run w r)

@@ -4,41 +4,44 @@
 use Prim.Native.Nat.{ℕ, min}
 use mathlib.Core.List.{List}
 use mathlib.Core.Path.{_≡_}
-use lib.ListN.{length, replicate}
-use Rattle.terms.specs.Terms.{Network}
+use lib.ListN.{length}
+use Rattle.terms.specs.Terms.{Network, contextIn}
 use Rattle.terms.specs.Rules.{Answer}
 use Rattle.terms.specs.Rules.Answer.{refused, accepted}
 use Rattle.terms.specs.Runs.{Fed}
 use Rattle.table.specs.declared.State.{State}
-use Rattle.table.specs.Meaning.{defsOf, netOf}
+use Rattle.table.specs.Meaning.{contextOf, netOf}
 use Rattle.text.specs.Questions.{read}
 use Rattle.text_read.specs.declared.Reading.{Reading}
 use Rattle.text_read.specs.Answer.{Took, ReadsAs}
 use Rattle.calls.specs.declared.RanText.{RanText}
 use Rattle.calls.specs.Run.{Given, Run, Mixed, RunsAs}
-use Rattle.table.specs.Words.{stateWords}
 
 -- s the text, w and v the lent script before and after reading it, r what reading returned
 abbrev pub Demand3 : Type 0
 Demand3 =
     (s w v : List ℕ) (r : Reading) (m : Network) → ReadsAs s w v r → read s ≡ accepted m
     → (gs : List Given) (ks : List ℕ) (fs : List Fed) (last : State) → Run v (r .state) gs ks fs last
-    → (defsOf v ≡ m .defs) × Mixed m fs (netOf v last)
+    → (contextOf v ≡ contextIn m) × Mixed m fs (netOf v last)
 
 -- ── the function that reads a text and runs a list ──
 abbrev pub textRefused : ℕ → RanText
-textRefused n = record { code = n; done = 0; state = record { c = replicate stateWords 0; n = 0 } }
+textRefused n = record { code = n; done = 0; n = 0 }
+
+-- the lent components afterwards, of which the answer says how many are in use
+abbrev pub left : RanText → List ℕ → State
+left r cs = record { c = cs; n = r .n }
 
 -- an accepted text: it is read as the read call does it, the list is run from what was read, and demand 3 holds of it
-pub record TextRan (s w v : List ℕ) (m : Network) (es : List (List ℕ)) (before after : List ℕ) (r : RanText) : Type 0 where
+pub record TextRan (s w v cs : List ℕ) (m : Network) (es : List (List ℕ)) (before after : List ℕ) (r : RanText) : Type 0 where
   pub code : r .code ≡ 0
   pub done : r .done ≡ min (length es) (length before)
   pub reading : Reading
   pub took : Took s w v m reading
-  pub ran : RunsAs v (reading .state) es before after (r .done) (r .state)
-  pub mixed : Mixed m (ran .fs) (netOf v (r .state))
+  pub ran : RunsAs v (reading .state) es before after (r .done) (left r cs)
+  pub mixed : Mixed m (ran .fs) (netOf v (left r cs))
 
--- the text s was read into the lent script, w before and v after, and then the list es was run
-abbrev pub textRuns : List ℕ → Answer Network → List ℕ → List ℕ → List (List ℕ) → List ℕ → List ℕ → RanText → Type 0
-textRuns s (refused n) w v es before after r = (r ≡ textRefused n) × (v ≡ w) × (after ≡ before)
-textRuns s (accepted m) w v es before after r = TextRan s w v m es before after r
+-- the text s was read into the lent script, w before and v after, and into the lent components, cs₀ before, and then the list es was run, which left cs
+abbrev pub textRuns : List ℕ → Answer Network → List ℕ → List ℕ → List ℕ → List ℕ → List (List ℕ) → List ℕ → List ℕ → RanText → Type 0
+textRuns s (refused n) w v cs₀ cs es before after r = (r ≡ textRefused n) × (v ≡ w) × (cs ≡ cs₀) × (after ≡ before)
+textRuns s (accepted m) w v cs₀ cs es before after r = TextRan s w v cs m es before after r

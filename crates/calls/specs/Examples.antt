@@ -5,7 +5,7 @@ use mathlib.Core.Bool.{true}
 use mathlib.Core.Path.{_≡_, refl}
 use lib.ListN.{replicate}
 use Rattle.terms.specs.Names.{Name, bytes}
-use Rattle.terms.specs.Terms.{Component}
+use Rattle.terms.specs.Terms.{Component, contextIn}
 use Rattle.terms.specs.Terms.Part.{stop}
 use Rattle.terms.specs.Terms.Process.{one, _∥_}
 use Rattle.terms.specs.Terms.Mark.{none, by}
@@ -43,11 +43,11 @@ of s = read s >>= λ m. accepted (m .comps)
 
 -- and after calls: the first that the rules refuse gives its number
 unfoldable after : List ℕ → List Fed → Answer (List Component)
-after s fs = of s >>= straightRun [] fs
+after s fs = read s >>= λ m. straightRun (contextIn m) fs (m .comps)
 
 -- after a step at k, then one at l
 unfoldable stepped : List ℕ → Name → Name → Answer (List Component)
-stepped s k l = of s >>= λ cs. step [] k cs >>= λ r. step [] l (r .comps) >>= λ t. accepted (t .comps)
+stepped s k l = read s >>= λ m. step (contextIn m) k (m .comps) >>= λ r. step (contextIn m) l (r .comps) >>= λ t. accepted (t .comps)
 
 -- the same components marked by l
 abbrev markedBy : Name → Component → Component
@@ -136,13 +136,13 @@ unfolding reading
 example9 = refl
 
 -- ── 10: the step takes the lowest output ──
-example10 : (of (bytes "A[out(c,1,B,stop,stop) | out(c,1,A,stop,stop) | in(c,1,x,go(0,x,stop),stop)] .") >>= λ cs. step [] A cs >>= λ r. accepted (r .comps))
+example10 : (read (bytes "A[out(c,1,B,stop,stop) | out(c,1,A,stop,stop) | in(c,1,x,go(0,x,stop),stop)] .") >>= λ m. step (contextIn m) A (m .comps) >>= λ r. accepted (r .comps))
     ≡ of (bytes "A[stop] | A[out(c,0,A,stop,stop)] | A[go(0,B,stop)] .")
 unfolding reading
 example10 = refl
 
 -- ── 11: 256 components, one marked by A and holding two parts, the others `stop`: the tick at A is turned down for want of space ──
-example11 : (tick [] A (comp A (by A) (stop ∥ one stop) ∷ replicate 255 (comp A none (one stop))) >>= room) ≡ refused 13
+example11 : (tick (record { defs = [] }) A (comp A (by A) (stop ∥ one stop) ∷ replicate 255 (comp A none (one stop))) >>= room) ≡ refused 13
 unfolding rules room
 example11 = refl
 

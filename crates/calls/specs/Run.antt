@@ -7,7 +7,7 @@ use mathlib.Core.Path.{_≡_}
 use lib.Dec.{eqb}
 use lib.ListN.{getD, take, drop}
 use Rattle.terms.specs.Names.{Name}
-use Rattle.terms.specs.Terms.{Component, Network}
+use Rattle.terms.specs.Terms.{Component, Network, contextIn}
 use Rattle.terms.specs.Rules.{Answer, Action, _>>=_, ok, unmarked}
 use Rattle.terms.specs.Rules.Answer.{refused, accepted}
 use Rattle.terms.specs.Rules.Action.{pair}
@@ -40,7 +40,7 @@ answerTo w st (tick l) = tickAnswer w st l
 answerTo w st (step l size) = stepAnswer w st l size >>= λ s. accepted (s .comps)
 answerTo w st (proposal l rs) = proposeAnswer w st l rs
 
--- an accepted call: the code 0, the next components, which pass question 17, and every word past them as it was
+-- an accepted call: the code 0, the next components, which pass question 17, and every word that is none of theirs as it was
 pub record Accepted (w : List ℕ) (st : State) (cs : List Component) (k : ℕ) (next : State) : Type 0 where
   pub code : k ≡ 0
   pub comps : netOf w next ≡ cs
@@ -93,7 +93,7 @@ pub data Run (w : List ℕ) : State → List Given → List ℕ → List Fed →
 -- the engine's last, position by position; and the grouped one has its components, each as often. (The definitions are those of m throughout.)
 pub record Mixed (m : Network) (fs : List Fed) (last : List Component) : Type 0 where
   pub grouped : List Component
-  pub runs : groupedRun (m .defs) fs (m .comps) ≡ accepted (record { straight = last; grouped = grouped })
+  pub runs : groupedRun (contextIn m) fs (m .comps) ≡ accepted (record { straight = last; grouped = grouped })
   pub same : List·Permᴰ grouped last
 
 -- ── a list in numbers, as the function `run` takes it ──

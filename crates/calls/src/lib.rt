@@ -24,49 +24,48 @@ use calls_step::step;
 use calls_tick::Ticked;
 use calls_tick::tick;
 use table::Script;
-use table::State;
 use table::Words;
-use table::valid;
+use table_valid::is_valid;
 
-// How many calls of a list were made, and the last state.
+// How many calls of a list were made, and the number of components after them.
 pub struct Ran {
     pub done: usize,
-    pub state: State,
+    pub n: usize,
 }
 
-// After a text and a list of calls: the code of the reading, how many calls were made, and the last state.
+// After a text and a list of calls: the code of the reading, how many calls were made, and the number of components after them.
 pub struct RanText {
     pub code: u32,
     pub done: usize,
-    pub state: State,
+    pub n: usize,
 }
 
-// An action of the given kind at p, and q for kind 3: questions 17, 8, 9, 10, 11.
-pub fn action(w: &Script, st: State, kind: u32, p: usize, q: usize) -> Acted
-    ensures { λ r. ⌜ actsAs (now (w .entry)) st (actionAnswer (now (w .entry)) st kind p q) r ⌝ }
+// An action of the given kind at p, and q for kind 3: questions 17, 8, 9, 10, 11. The components are lent, n of them in use, as in every call below; a refusal
+// leaves them as they were.
+pub fn action(w: &Script, c: &mut Words, n: usize, kind: u32, p: usize, q: usize) -> Acted
+    ensures { λ r. ⌜ actsAs (now (w .entry)) (record { c = now (c .entry); n = n }) (actionAnswer (now (w .entry)) (record { c = now (c .entry); n = n }) kind p q) r (now (c .exit)) ⌝ }
 {
-    if valid::is_valid(w, &st.c, st.n) {
-        return act::act_valid(w, st, kind, p, q);
+    if is_valid(w, c, n) {
+        return act::act_valid(w, c, n, kind, p, q);
     }
-    act::refuse(17, st)
+    act::refuse(17)
 }
 
 // The tick at the location numbered l: questions 17, 8, 12, 13.
-pub fn tick_at(w: &Script, st: State, l: u32) -> Ticked
-    ensures { λ r. ⌜ ticksAs (now (w .entry)) st (tickAnswer (now (w .entry)) st l) r ⌝ }
+pub fn tick_at(w: &Script, c: &mut Words, n: usize, l: u32) -> Ticked
+    ensures { λ r. ⌜ ticksAs (now (w .entry)) (record { c = now (c .entry); n = n }) (tickAnswer (now (w .entry)) (record { c = now (c .entry); n = n }) l) r (now (c .exit)) ⌝ }
 {
-    if valid::is_valid(w, &st.c, st.n) {
-        return tick::tick_valid(w, st, l);
+    if is_valid(w, c, n) {
+        return tick::tick_valid(w, c, n, l);
     }
-    tick::refuse(17, st)
+    tick::refuse(17, n)
 }
 
-// The step at the location numbered l: questions 17, 8, 15, 13. The components are lent, n of them in use, and left as the step leaves them; the records
-// of its actions stand in front of what was in the buffer.
+// The step at the location numbered l: questions 17, 8, 15, 13. The records of its actions stand in front of what was in the buffer.
 pub fn step_at(w: &Script, c: &mut Words, n: usize, l: u32, records: &mut [[u32; 3]]) -> Stepped
     ensures { λ r. ⌜ stepsAs (now (w .entry)) (record { c = now (c .entry); n = n }) (stepAnswer (now (w .entry)) (record { c = now (c .entry); n = n }) l (length (now (records .entry)))) r (now (c .exit)) (now (records .entry)) (now (records .exit)) ⌝ }
 {
-    if valid::is_valid(w, c, n) {
+    if is_valid(w, c, n) {
         return step::step_valid(w, c, n, l, records);
     }
     step::refuse(17, n)
@@ -76,7 +75,7 @@ pub fn step_at(w: &Script, c: &mut Words, n: usize, l: u32, records: &mut [[u32;
 pub fn forced_report(w: &Script, c: &Words, n: usize) -> Report
     ensures { λ r. ⌜ r ≡ forcedReport (now (w .entry)) (record { c = now (c .entry); n = n }) ⌝ }
 {
-    if valid::is_valid(w, c, n) {
+    if is_valid(w, c, n) {
         return forced::forced_valid(w, c, n);
     }
     Report {

@@ -26,7 +26,7 @@ callee-small w i Stop n e = omega arith
 callee-small w i (Go t v p) n e = omega arith
 callee-small w i (Out c t v p q) n e = omega arith
 callee-small w i (In c t k p q) n e = omega arith
-callee-small w i (Call d m a₀ a₁ a₂ a₃) n e = omega (arith, ltb-true d (defsIn w) (and-inv (ltb d (defsIn w)) _ e .0))
+callee-small w i (Call d m) n e = omega (arith, ltb-true d (defsIn w) (and-inv (ltb d (defsIn w)) _ e .0))
 
 pub callee-fits : (w : List ℕ) (c : Comp) → scriptOk w ≡ true → compOk w c ≡ true → callee (headAt w (c .place)) < 32
 callee-fits w c e f = callee-small w (c .place) (headAt w (c .place)) (script-fine w e .defs) (part-fine w e (c .place) (comp-fine w c f .place) .head)
@@ -37,4 +37,4 @@ meet-out c e d t v p q Stop = refl
 meet-out c e d t v p q (Go t′ v′ p′) = refl
 meet-out c e d t v p q (Out d′ t′ v′ p′ q′) = refl
 meet-out c e d t v p q (In d′ t′ k p′ q′) = refl
-meet-out c e d t v p q (Call d′ n a₀ a₁ a₂ a₃) = refl
+meet-out c e d t v p q (Call d′ n) = refl

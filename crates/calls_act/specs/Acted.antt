@@ -1,19 +1,20 @@
--- What the answer of an action stands for: document 01, *Actions* and *Questions, asked downward*. A refusal is its number with the state as it was.
+-- What the answer of an action stands for: document 01, *Actions* and *Questions, asked downward*. A refusal is its number, and leaves the components.
 use Prim.Native.Nat.{ℕ, _*_}
 use mathlib.Core.List.{List}
 use mathlib.Core.Bool.{Bool, true, false, cond}
 use mathlib.Core.Path.{_≡_}
 use lib.Dec.{eqb}
 use lib.Seq.{sets}
-use Rattle.terms.specs.Rules.{Answer, Action, Acted as ActedBy, _>>=_, act}
+use Rattle.terms.specs.Rules.{Answer, Kind, Action, Acted as ActedBy, _>>=_, act}
 use Rattle.terms.specs.Rules.Answer.{refused, accepted}
 use Rattle.terms.specs.Rules.Kind.{calls, moves}
 use Rattle.terms.specs.Rules.Action.{single, pair}
 use Rattle.table.specs.declared.Comp.{Comp}
 use Rattle.table.specs.declared.State.{State}
-use Rattle.table.specs.Meaning.{wordsIn, PastKept, defsOf, compsOf, netOf}
+use Rattle.table.specs.Meaning.{wordsIn, PastKept, contextOf, compsOf, netOf}
 use Rattle.table.specs.Valid.{valid}
 use Rattle.table.specs.Fire.{ActedAt, tagIn, tagHeld}
+use Rattle.calls_act.specs.declared.Label.{Label}
 use Rattle.calls_act.specs.declared.Fired.{Fired}
 use Rattle.calls_act.specs.declared.Met.{Met}
 use Rattle.calls_act.specs.declared.Acted.{Acted}
@@ -35,50 +36,61 @@ actionOf k p q =
 
 -- an action of kind k at p and q, as the rules answer it: questions 8 to 11
 unfoldable pub actionRule : List ℕ → State → ℕ → ℕ → ℕ → Answer ActedBy
-actionRule w st k p q = actionOf k p q >>= λ a. act (defsOf w) a (netOf w st)
+actionRule w st k p q = actionOf k p q >>= λ a. act (contextOf w) a (netOf w st)
 
 -- question 17 first
 unfoldable pub actionAnswer : List ℕ → State → ℕ → ℕ → ℕ → Answer ActedBy
 actionAnswer w st k p q = asked 17 (valid w st) (actionRule w st k p q)
 
-abbrev pub refusal : ℕ → State → Acted
-refusal n st = record { code = n; label = noLabel; state = st }
+abbrev pub refusal : ℕ → Acted
+refusal n = record { code = n; label = noLabel }
 
--- an accepted action: the code 0; the four numbers of the label, each of them in range; the next components, with question 17 still answered by yes;
--- as many as before, and every word past them as it was
-pub record Took (w : List ℕ) (st : State) (a : ActedBy) (r : Acted) : Type 0 where
+-- as many components as in st, with the words cs
+abbrev pub after : State → List ℕ → State
+after st cs = record { c = cs; n = st .n }
+
+-- an accepted action: the code 0; the four numbers of the label, each of them in range; the next components, as many as before, with question 17 still
+-- answered by yes; and every word that is none of theirs as it was
+pub record Took (w : List ℕ) (st : State) (a : ActedBy) (r : Acted) (cs : List ℕ) : Type 0 where
   pub code : r .code ≡ 0
   pub label : tagOf (r .label) ≡ tagIn w (a .label)
   pub held : tagHeld w (tagOf (r .label)) ≡ true
-  pub comps : netOf w (r .state) ≡ a .comps
-  pub good : valid w (r .state) ≡ true
-  pub size : r .state .n ≡ st .n
-  pub past : PastKept (st .n) (st .c) (r .state .c)
+  pub comps : netOf w (after st cs) ≡ a .comps
+  pub good : valid w (after st cs) ≡ true
+  pub past : PastKept (st .n) (st .c) cs
 
--- the code's answer r stands for the answer of the rules
-abbrev pub actsAs : List ℕ → State → Answer ActedBy → Acted → Type 0
-actsAs w st (refused n) r = r ≡ refusal n st
-actsAs w st (accepted a) r = Took w st a r
+-- the code's answer r and the lent components cs afterwards stand for the answer of the rules
+abbrev pub actsAs : List ℕ → State → Answer ActedBy → Acted → List ℕ → Type 0
+actsAs w st (refused n) r cs = (r ≡ refusal n) × (cs ≡ st .c)
+actsAs w st (accepted a) r cs = Took w st a r cs
 
 -- ── the same on the table ──
-pub record Leaves (st : State) (a : ActedAt) (r : Acted) : Type 0 where
+pub record Leaves (st : State) (a : ActedAt) (r : Acted) (cs : List ℕ) : Type 0 where
   pub code : r .code ≡ 0
   pub tag : tagOf (r .label) ≡ a .tag
-  pub comps : compsOf (r .state) ≡ a .comps
-  pub size : r .state .n ≡ st .n
-  pub past : PastKept (st .n) (st .c) (r .state .c)
+  pub comps : compsOf (after st cs) ≡ a .comps
+  pub past : PastKept (st .n) (st .c) cs
 
-abbrev pub leaves : State → Answer ActedAt → Acted → Type 0
-leaves st (refused n) r = r ≡ refusal n st
-leaves st (accepted a) r = Leaves st a r
+abbrev pub leaves : State → Answer ActedAt → Acted → List ℕ → Type 0
+leaves st (refused n) r cs = (r ≡ refusal n) × (cs ≡ st .c)
+leaves st (accepted a) r cs = Leaves st a r cs
 
-abbrev pub putAt : State → ℕ → Comp → State
-putAt st p v = record { c = sets (st .c) (p * compSize) (wordsIn v); n = st .n }
+-- the kind of an action of one component: is it a call?
+abbrev pub singleKind : Bool → Kind
+singleKind true = calls
+singleKind false = moves
 
--- what one component at p has become
-abbrev pub settledOne : State → ℕ → Fired → Acted
-settledOne st p f = cond (eqb (f .code) 0) (record { code = 0; label = f .label; state = putAt st p (f .comp) }) (refusal (f .code) st)
+-- the answer of an action of which the code and the label are these
+abbrev pub settled : ℕ → Label → Acted
+settled k l = cond (eqb k 0) (record { code = 0; label = l }) (refusal k)
 
--- what an output at p and an input at q have become
-abbrev pub settledTwo : State → ℕ → ℕ → Met → Acted
-settledTwo st p q m = cond (eqb (m .code) 0) (record { code = 0; label = m .label; state = putAt (putAt st p (m .sender)) q (m .receiver) }) (refusal (m .code) st)
+abbrev pub putAt : List ℕ → ℕ → Comp → List ℕ
+putAt cs p v = sets cs (p * compSize) (wordsIn v)
+
+-- the components once the one at p has become what f says
+abbrev pub putOne : List ℕ → ℕ → Fired → List ℕ
+putOne cs p f = cond (eqb (f .code) 0) (putAt cs p (f .comp)) cs
+
+-- and once an output at p and an input at q have become what m says
+abbrev pub putTwo : List ℕ → ℕ → ℕ → Met → List ℕ
+putTwo cs p q m = cond (eqb (m .code) 0) (putAt (putAt cs p (m .sender)) q (m .receiver)) cs

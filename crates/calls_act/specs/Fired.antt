@@ -40,12 +40,12 @@ callee Stop = 0
 callee (Go t v p) = 0
 callee (Out c t v p q) = 0
 callee (In c t k p q) = 0
-callee (Call d n a₀ a₁ a₂ a₃) = d
+callee (Call d n) = d
 
 -- an output of c on the channel d with the value x and its P at p, and a component e whose part is g
 unfoldable pub meetsInput : Comp → Comp → ℕ → ℕ → ℕ → Head → Answer Left
 meetsInput c e d x p Stop = refused 10
 meetsInput c e d x p (Go t v q) = refused 10
 meetsInput c e d x p (Out d′ t v q r) = refused 10
-meetsInput c e d x p (Call d′ n a₀ a₁ a₂ a₃) = refused 10
+meetsInput c e d x p (Call d′ n) = refused 10
 meetsInput c e d x p (In d′ t k p′ q) = cond (eqb d d′ && eqb (c .loc) (e .loc)) (accepted (handed c e d x p k p′)) (refused 11)

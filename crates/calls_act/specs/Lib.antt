@@ -1,2 +1,3 @@
 pub mod Fired
 pub mod Acted
+pub mod Labelled

@@ -1,15 +1,13 @@
-// An action at positions of a table that passes question 17.
+// An action at positions of a table that passes question 17, in the lent components. A refusal writes nothing.
 ghost use mathlib.Core.Path.{_≡_};
 ghost use mathlib.Core.Bool.{true};
 ghost use Prim.Native.Nat.{_<_};
-ghost use lib.ListN.{length};
-ghost use Rattle.terms.specs.Rules.Kind.{calls, moves};
 ghost use Rattle.terms.specs.Rules.Action.{single, pair};
-ghost use Rattle.table.specs.Meaning.{compIn, compsOf};
-ghost use Rattle.table.specs.Valid.{valid};
-ghost use Rattle.table.specs.Fire.{actOn};
-ghost use Rattle.calls_act.specs.Acted.{actionRule, refusal, actsAs, leaves, settledOne, settledTwo};
-ghost use Rattle.table.specs.Words.{stateWords};
+ghost use Rattle.table.specs.Meaning.{compsOf};
+ghost use Rattle.table.specs.Valid.{scriptOk, compOk, valid};
+ghost use Rattle.table.specs.Fire.{aloneAt, actOn};
+ghost use Rattle.calls_act.specs.Fired.{oneOf};
+ghost use Rattle.calls_act.specs.Acted.{actionRule, refusal, actsAs, leaves, singleKind, settled, putOne, putTwo};
 use super::Acted;
 use super::Fired;
 use super::Label;
@@ -17,12 +15,13 @@ use super::Met;
 use super::fire;
 use table::Comp;
 use table::Script;
-use table::State;
+use table::Words;
 use table::comps::comp_at;
 use table::comps::put_comp;
+use table::comps::sized;
 
-pub fn refuse(code: u32, st: State) -> Acted
-    ensures { λ r. ⌜ r ≡ refusal code st ⌝ }
+pub fn refuse(code: u32) -> Acted
+    ensures { λ r. ⌜ r ≡ refusal code ⌝ }
 {
     Acted {
         code: code,
@@ -32,108 +31,97 @@ pub fn refuse(code: u32, st: State) -> Acted
             b: 0,
             at: 0,
         },
-        state: st,
     }
 }
 
-fn entry(st: State, p: usize) -> Comp
+fn settle_one(c: &mut Words, p: usize, f: Fired) -> Acted
     requires { ⌜ p < 256 ⌝ }
-    ensures { λ r. ⌜ (r ≡ compIn (st .c) p) × (length (st .c) ≡ stateWords) ⌝ }
-{
-    comp_at(&st.c, p)
-}
-
-fn settle_one(st: State, p: usize, f: Fired) -> Acted
-    requires { ⌜ p < 256 ⌝ }
-    ensures { λ r. ⌜ r ≡ settledOne st p f ⌝ }
+    ensures { λ r. ⌜ (r ≡ settled (f .code) (f .label)) × (now (c .exit) ≡ putOne (now (c .entry)) p f) ⌝ }
 {
     if f.code == 0 {
         let label = f.label;
         let d = f.comp;
-        let mut next = st;
-        put_comp(&mut next.c, p, d);
+        put_comp(c, p, d);
         return Acted {
             code: 0,
             label: label,
-            state: next,
         };
     }
-    refuse(f.code, st)
+    refuse(f.code)
 }
 
-fn settle_two(st: State, p: usize, q: usize, m: Met) -> Acted
+fn settle_two(c: &mut Words, p: usize, q: usize, m: Met) -> Acted
     requires { ⌜ (p < 256) × (q < 256) ⌝ }
-    ensures { λ r. ⌜ r ≡ settledTwo st p q m ⌝ }
+    ensures { λ r. ⌜ (r ≡ settled (m .code) (m .label)) × (now (c .exit) ≡ putTwo (now (c .entry)) p q m) ⌝ }
 {
     if m.code == 0 {
         let label = m.label;
         let a = m.sender;
         let b = m.receiver;
-        let mut next = st;
-        put_comp(&mut next.c, p, a);
-        put_comp(&mut next.c, q, b);
+        put_comp(c, p, a);
+        put_comp(c, q, b);
         return Acted {
             code: 0,
             label: label,
-            state: next,
         };
     }
-    refuse(m.code, st)
+    refuse(m.code)
 }
 
-fn act_call(w: &Script, st: State, p: usize) -> Acted
-    requires { ⌜ valid (now w) st ≡ true ⌝ }
-    ensures { λ r. ⌜ leaves st (actOn (now (w .entry)) (single calls p) (compsOf st)) r ⌝ }
+// Questions 9 and 10 of a call by x, or of a move of x.
+pub(crate) fn fire_one(w: &Script, call: bool, x: Comp) -> Fired
+    requires { ⌜ (scriptOk (now w) ≡ true) × (compOk (now w) x ≡ true) ⌝ }
+    ensures { λ r. ⌜ oneOf r ≡ aloneAt (now (w .entry)) (singleKind call) x ⌝ }
 {
-    if st.n <= p {
-        return refuse(8, st);
+    if call {
+        return fire::fire_call(w, x);
     }
-    let c = entry(st, p);
-    let f = fire::fire_call(w, c);
-    settle_one(st, p, f)
+    fire::fire_move(w, x)
 }
 
-fn act_move(w: &Script, st: State, p: usize) -> Acted
-    requires { ⌜ valid (now w) st ≡ true ⌝ }
-    ensures { λ r. ⌜ leaves st (actOn (now (w .entry)) (single moves p) (compsOf st)) r ⌝ }
+fn act_one(w: &Script, c: &mut Words, n: usize, call: bool, p: usize) -> Acted
+    requires { ⌜ valid (now w) (record { c = now c; n = n }) ≡ true ⌝ }
+    ensures { λ r. ⌜ leaves (record { c = now (c .entry); n = n }) (actOn (now (w .entry)) (single (singleKind call) p) (compsOf (record { c = now (c .entry); n = n }))) r (now (c .exit)) ⌝ }
 {
-    if st.n <= p {
-        return refuse(8, st);
+    if n <= p {
+        return refuse(8);
     }
-    let c = entry(st, p);
-    let f = fire::fire_move(w, c);
-    settle_one(st, p, f)
+    sized(*c);
+    let x = comp_at(c, p);
+    let f = fire_one(w, call, x);
+    settle_one(c, p, f)
 }
 
-fn act_pair(w: &Script, st: State, p: usize, q: usize) -> Acted
-    requires { ⌜ valid (now w) st ≡ true ⌝ }
-    ensures { λ r. ⌜ leaves st (actOn (now (w .entry)) (pair p q) (compsOf st)) r ⌝ }
+fn act_pair(w: &Script, c: &mut Words, n: usize, p: usize, q: usize) -> Acted
+    requires { ⌜ valid (now w) (record { c = now c; n = n }) ≡ true ⌝ }
+    ensures { λ r. ⌜ leaves (record { c = now (c .entry); n = n }) (actOn (now (w .entry)) (pair p q) (compsOf (record { c = now (c .entry); n = n }))) r (now (c .exit)) ⌝ }
 {
-    if st.n <= p {
-        return refuse(8, st);
+    if n <= p {
+        return refuse(8);
     }
-    if st.n <= q {
-        return refuse(8, st);
+    if n <= q {
+        return refuse(8);
     }
-    let c = entry(st, p);
-    let e = entry(st, q);
-    let m = fire::fire_pair(w, c, e);
-    settle_two(st, p, q, m)
+    sized(*c);
+    let x = comp_at(c, p);
+    let y = comp_at(c, q);
+    let m = fire::fire_pair(w, x, y);
+    settle_two(c, p, q, m)
 }
 
 // Questions 8 to 11 of an action, and what it leaves.
-pub fn act_valid(w: &Script, st: State, kind: u32, p: usize, q: usize) -> Acted
-    requires { ⌜ valid (now w) st ≡ true ⌝ }
-    ensures { λ r. ⌜ actsAs (now (w .entry)) st (actionRule (now (w .entry)) st kind p q) r ⌝ }
+pub fn act_valid(w: &Script, c: &mut Words, n: usize, kind: u32, p: usize, q: usize) -> Acted
+    requires { ⌜ valid (now w) (record { c = now c; n = n }) ≡ true ⌝ }
+    ensures { λ r. ⌜ actsAs (now (w .entry)) (record { c = now (c .entry); n = n }) (actionRule (now (w .entry)) (record { c = now (c .entry); n = n }) kind p q) r (now (c .exit)) ⌝ }
 {
     if kind == 1 {
-        return act_call(w, st, p);
+        return act_one(w, c, n, true, p);
     }
     if kind == 2 {
-        return act_move(w, st, p);
+        return act_one(w, c, n, false, p);
     }
     if kind == 3 {
-        return act_pair(w, st, p, q);
+        return act_pair(w, c, n, p, q);
     }
-    refuse(8, st)
+    refuse(8)
 }

@@ -75,27 +75,30 @@ pub fn not_met(code: u32, c: Comp, e: Comp) -> Met
     }
 }
 
-fn arg_in(vals: [u32; 8], n: u32, k: u32, v: u32) -> u32
-    ensures { λ r. ⌜ r ≡ argIn vals n k v ⌝ }
+// What argument k of the n arguments of the call at i puts in its slot.
+fn arg_in(w: &Script, i: usize, vals: [u32; 8], n: u32, k: u32) -> u32
+    requires { ⌜ (i < 4096) × (k < 4) ⌝ }
+    ensures { λ r. ⌜ r ≡ argIn (now (w .entry)) i vals n k ⌝ }
 {
     if k < n {
-        return value_in(vals, v);
+        return value_in(vals, words::arg_at(w, i, words::wide(k)));
     }
     0
 }
 
 // A call by c, whose part is h.
 fn becomes_call(w: &Script, c: Comp, h: Head) -> Fired
-    requires { ⌜ callee h < 32 ⌝ }
+    requires { ⌜ (callee h < 32) × (c .place < 4096) ⌝ }
     ensures { λ r. ⌜ oneOf r ≡ becomesAt (now (w .entry)) calls c h ⌝ }
 {
     match h {
-        Head::Call(d, n, a, b, e, f) => {
+        Head::Call(d, n) => {
             let vals = c.vals;
-            let x0 = arg_in(vals, n, 0, a);
-            let x1 = arg_in(vals, n, 1, b);
-            let x2 = arg_in(vals, n, 2, e);
-            let x3 = arg_in(vals, n, 3, f);
+            let i = words::wide(c.place);
+            let x0 = arg_in(w, i, vals, n, 0);
+            let x1 = arg_in(w, i, vals, n, 1);
+            let x2 = arg_in(w, i, vals, n, 2);
+            let x3 = arg_in(w, i, vals, n, 3);
             let place = words::body_of(w, words::wide(d));
             let l = c.loc;
             Fired {
@@ -139,7 +142,7 @@ fn becomes_move(c: Comp, h: Head) -> Fired
         Head::Stop => not_fired(10, c),
         Head::Out(_, _, _, _, _) => not_fired(10, c),
         Head::In(_, _, _, _, _) => not_fired(10, c),
-        Head::Call(_, _, _, _, _, _) => not_fired(10, c),
+        Head::Call(_, _) => not_fired(10, c),
     }
 }
 
@@ -186,7 +189,7 @@ fn meets_input(c: Comp, e: Comp, d: u32, x: u32, p: u32, g: Head) -> Met
         Head::Stop => not_met(10, c, e),
         Head::Go(_, _, _) => not_met(10, c, e),
         Head::Out(_, _, _, _, _) => not_met(10, c, e),
-        Head::Call(_, _, _, _, _, _) => not_met(10, c, e),
+        Head::Call(_, _) => not_met(10, c, e),
     }
 }
 
@@ -203,7 +206,7 @@ fn meet(c: Comp, e: Comp, h: Head, g: Head) -> Met
         Head::Stop => not_met(10, c, e),
         Head::Go(_, _, _) => not_met(10, c, e),
         Head::In(_, _, _, _, _) => not_met(10, c, e),
-        Head::Call(_, _, _, _, _, _) => not_met(10, c, e),
+        Head::Call(_, _) => not_met(10, c, e),
     }
 }
 

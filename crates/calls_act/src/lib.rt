@@ -2,16 +2,19 @@
 //
 //   specs/Fired   what the answers of one and of two components stand for
 //   specs/Acted   what the answer of an action stands for
+//   specs/Labelled of that answer, the label
 //   fire          one component, two components
 //   act           an action at positions of a valid table
+//   naming        the label of such an action, from its components alone
 //
 //   proofs/Heads      what question 17 gives the functions of `fire`
 //   proofs/Positions  an action at positions leaves what the rules leave
+//   proofs/Labelling  the label from the components alone is that of the action
 pub mod act;
 pub mod fire;
+pub mod naming;
 
 use table::Comp;
-use table::State;
 
 // A label in numbers. Kind 1: the definition a is called. Kind 2: the location a is moved to. Kind 3: the value b is sent on the channel a.
 // It fires at the location at.
@@ -38,10 +41,9 @@ pub struct Met {
     pub receiver: Comp,
 }
 
-// The answer of an action: code 0 with the label and the next state, or the number of the question answered by no with the state as it was.
+// The answer of an action: code 0 with the label, or the number of the question answered by no. There are as many components as before.
 #[repr(C)]
 pub struct Acted {
     pub code: u32,
     pub label: Label,
-    pub state: State,
 }

@@ -15,9 +15,9 @@ use Rattle.table.specs.declared.State.{State}
 use Rattle.table.specs.declared.Head.{Head}
 use Rattle.table.specs.declared.Head.the-variants.{Stop, Go, Out, In, Call}
 use Rattle.table.specs.Words.{locsIn, chansIn, locName, headAt}
-use Rattle.table.specs.Meaning.{defsOf, compsOf, netOf}
+use Rattle.table.specs.Meaning.{contextOf, compsOf, netOf}
 use Rattle.table.specs.Valid.{headOk, scriptOk, compOk, valid}
-use Rattle.table.specs.Fire.{readyAt, hears, pressesAt, forcedAt}
+use Rattle.table.specs.Fire.{readyAt, hears, pressesAt, forcedAt, sentOn, mustAct, heardAt}
 use Rattle.table.proofs.Tests.{script-fine, part-fine, comp-fine}
 use Rattle.table.proofs.Places.{out-fine, in-fine}
 use Rattle.table.proofs.Ticks.{forced-means}
@@ -60,7 +60,7 @@ module _ (w : List ℕ) (s : scriptOk w ≡ true) where
   ear-in-at i a l h Stop e b k = nowhere a l h b k
   ear-in-at i a l h (Go t v p) e b k = nowhere a l h b k
   ear-in-at i a l h (Out d t v p q) e b k = nowhere a l h b k
-  ear-in-at i a l h (Call d n a₀ a₁ a₂ a₃) e b k = nowhere a l h b k
+  ear-in-at i a l h (Call d n) e b k = nowhere a l h b k
   ear-in-at i a l h (In d t n p q) e b k = go (eqb a l) (eqb h d) refl refl
     where
       small : d < 64
@@ -83,31 +83,31 @@ module _ (w : List ℕ) (s : scriptOk w ≡ true) where
       go false = ear-in-at (c .place) (c .loc) l h (headAt w (c .place)) (head-good c e) b k
 
   module _ (cs : List Comp) (each : every (compOk w) cs ≡ true) (ys : List ℕ) (heard : Marked 4_096 (earOf w) cs ys) where
-    heard-is : (l h : ℕ) → l < 64 → h < 64 → isHeard ys (l * 64 + h) ≡ some (λ e. readyAt l e && hears h (headAt w (e .place))) cs
-    unfolding isHeard
+    heard-is : (l h : ℕ) → l < 64 → h < 64 → isHeard ys (l * 64 + h) ≡ heardAt w l cs h
+    unfolding isHeard heardAt
     heard-is l h b k = rw (lt-ltb (l * 64 + h) 4_096 (omega arith)) (heard (l * 64 + h) (omega arith) ∙ some-same (compOk w) _ _ cs (ear-at l h b k) each)
 
     -- ── what presses ──
-    presses-is : (i l t : ℕ) (g : Head) → headOk w i g ≡ true → l < 64 → pressesIn ys l t g ≡ pressesAt w l cs t g
-    unfolding pressesIn pressesAt
-    presses-is i l t Stop e b = refl
-    presses-is i l t (Go u v p) e b = refl
-    presses-is i l t (Out d u v p q) e b = heard-is l d b (omega (arith, chans, ltb-true d (chansIn w) (out-fine w i d u v p q e .channel)))
-    presses-is i l t (In d u k p q) e b = refl
-    presses-is i l t (Call d n a₀ a₁ a₂ a₃) e b = refl
+    presses-is : (i : ℕ) (c : Comp) (g : Head) → headOk w i g ≡ true → c .loc < 64 → pressesIn ys c g ≡ mustAct (heardAt w (c .loc) cs (sentOn g)) c g
+    unfolding pressesIn mustAct sentOn
+    presses-is i c Stop e b = refl
+    presses-is i c (Go u v p) e b = refl
+    presses-is i c (Out d u v p q) e b = heard-is (c .loc) d b (omega (arith, chans, ltb-true d (chansIn w) (out-fine w i d u v p q e .channel)))
+    presses-is i c (In d u k p q) e b = refl
+    presses-is i c (Call d n) e b = refl
 
-    press-at : (l : ℕ) → l < 64 → (c : Comp) → compOk w c ≡ true → eqb (pressOf w ys c) l ≡ (readyAt l c && pressesAt w l cs (c .timer) (headAt w (c .place)))
-    unfolding pressOf readyAt
+    press-at : (l : ℕ) → l < 64 → (c : Comp) → compOk w c ≡ true → eqb (pressOf w ys c) l ≡ pressesAt w l cs c
+    unfolding pressOf pressesAt readyAt
     press-at l b c e = go (ltb (c .mark) 64)
       where
         own : c .loc < 64
         own = omega (arith, locs, comp-fine w c e .loc)
 
         P : ℕ → Bool
-        P k = pressesAt w k cs (c .timer) (headAt w (c .place))
+        P k = mustAct (heardAt w k cs (sentOn (headAt w (c .place)))) c (headAt w (c .place))
 
-        mine : pressesIn ys (c .loc) (c .timer) (headAt w (c .place)) ≡ P (c .loc)
-        mine = presses-is (c .place) (c .loc) (c .timer) (headAt w (c .place)) (head-good c e) own
+        mine : pressesIn ys c (headAt w (c .place)) ≡ P (c .loc)
+        mine = presses-is (c .place) c (headAt w (c .place)) (head-good c e) own
 
         none : eqb 64 l ≡ false
         none = ne-eqb 64 l (λ z. omega arith)
@@ -120,11 +120,11 @@ module _ (w : List ℕ) (s : scriptOk w ≡ true) where
         elsewhere true z = z
         elsewhere false z = none
 
-        at-l : (y : Bool) → eqb (c .loc) l ≡ y → eqb (cond (pressesIn ys (c .loc) (c .timer) (headAt w (c .place))) (c .loc) 64) l ≡ (y && P l)
+        at-l : (y : Bool) → eqb (c .loc) l ≡ y → eqb (cond (pressesIn ys c (headAt w (c .place))) (c .loc) 64) l ≡ (y && P l)
         at-l true z = ap (λ x. eqb (cond x (c .loc) 64) l) mine ∙ ap (λ k. eqb (cond (P k) k 64) l) (eqb-true (c .loc) l z) ∙ here (P l)
-        at-l false z = elsewhere (pressesIn ys (c .loc) (c .timer) (headAt w (c .place))) z
+        at-l false z = elsewhere (pressesIn ys c (headAt w (c .place))) z
 
-        go : (x : Bool) → eqb (cond x 64 (cond (pressesIn ys (c .loc) (c .timer) (headAt w (c .place))) (c .loc) 64)) l ≡ ((not x && eqb (c .loc) l) && P l)
+        go : (x : Bool) → eqb (cond x 64 (cond (pressesIn ys c (headAt w (c .place))) (c .loc) 64)) l ≡ ((not x && eqb (c .loc) l) && P l)
         go true = none
         go false = at-l (eqb (c .loc) l) refl
 
@@ -134,10 +134,10 @@ module _ (w : List ℕ) (s : scriptOk w ≡ true) where
 
     -- nobody stands past the script's locations
     forced-past : (l : ℕ) → locsIn w ≤ l → forcedAt w l cs ≡ false
-    unfolding forcedAt readyAt
+    unfolding forcedAt pressesAt readyAt
     forced-past l h = some-same (compOk w) _ (λ c. false) cs (λ c e. away c (ne-eqb (c .loc) l (λ z. omega (arith, comp-fine w c e .loc)))) each ∙ never cs
       where
-        away : (c : Comp) → eqb (c .loc) l ≡ false → ((not (ltb (c .mark) 64) && eqb (c .loc) l) && pressesAt w l cs (c .timer) (headAt w (c .place))) ≡ false
+        away : (c : Comp) → eqb (c .loc) l ≡ false → ((not (ltb (c .mark) 64) && eqb (c .loc) l) && mustAct (heardAt w l cs (sentOn (headAt w (c .place)))) c (headAt w (c .place))) ≡ false
         away c z = rw (z, and-none (not (ltb (c .mark) 64)))
 
 -- the set of the marks is the set of the forced locations
@@ -152,6 +152,6 @@ set-is w st ys hs v m k = mask-same (isMarked hs) (forcedTest w st) 0 64 (λ l b
     each : every (compOk w) (compsOf st) ≡ true
     each = valid-parts w st v .1 .each
 
-    go : (l : ℕ) → l < 64 → (x : Bool) → ltb l (locsIn w) ≡ x → isMarked hs l ≡ (ltb l (locsIn w) && forced (defsOf w) (locName w l) (netOf w st))
+    go : (l : ℕ) → l < 64 → (x : Bool) → ltb l (locsIn w) ≡ x → isMarked hs l ≡ (ltb l (locsIn w) && forced (contextOf w) (locName w l) (netOf w st))
     go l b true e = forced-is w s (compsOf st) each ys m hs k l b ∙ sym (rw e (forced-means w s l (ltb-true l (locsIn w) e) (compsOf st) each))
     go l b false e = forced-is w s (compsOf st) each ys m hs k l b ∙ forced-past w s (compsOf st) each ys m l (omega (arith, ltb-false l (locsIn w) e)) ∙ sym (rw e)

@@ -11,6 +11,7 @@ use Rattle.table.specs.declared.Comp.{Comp}
 use Rattle.table.specs.declared.Head.{Head}
 use Rattle.table.specs.declared.Head.the-variants.{Stop, Go, Out, In, Call}
 use Rattle.table.specs.Words.{headAt}
+use Rattle.table.specs.Fire.{sentOn, mustAct}
 
 abbrev pub isMarked : List ℕ → ℕ → Bool
 isMarked ys k = eqb (getD ys k 0) 1
@@ -25,7 +26,7 @@ earIn l Stop = 4_096
 earIn l (Go t v p) = 4_096
 earIn l (Out h t v p q) = 4_096
 earIn l (In h t k p q) = l * 64 + h
-earIn l (Call d n a₀ a₁ a₂ a₃) = 4_096
+earIn l (Call d n) = 4_096
 
 unfoldable pub earOf : List ℕ → Comp → ℕ
 earOf w c = cond (ltb (c .mark) 64) 4_096 (earIn (c .loc) (headAt w (c .place)))
@@ -34,14 +35,10 @@ earOf w c = cond (ltb (c .mark) 64) 4_096 (earIn (c .loc) (headAt w (c .place)))
 unfoldable pub isHeard : List ℕ → ℕ → Bool
 isHeard ys k = ltb k 4_096 && isMarked ys k
 
--- of a part at the location l with the timer t, where ys are heard: must it act before a tick?
-unfoldable pub pressesIn : List ℕ → ℕ → ℕ → Head → Bool
-pressesIn ys l t Stop = false
-pressesIn ys l t (Go u v p) = eqb t 0
-pressesIn ys l t (Out h u v p q) = isHeard ys (l * 64 + h)
-pressesIn ys l t (In h u k p q) = false
-pressesIn ys l t (Call d n a₀ a₁ a₂ a₃) = true
+-- where ys are heard: must c, which is unmarked and has the head h, act before a tick?
+unfoldable pub pressesIn : List ℕ → Comp → Head → Bool
+pressesIn ys c h = mustAct (isHeard ys (c .loc * 64 + sentOn h)) c h
 
 -- the location of a component that presses; 64 for one that does not
 unfoldable pub pressOf : List ℕ → List ℕ → Comp → ℕ
-pressOf w ys c = cond (ltb (c .mark) 64) 64 (cond (pressesIn ys (c .loc) (c .timer) (headAt w (c .place))) (c .loc) 64)
+pressOf w ys c = cond (ltb (c .mark) 64) 64 (cond (pressesIn ys c (headAt w (c .place))) (c .loc) 64)

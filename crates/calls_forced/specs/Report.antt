@@ -6,7 +6,7 @@ use lib.Dec.{ltb}
 use Rattle.terms.specs.Rules.{forced}
 use Rattle.table.specs.declared.State.{State}
 use Rattle.table.specs.Words.{locsIn, locName}
-use Rattle.table.specs.Meaning.{defsOf, netOf}
+use Rattle.table.specs.Meaning.{contextOf, netOf}
 use Rattle.table.specs.Valid.{valid}
 use Rattle.calls_forced.specs.declared.Report.{Report}
 
@@ -31,7 +31,7 @@ least p j (suc d) = cond (p j) 0 (suc (least p (suc j) d))
 
 -- l is a location of the script where the tick is not allowed by the rules
 unfoldable pub forcedTest : List ℕ → State → ℕ → Bool
-forcedTest w st l = ltb l (locsIn w) && forced (defsOf w) (locName w l) (netOf w st)
+forcedTest w st l = ltb l (locsIn w) && forced (contextOf w) (locName w l) (netOf w st)
 
 -- the report of the locations that pass a test
 abbrev pub reportOf : (ℕ → Bool) → Report

@@ -19,7 +19,7 @@ fn ear_in(l: u32, h: Head) -> usize
         Head::Stop => 4096,
         Head::Go(_, _, _) => 4096,
         Head::Out(_, _, _, _, _) => 4096,
-        Head::Call(_, _, _, _, _, _) => 4096,
+        Head::Call(_, _) => 4096,
     }
 }
 

@@ -4,6 +4,8 @@ ghost use mathlib.Core.Bool.{true};
 ghost use Rattle.table.specs.Meaning.{compsOf};
 ghost use Rattle.table.specs.Valid.{scriptOk, compOk, valid};
 ghost use Rattle.calls_forced.specs.Marked.{Marked, isHeard, pressesIn, pressOf};
+use calls_tick::forced::must_act;
+use calls_tick::forced::sent_on;
 use table::Comp;
 use table::Head;
 use table::Script;
@@ -20,16 +22,11 @@ fn is_heard(ears: &[u32; 4096], k: usize) -> bool
     false
 }
 
-fn presses(ears: &[u32; 4096], l: u32, t: u32, h: Head) -> bool
-    ensures { λ r. ⌜ r ≡ pressesIn (now (ears .entry)) l t h ⌝ }
+fn presses(ears: &[u32; 4096], c: Comp, h: Head) -> bool
+    ensures { λ r. ⌜ r ≡ pressesIn (now (ears .entry)) c h ⌝ }
 {
-    match h {
-        Head::Stop => false,
-        Head::Go(_, _, _) => t == 0,
-        Head::Out(d, _, _, _, _) => is_heard(ears, words::wide(l) * 64 + words::wide(d)),
-        Head::In(_, _, _, _, _) => false,
-        Head::Call(_, _, _, _, _, _) => true,
-    }
+    let heard = is_heard(ears, words::wide(c.loc) * 64 + words::wide(sent_on(h)));
+    must_act(heard, c, h)
 }
 
 // The location of c if it presses there, else 64.
@@ -41,7 +38,7 @@ fn press_of(w: &Script, ears: &[u32; 4096], c: Comp) -> usize
         return 64;
     }
     let h = words::head_at(w, words::wide(c.place));
-    if presses(ears, c.loc, c.timer, h) {
+    if presses(ears, c, h) {
         return words::wide(c.loc);
     }
     64

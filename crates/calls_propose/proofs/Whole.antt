@@ -5,14 +5,14 @@ use mathlib.Core.List.{List, [], _∷_}
 use mathlib.Core.Path.{_≡_, refl, ap, _∙_}
 use lib.Dec.{ltb}
 use Rattle.terms.specs.Names.{Name}
-use Rattle.terms.specs.Terms.{Component, Def}
+use Rattle.terms.specs.Terms.{Component, Context}
 use Rattle.terms.specs.Rules.{Answer, Action, Acted, _>>=_, tick}
 use Rattle.terms.specs.Rules.Answer.{refused, accepted}
 use Rattle.terms.specs.Step.{Done, actAt, actAll, wholeStep}
 use Rattle.terms.proofs.Answers.{took, bind-inv}
 use Rattle.table.specs.declared.State.{State}
 use Rattle.table.specs.Words.{locsIn, locName}
-use Rattle.table.specs.Meaning.{defsOf, netOf}
+use Rattle.table.specs.Meaning.{contextOf, netOf}
 use Rattle.calls_act.specs.Acted.{asked, actionOf}
 use Rattle.calls_tick.specs.Ticked.{room}
 use Rattle.calls_propose.specs.declared.Record.{Record}
@@ -25,7 +25,7 @@ behind r s = record { labels = r .label ∷ s .labels; comps = s .comps }
 abbrev ticked : Done → List Component → Done
 ticked s n = record { labels = s .labels; comps = n }
 
-module _ (d : List Def) (l : Name) where
+module _ (d : Context) (l : Name) where
   -- an action, then what those after it leave
   then-all : (a : Action) (xs : List Action) (rs : List Record) (net : List Component) → ((n : List Component) → recordsRule d l rs n ≡ (actAll d l xs n >>= λ s. accepted (s .comps)))
       → ((actAt d l a net >>= λ x. accepted (x .comps)) >>= recordsRule d l rs) ≡ (actAll d l (a ∷ xs) net >>= λ s. accepted (s .comps))
@@ -55,15 +55,15 @@ module _ (d : List Def) (l : Name) where
       ap (λ x. x >>= recordsRule d l rs) (named r (a .0) net (a .1)) ∙ then-all (a .0) (b .0) rs net (records-all rs (b .0) (b .1)) ∙ ap (λ y. actAll d l y net >>= λ s. accepted (s .comps)) (took (b .2))
 
 pub proposal-whole : (w : List ℕ) (st : State) (l : ℕ) (rs : List Record) (xs : List Action) → actionsOf rs ≡ accepted xs
-    → proposeRule w st l rs ≡ asked 8 (ltb l (locsIn w)) (wholeStep (defsOf w) (locName w l) xs (netOf w st) >>= λ s. room (s .comps))
+    → proposeRule w st l rs ≡ asked 8 (ltb l (locsIn w)) (wholeStep (contextOf w) (locName w l) xs (netOf w st) >>= λ s. room (s .comps))
 unfolding proposeRule wholeStep
-proposal-whole w st l rs xs e = ap (asked 8 (ltb l (locsIn w))) (ap (λ x. x >>= λ n. tick (defsOf w) (locName w l) n >>= room) (records-all (defsOf w) (locName w l) rs xs e (netOf w st)) ∙ go (actAll (defsOf w) (locName w l) xs (netOf w st)))
+proposal-whole w st l rs xs e = ap (asked 8 (ltb l (locsIn w))) (ap (λ x. x >>= λ n. tick (contextOf w) (locName w l) n >>= room) (records-all (contextOf w) (locName w l) rs xs e (netOf w st)) ∙ go (actAll (contextOf w) (locName w l) xs (netOf w st)))
   where
     same : (s : Done) (y : Answer (List Component)) → (y >>= room) ≡ ((y >>= λ n. accepted (ticked s n)) >>= λ s. room (s .comps))
     same s (refused n) = refl
     same s (accepted n) = refl
 
-    go : (x : Answer Done) → ((x >>= λ s. accepted (s .comps)) >>= λ n. tick (defsOf w) (locName w l) n >>= room)
-        ≡ ((x >>= λ s. tick (defsOf w) (locName w l) (s .comps) >>= λ n. accepted (ticked s n)) >>= λ s. room (s .comps))
+    go : (x : Answer Done) → ((x >>= λ s. accepted (s .comps)) >>= λ n. tick (contextOf w) (locName w l) n >>= room)
+        ≡ ((x >>= λ s. tick (contextOf w) (locName w l) (s .comps) >>= λ n. accepted (ticked s n)) >>= λ s. room (s .comps))
     go (refused n) = refl
-    go (accepted s) = same s (tick (defsOf w) (locName w l) (s .comps))
+    go (accepted s) = same s (tick (contextOf w) (locName w l) (s .comps))

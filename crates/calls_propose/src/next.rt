@@ -1,37 +1,46 @@
-// The parts of a proposal. What stands between them is a `Ticked`: code 0 with the state that the actions so far leave, or the number
-// of the question answered by no with a state that nobody reads.
+// The parts of a proposal, each in the lent components. What stands between them is a code: 0, or the number of the question answered by no, and then what
+// the components hold is of no use.
 ghost use mathlib.Core.Path.{_≡_};
 ghost use mathlib.Core.Bool.{true, _&&_};
+ghost use Prim.Native.Nat.{_<_};
 ghost use lib.Dec.{eqb, ltb};
+ghost use Rattle.table.specs.Words.{locsIn};
 ghost use Rattle.table.specs.Valid.{valid};
 ghost use Rattle.calls_tick.specs.Ticked.{ticksAs};
-ghost use Rattle.calls_propose.specs.Proposed.{soFar, Held, InUseOnly, Next, begun, firedNext, tickedLast};
+ghost use Rattle.calls_propose.specs.Proposed.{soFar, Held, Next, begun, firedNext, tickedLast};
+use super::Kept;
 use super::Record;
 use calls_act::act;
 use calls_tick::Ticked;
 use calls_tick::tick;
 use table::Script;
-use table::State;
-use table::comps::comp_at;
-use table::valid;
+use table::Words;
 use table::words;
+use table_valid::is_valid;
 
-// Question 17.
-pub(crate) fn stands(w: &Script, st: State) -> bool
-    ensures { λ r. ⌜ r ≡ valid (now (w .entry)) st ⌝ }
+// Question 17, then 8 of the location.
+fn opening(w: &Script, c: &Words, n: usize, l: u32) -> u32
+    ensures { λ r. ⌜ Next (now (w .entry)) l (record { c = now (c .entry); n = n }) (begun (now (w .entry)) (record { c = now (c .entry); n = n }) l) r (now (c .entry)) ⌝ }
 {
-    valid::is_valid(w, &st.c, st.n)
+    if !is_valid(w, c, n) {
+        return 17;
+    }
+    if words::word(w, 1) <= l {
+        return 8;
+    }
+    0
 }
 
-// Question 8 of the location.
-pub(crate) fn begin(w: &Script, st: State, l: u32) -> Ticked
-    requires { ⌜ valid (now w) st ≡ true ⌝ }
-    ensures { λ r. ⌜ Next (now (w .entry)) l st (begun (now (w .entry)) st l) r ⌝ }
+// The first questions, and a copy of the components. It is lent them as the parts after it are, and changes nothing.
+pub(crate) fn begin(w: &Script, c: &mut Words, n: usize, l: u32) -> Kept
+    ensures { λ r. ⌜ Next (now (w .entry)) l (record { c = now (c .entry); n = n }) (begun (now (w .entry)) (record { c = now (c .entry); n = n }) l) (r .code) (now (c .exit)) × (r .c ≡ now (c .entry)) ⌝ }
 {
-    if words::word(w, 1) <= l {
-        return tick::refuse(8, st);
+    let code = opening(w, c, n, l);
+    let held = *c;
+    Kept {
+        code: code,
+        c: held,
     }
-    Ticked { code: 0, state: st }
 }
 
 // Is record i of n to be fired? The first no ends the list.
@@ -44,43 +53,33 @@ pub fn going(code: u32, i: usize, n: usize) -> bool
     false
 }
 
-// One action, if those before it were accepted: questions 8 to 11, then 16. An action fires where its component at p stands.
-pub(crate) fn act_next(w: &Script, out: Ticked, l: u32, r: Record) -> Ticked
-    requires { ⌜ Held (now w) l out ⌝ }
-    ensures { λ x. ⌜ Next (now (w .entry)) l (out .state) (firedNext (now (w .entry)) l r (soFar (now (w .entry)) out)) x ⌝ }
+// One action: questions 8 to 11, then 16, does it fire at this location?
+pub(crate) fn act_next(w: &Script, c: &mut Words, n: usize, l: u32, r: Record) -> u32
+    requires { ⌜ (valid (now w) (record { c = now c; n = n }) ≡ true) × (l < locsIn (now w)) ⌝ }
+    ensures { λ k. ⌜ Next (now (w .entry)) l (record { c = now (c .entry); n = n }) (firedNext (now (w .entry)) l r (soFar (now (w .entry)) 0 (record { c = now (c .entry); n = n }))) k (now (c .exit)) ⌝ }
 {
-    if out.code != 0 {
-        return out;
-    }
-    let st = out.state;
-    let p = words::wide(r.p);
-    let a = act::act_valid(w, st, r.kind, p, words::wide(r.q));
+    let a = act::act_valid(w, c, n, r.kind, words::wide(r.p), words::wide(r.q));
     if a.code != 0 {
-        return tick::refuse(a.code, st);
+        return a.code;
     }
-    let c = comp_at(&st.c, p);
-    if c.loc != l {
-        return tick::refuse(16, st);
+    let label = a.label;
+    if label.at != l {
+        return 16;
     }
-    let next = a.state;
-    Ticked {
-        code: 0,
-        state: next,
-    }
+    0
 }
 
-// The tick, if all actions were accepted. A refusal has the state as it was before the first of them.
-pub(crate) fn finish(w: &Script, st: State, out: Ticked, l: u32) -> Ticked
-    requires { ⌜ Held (now w) l out × InUseOnly st (out .state) ⌝ }
-    ensures { λ r. ⌜ ticksAs (now (w .entry)) st (tickedLast (now (w .entry)) l (soFar (now (w .entry)) out)) r ⌝ }
+// The tick, if all actions were accepted. A refusal puts the components back as they were before the first of them.
+pub(crate) fn finish(w: &Script, c: &mut Words, n: usize, l: u32, code: u32, kept: Kept) -> Ticked
+    requires { ⌜ (code ≡ 0 → Held (now w) l (record { c = kept .c; n = n }) (now c)) ⌝ }
+    ensures { λ r. ⌜ ticksAs (now (w .entry)) (record { c = kept .c; n = n }) (tickedLast (now (w .entry)) l (soFar (now (w .entry)) code (record { c = now (c .entry); n = n }))) r (now (c .exit)) ⌝ }
 {
-    if out.code != 0 {
-        return tick::refuse(out.code, st);
+    if code != 0 {
+        return tick::put_back(code, n, &kept.c, c);
     }
-    let last = out.state;
-    let t = tick::tick_valid(w, last, l);
+    let t = tick::tick_valid(w, c, n, l);
     if t.code != 0 {
-        return tick::refuse(t.code, st);
+        return tick::put_back(t.code, n, &kept.c, c);
     }
     t
 }

@@ -15,7 +15,7 @@ use Rattle.terms.specs.Terms.Def.{define}
 use Rattle.terms.specs.Rules.{some}
 use Rattle.terms.specs.Same.{every}
 use Rattle.table.specs.declared.Comp.{Comp}
-use Rattle.table.specs.Words.{rowSize, locsAt, locsIn, nameAt, locName, defName, bodyOf, paramsOf}
+use Rattle.table.specs.Words.{rowSize, locsAt, locsIn, nameAt, locName, defName, bodyOf, paramsOf, idsAt, nameSize}
 use Rattle.table.specs.Meaning.{listFrom, envAt, processOf, markOf, means, defOf}
 use Rattle.table.specs.Valid.{scriptOk, compOk}
 use Rattle.table.proofs.Tests.{script-fine, comp-fine}
@@ -29,18 +29,18 @@ module _ (w : List ℕ) (good : scriptOk w ≡ true) (c : Comp) (fine : compOk w
   all-held : someAt w (c .place) (c .vals) ≡ envAt w (c .place) (c .vals)
   all-held = let f = comp-fine w c fine in all-shown w (c .place) (c .vals) (every-less (locsIn w) (c .vals) (script-fine w good .locs) (f .vals))
 
-  pub marked-parted : c .mark < 64 → parted w c ≡ (by (nameAt w (locsAt + c .mark * 4)), processSeen w (c .place) (c .vals))
+  pub marked-parted : c .mark < 64 → parted w c ≡ (by (nameAt w (locsAt + c .mark * nameSize)), processSeen w (c .place) (c .vals))
   marked-parted h = unfold parted markOf processOf processSeen locName in rw (lt-ltb (c .mark) 64 h, all-held)
 
   pub free-parted : 64 ≤ c .mark → parted w c ≡ (none, one (partSeen w (c .place) (c .timer) (c .vals)))
   free-parted h = unfold parted markOf processOf partSeen in rw (le-ltb (c .mark) 64 h, all-held)
 
-pub comp-is : (w : List ℕ) (c : Comp) → means w c ≡ comp (nameAt w (locsAt + c .loc * 4)) (parted w c .0) (parted w c .1)
+pub comp-is : (w : List ℕ) (c : Comp) → means w c ≡ comp (nameAt w (locsAt + c .loc * nameSize)) (parted w c .0) (parted w c .1)
 unfolding means parted locName
 comp-is w c = refl
 
 -- ── one definition ──
-pub def-is : (w : List ℕ) (d : ℕ) → defOf w d ≡ define (nameAt w (10 + d * rowSize)) (paramsOf w d) (processSeen w (bodyOf w d) (replicate 8 64))
+pub def-is : (w : List ℕ) (d : ℕ) → defOf w d ≡ define (nameAt w (idsAt + d * rowSize)) (paramsOf w d) (processSeen w (bodyOf w d) (replicate 8 64))
 def-is w d = rw (none-seen w (bodyOf w d)) (unfold defOf defName in refl)
 
 -- ── lists from a number on ──

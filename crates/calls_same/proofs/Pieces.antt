@@ -16,7 +16,7 @@ use Rattle.terms.specs.Terms.Process.{one, _∥_}
 use Rattle.terms.specs.Substitution.{Env, sub, subP, subV, subVs, held}
 use Rattle.terms.specs.Clock.{ticksOf}
 use Rattle.terms.proofs.Names.{and-inv}
-use Rattle.table.specs.Words.{partsIn, chanName, defName, field, nextAt, boundAt, namesAt}
+use Rattle.table.specs.Words.{partsIn, chanName, defName, field, nextAt, boundAt, namesAt, argWords, firstField, kindField, nameField, secondField, timerField, valueField}
 use Rattle.table.specs.Meaning.{valueOf, valuesOf, partOf, joined, partAt, withTimer}
 use Rattle.table.specs.Valid.{refOk, partOk}
 use Rattle.table.proofs.Tests.{script-fine, below-at}
@@ -27,7 +27,7 @@ use Rattle.text_write.proofs.Values.{slot, slot-held, slot-few, name-field}
 use Rattle.text_write.proofs.Heads.{fine, call-fine, call-few, after-fine, inner-seen, hidden-seen, own-timer}
 use Rattle.calls_same.specs.Decides.{Decides}
 use Rattle.calls_same.proofs.Decided.{Hangs, never, always, told}
-use Rattle.calls_same.specs.Pieces.{halt, opening, inner, resolved, named, ValueOk, ArgsOk, argWords, argsSeen, callSeen, goSeen, innerSeen}
+use Rattle.calls_same.specs.Pieces.{halt, opening, inner, resolved, named, ValueOk, ArgsOk, argsSeen, callSeen, goSeen, innerSeen}
 
 -- ── a part is its two pieces ──
 unfoldable rebuilt : Part → List Process → Part
@@ -68,24 +68,24 @@ all-put w e ys [] = refl
 all-put w e ys (x ∷ xs) = ap (_∷_ (subV e (valueOf w ys x))) (all-put w e ys xs)
 
 module _ (w : List ℕ) (i : ℕ) (vs : List ℕ) (t : ℕ) where
-  pub open-go : field w i 0 ≡ 1 → opening (partSeen w i t vs) ≡ goSeen w i t vs
+  pub open-go : field w i kindField ≡ 1 → opening (partSeen w i t vs) ≡ goSeen w i t vs
   unfolding partSeen partAt partOf withTimer sub opening goSeen
   open-go e = rw (head-go w i e)
 
-  pub open-out : field w i 0 ≡ 2
-      → opening (partSeen w i t vs) ≡ out (chanName w (field w i 1)) (ticksOf t) (valueSeen w i vs (field w i 3)) halt halt
+  pub open-out : field w i kindField ≡ 2
+      → opening (partSeen w i t vs) ≡ out (chanName w (field w i nameField)) (ticksOf t) (valueSeen w i vs (field w i valueField)) halt halt
   unfolding partSeen partAt partOf withTimer sub opening
   open-out e = rw (head-out w i e)
 
-  pub open-in : field w i 0 ≡ 3 → opening (partSeen w i t vs) ≡ inp (chanName w (field w i 1)) (ticksOf t) (boundAt w i) halt halt
+  pub open-in : field w i kindField ≡ 3 → opening (partSeen w i t vs) ≡ inp (chanName w (field w i nameField)) (ticksOf t) (boundAt w i) halt halt
   unfolding partSeen partAt partOf withTimer sub opening
   open-in e = rw (head-in w i e)
 
-  pub open-call : field w i 0 ≡ 4 → opening (partSeen w i t vs) ≡ callSeen w i vs
+  pub open-call : field w i kindField ≡ 4 → opening (partSeen w i t vs) ≡ callSeen w i vs
   unfolding partSeen partAt partOf withTimer sub opening callSeen argsSeen
-  open-call e = rw (head-call w i e) (ap (call (defName w (field w i 1))) (all-put w (someAt w i vs) (namesAt w i) (take (field w i 3) (argWords w i))))
+  open-call e = rw (head-call w i e) (ap (call (defName w (field w i nameField))) (all-put w (someAt w i vs) (namesAt w i) (take (field w i valueField) (argWords w i))))
 
-  pub open-stop : (field w i 0 ≡ 1 → ⊥) → (field w i 0 ≡ 2 → ⊥) → (field w i 0 ≡ 3 → ⊥) → (field w i 0 ≡ 4 → ⊥)
+  pub open-stop : (field w i kindField ≡ 1 → ⊥) → (field w i kindField ≡ 2 → ⊥) → (field w i kindField ≡ 3 → ⊥) → (field w i kindField ≡ 4 → ⊥)
       → opening (partSeen w i t vs) ≡ stop
   unfolding partSeen partAt partOf withTimer sub opening
   open-stop a b c d = rw (head-stop w i a b c d)
@@ -99,11 +99,11 @@ tag (inp c t y p q) = 3
 tag (call i vs) = 4
 
 module _ (w : List ℕ) (i : ℕ) (vs : List ℕ) (at : Places w i vs) where
-  kind-few : field w i 0 ≤ 4
+  kind-few : field w i kindField ≤ 4
   unfolding partOk
-  kind-few = leb-true _ 4 (and-inv (leb (field w i 0) 4) _ (below-at (partsIn w) (partOk w) (script-fine w (at .good) .each-part) i (at .within)) .0)
+  kind-few = leb-true _ 4 (and-inv (leb (field w i kindField) 4) _ (below-at (partsIn w) (partOk w) (script-fine w (at .good) .each-part) i (at .within)) .0)
 
-  tag-is : (t k : ℕ) → k ≤ 4 → field w i 0 ≡ k → tag (opening (partSeen w i t vs)) ≡ k
+  tag-is : (t k : ℕ) → k ≤ 4 → field w i kindField ≡ k → tag (opening (partSeen w i t vs)) ≡ k
   unfolding tag goSeen callSeen
   tag-is t zero h e = ap tag (open-stop w i vs t (λ p. omega arith) (λ p. omega arith) (λ p. omega arith) (λ p. omega arith))
   tag-is t (suc zero) h e = ap tag (open-go w i vs t e)
@@ -113,49 +113,49 @@ module _ (w : List ℕ) (i : ℕ) (vs : List ℕ) (at : Places w i vs) where
   tag-is t (suc (suc (suc (suc (suc k))))) h e = absurd (omega arith)
 
 pub one-kind : {w v vs us : List ℕ} {i j : ℕ} → Places w i vs → Places v j us → (t u : ℕ)
-    → opening (partSeen w i t vs) ≡ opening (partSeen v j u us) → field w i 0 ≡ field v j 0
+    → opening (partSeen w i t vs) ≡ opening (partSeen v j u us) → field w i kindField ≡ field v j kindField
 one-kind {w} {v} {vs} {us} {i} {j} p q t u e =
-    sym (tag-is w i vs p t (field w i 0) (kind-few w i vs p) refl) ∙ ap tag e ∙ tag-is v j us q u (field v j 0) (kind-few v j us q) refl
+    sym (tag-is w i vs p t (field w i kindField) (kind-few w i vs p) refl) ∙ ap tag e ∙ tag-is v j us q u (field v j kindField) (kind-few v j us q) refl
 
 -- ── the inner processes, by the kind ──
 module _ (w : List ℕ) (i : ℕ) (vs : List ℕ) (at : Places w i vs) where
-  pub go-value : field w i 0 ≡ 1 → ValueOk w i
+  pub go-value : field w i kindField ≡ 1 → ValueOk w i
   go-value e = go-fine w i _ _ _ (rw (head-go w i e) at (fine w i vs at .head)) .value
 
-  pub out-value : field w i 0 ≡ 2 → ValueOk w i
+  pub out-value : field w i kindField ≡ 2 → ValueOk w i
   out-value e = out-fine w i _ _ _ _ _ (rw (head-out w i e) at (fine w i vs at .head)) .value
 
-  pub call-args : field w i 0 ≡ 4 → (field w i 3 ≤ 4) × ArgsOk w i (field w i 3)
-  call-args e = (call-few w i vs at (head-call w i e), call-fine w i vs at _ _ _ _ _ _ (rw (head-call w i e) at (fine w i vs at .head)) .each)
+  pub call-args : field w i kindField ≡ 4 → (field w i valueField ≤ 4) × ArgsOk w i (field w i valueField)
+  call-args e = (call-few w i vs at (head-call w i e), call-fine w i vs at _ _ (rw (head-call w i e) at (fine w i vs at .head)) .each)
 
-  pub inner-go : field w i 0 ≡ 1 → innerSeen w i vs ≡ processSeen w (field w i 4) vs ∷ []
+  pub inner-go : field w i kindField ≡ 1 → innerSeen w i vs ≡ processSeen w (field w i firstField) vs ∷ []
   inner-go e =
       let r = go-fine w i _ _ _ (rw (head-go w i e) at (fine w i vs at .head)) in
-      rw (← inner-seen w i vs at (field w i 4) (r .first)) (unfold innerSeen partSeen partAt partOf withTimer sub inner in rw (head-go w i e))
+      rw (← inner-seen w i vs at (field w i firstField) (r .first)) (unfold innerSeen partSeen partAt partOf withTimer sub inner in rw (head-go w i e))
 
-  pub inner-out : field w i 0 ≡ 2 → innerSeen w i vs ≡ processSeen w (field w i 4) vs ∷ processSeen w (field w i 5) vs ∷ []
+  pub inner-out : field w i kindField ≡ 2 → innerSeen w i vs ≡ processSeen w (field w i firstField) vs ∷ processSeen w (field w i secondField) vs ∷ []
   inner-out e =
       let r = out-fine w i _ _ _ _ _ (rw (head-out w i e) at (fine w i vs at .head)) in
-      rw (← inner-seen w i vs at (field w i 4) (r .first), ← inner-seen w i vs at (field w i 5) (r .second)) (unfold innerSeen partSeen partAt partOf withTimer sub inner in rw (head-out w i e))
+      rw (← inner-seen w i vs at (field w i firstField) (r .first), ← inner-seen w i vs at (field w i secondField) (r .second)) (unfold innerSeen partSeen partAt partOf withTimer sub inner in rw (head-out w i e))
 
-  pub inner-in : field w i 0 ≡ 3 → innerSeen w i vs ≡ processSeen w (field w i 4) (set vs (field w i 3) 64) ∷ processSeen w (field w i 5) vs ∷ []
+  pub inner-in : field w i kindField ≡ 3 → innerSeen w i vs ≡ processSeen w (field w i firstField) (set vs (field w i valueField) 64) ∷ processSeen w (field w i secondField) vs ∷ []
   inner-in e =
       let r = in-fine w i _ _ _ _ _ (rw (head-in w i e) at (fine w i vs at .head)) in
-      rw (← hidden-seen w i vs at (field w i 3) (field w i 4) (eqb-true _ (field w i 3) (r .slot)) (r .first), ← inner-seen w i vs at (field w i 5) (r .second))
+      rw (← hidden-seen w i vs at (field w i valueField) (field w i firstField) (eqb-true _ (field w i valueField) (r .slot)) (r .first), ← inner-seen w i vs at (field w i secondField) (r .second))
       (unfold innerSeen partSeen partAt partOf withTimer sub inner in rw (head-in w i e))
 
-  pub inner-none : (field w i 0 ≡ 1 → ⊥) → (field w i 0 ≡ 2 → ⊥) → (field w i 0 ≡ 3 → ⊥) → innerSeen w i vs ≡ []
-  inner-none a b c = go (eqb (field w i 0) 4) refl
+  pub inner-none : (field w i kindField ≡ 1 → ⊥) → (field w i kindField ≡ 2 → ⊥) → (field w i kindField ≡ 3 → ⊥) → innerSeen w i vs ≡ []
+  inner-none a b c = go (eqb (field w i kindField) 4) refl
     where
-      go : (d : Bool) → eqb (field w i 0) 4 ≡ d → innerSeen w i vs ≡ []
+      go : (d : Bool) → eqb (field w i kindField) 4 ≡ d → innerSeen w i vs ≡ []
       go true d = unfold innerSeen partSeen partAt partOf withTimer sub inner in rw (head-call w i (eqb-true _ 4 d))
       go false d = unfold innerSeen partSeen partAt partOf withTimer sub inner in rw (head-stop w i a b c (eqb-false _ 4 d))
 
   -- ── a process ──
-  pub process-end : nextAt w i ≡ 0 → processSeen w i vs ≡ one (partSeen w i (field w i 2) vs)
+  pub process-end : nextAt w i ≡ 0 → processSeen w i vs ≡ one (partSeen w i (field w i timerField) vs)
   process-end e = unfold processSeen partSeen in rw (process-is w (at .good) i (at .within), e, own-timer w i vs at (someAt w i vs)) (unfold joined subP in refl)
 
-  pub process-next : (j : ℕ) → nextAt w i ≡ suc j → processSeen w i vs ≡ partSeen w i (field w i 2) vs ∥ processSeen w j vs
+  pub process-next : (j : ℕ) → nextAt w i ≡ suc j → processSeen w i vs ≡ partSeen w i (field w i timerField) vs ∥ processSeen w j vs
   process-next j e =
       rw (← inner-seen w i vs at j (after-fine w i vs at j e)) (unfold processSeen partSeen in rw (process-is w (at .good) i (at .within), e, own-timer w i vs at (someAt w i vs)) (unfold joined subP in refl))
 
@@ -192,10 +192,10 @@ unfoldable firstOf : Process → Part
 firstOf (one a) = a
 firstOf (a ∥ p) = a
 
-first-is : (w : List ℕ) (i : ℕ) (vs : List ℕ) → Places w i vs → firstOf (processSeen w i vs) ≡ partSeen w i (field w i 2) vs
+first-is : (w : List ℕ) (i : ℕ) (vs : List ℕ) → Places w i vs → firstOf (processSeen w i vs) ≡ partSeen w i (field w i timerField) vs
 first-is w i vs at = go (nextAt w i) refl
   where
-    go : (n : ℕ) → nextAt w i ≡ n → firstOf (processSeen w i vs) ≡ partSeen w i (field w i 2) vs
+    go : (n : ℕ) → nextAt w i ≡ n → firstOf (processSeen w i vs) ≡ partSeen w i (field w i timerField) vs
     go zero e = ap firstOf (process-end w i vs at e) ∙ (unfold firstOf in refl)
     go (suc j) e = ap firstOf (process-next w i vs at j e) ∙ (unfold firstOf in refl)
 
@@ -209,11 +209,11 @@ longer : {a b : Part} {p : Process} → one a ≡ b ∥ p → ⊥
 longer e = let z : _≡_ {A = ℕ} 0 1 = cc in omega arith
 
 module _ {w v vs us : List ℕ} {i j : ℕ} (p : Places w i vs) (q : Places v j us) where
-  pub firsts-same : processSeen w i vs ≡ processSeen v j us → partSeen w i (field w i 2) vs ≡ partSeen v j (field v j 2) us
+  pub firsts-same : processSeen w i vs ≡ processSeen v j us → partSeen w i (field w i timerField) vs ≡ partSeen v j (field v j timerField) us
   firsts-same e = sym (first-is w i vs p) ∙ ap firstOf e ∙ first-is v j us q
 
   -- the first process ends here
-  pub end-decides : partSeen w i (field w i 2) vs ≡ partSeen v j (field v j 2) us → nextAt w i ≡ 0
+  pub end-decides : partSeen w i (field w i timerField) vs ≡ partSeen v j (field v j timerField) us → nextAt w i ≡ 0
       → Decides (eqb (nextAt v j) 0) (processSeen w i vs) (processSeen v j us)
   end-decides e h = go (nextAt v j) refl
     where
@@ -226,7 +226,7 @@ module _ {w v vs us : List ℕ} {i j : ℕ} (p : Places w i vs) (q : Places v j 
   ends-early m h k = never (λ f. longer (sym (process-end v j us q k) ∙ sym f ∙ process-next w i vs p m h))
 
   -- both go on
-  pub next-hangs : partSeen w i (field w i 2) vs ≡ partSeen v j (field v j 2) us → (m n : ℕ) → nextAt w i ≡ suc m → nextAt v j ≡ suc n
+  pub next-hangs : partSeen w i (field w i timerField) vs ≡ partSeen v j (field v j timerField) us → (m n : ℕ) → nextAt w i ≡ suc m → nextAt v j ≡ suc n
       → Hangs (processSeen w i vs) (processSeen v j us) (processSeen w m vs) (processSeen v n us)
   next-hangs e m n h k = record {
     up = λ f. process-next w i vs p m h ∙ joined-is e f ∙ sym (process-next v j us q n k);

@@ -14,7 +14,7 @@ use Rattle.terms.specs.Same.{every}
 use Rattle.terms.specs.Clock.{ticksOf}
 use Rattle.table.specs.declared.Comp.{Comp}
 use Rattle.table.specs.Meaning.{markOf, processOf}
-use Rattle.table.specs.Words.{nameAt, locName, defName, field, namesAt}
+use Rattle.table.specs.Words.{nameAt, locName, defName, field, namesAt, argsAt, kindField, nameField, slotField, valueField}
 use Rattle.table.specs.Valid.{refOk}
 use Rattle.text_write.specs.Values.{valueSeen, partSeen}
 
@@ -40,7 +40,7 @@ inner (call i vs) = []
 
 -- the kind of the part at a place: 0 stop, 1 go, 2 out, 3 in, 4 call
 abbrev pub kindAt : List ℕ → ℕ → ℕ
-kindAt w i = field w i 0
+kindAt w i = field w i kindField
 
 -- ── values ──
 -- the location that a value's slot holds, or the value's own word where it holds none
@@ -52,29 +52,26 @@ resolved vs a =
 
 -- what a resolved word stands for at a place: a location, or the variable of its slot
 unfoldable pub named : List ℕ → ℕ → ℕ → Value
-named w i a = cond (ltb a 64) (loc (locName w a)) (var (nameAt w (field w i (9 + (a - 64)))))
+named w i a = cond (ltb a 64) (loc (locName w a)) (var (nameAt w (field w i (slotField + (a - 64)))))
 
 -- the value of the part at a place is in range
 abbrev pub ValueOk : List ℕ → ℕ → Type 0
-ValueOk w i = refOk w (namesAt w i) (field w i 3) ≡ true
+ValueOk w i = refOk w (namesAt w i) (field w i valueField) ≡ true
 
--- the four words of a call's arguments, of which the first n are in range, and what these stand for
-abbrev pub argWords : List ℕ → ℕ → List ℕ
-argWords w i = field w i 17 ∷ field w i 18 ∷ field w i 19 ∷ field w i 20 ∷ []
-
+-- the first n arguments of a call are in range, and what these stand for
 abbrev pub ArgsOk : List ℕ → ℕ → ℕ → Type 0
-ArgsOk w i n = every (refOk w (namesAt w i)) (take n (argWords w i)) ≡ true
+ArgsOk w i n = every (refOk w (namesAt w i)) (argsAt w i n) ≡ true
 
 unfoldable pub argsSeen : List ℕ → ℕ → List ℕ → ℕ → List Value
-argsSeen w i vs n = map (valueSeen w i vs) (take n (argWords w i))
+argsSeen w i vs n = map (valueSeen w i vs) (argsAt w i n)
 
 -- ── parts under the values of the slots ──
 -- a call; a `go` with the timer t, up to its process; the inner processes of a part, whatever its timer
 unfoldable pub callSeen : List ℕ → ℕ → List ℕ → Part
-callSeen w i vs = call (defName w (field w i 1)) (argsSeen w i vs (field w i 3))
+callSeen w i vs = call (defName w (field w i nameField)) (argsSeen w i vs (field w i valueField))
 
 unfoldable pub goSeen : List ℕ → ℕ → ℕ → List ℕ → Part
-goSeen w i t vs = go (ticksOf t) (valueSeen w i vs (field w i 3)) halt
+goSeen w i t vs = go (ticksOf t) (valueSeen w i vs (field w i valueField)) halt
 
 unfoldable pub innerSeen : List ℕ → ℕ → List ℕ → List Process
 innerSeen w i vs = inner (partSeen w i 0 vs)

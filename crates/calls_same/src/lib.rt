@@ -26,7 +26,7 @@ use network::defs_within;
 use network::same_comps;
 use table::Script;
 use table::Words;
-use table::valid::is_valid;
+use table_valid::is_valid;
 
 // What the call returns: 0 or the number of the question answered by no, and whether the networks are the same.
 #[repr(C)]

@@ -13,7 +13,10 @@ use super::parts::same_name;
 use super::parts::same_part;
 use super::parts::same_process;
 use table::Comp;
+use table::FIRST_PARAM;
+use table::IDENTIFIERS;
 use table::LOCATIONS;
+use table::NAME_SIZE;
 use table::ROW_SIZE;
 use table::Script;
 use table::Words;
@@ -37,9 +40,9 @@ fn same_held(w: &Script, c: Comp, v: &Script, d: Comp) -> bool
         }
         if !same_name(
             w,
-            LOCATIONS + wide(c.mark) * 4,
+            LOCATIONS + wide(c.mark) * NAME_SIZE,
             v,
-            LOCATIONS + wide(d.mark) * 4,
+            LOCATIONS + wide(d.mark) * NAME_SIZE,
         ) {
             return false;
         }
@@ -58,9 +61,9 @@ fn same_comp(w: &Script, c: Comp, v: &Script, d: Comp) -> bool
 {
     if !same_name(
         w,
-        LOCATIONS + wide(c.loc) * 4,
+        LOCATIONS + wide(c.loc) * NAME_SIZE,
         v,
-        LOCATIONS + wide(d.loc) * 4,
+        LOCATIONS + wide(d.loc) * NAME_SIZE,
     ) {
         return false;
     }
@@ -108,7 +111,12 @@ fn same_params(w: &Script, d: usize, v: &Script, e: usize) -> bool
     }
     let mut k = 0;
     while k < n {
-        if !same_name(w, 14 + d * ROW_SIZE + k * 4, v, 14 + e * ROW_SIZE + k * 4) {
+        if !same_name(
+            w,
+            FIRST_PARAM + d * ROW_SIZE + k * NAME_SIZE,
+            v,
+            FIRST_PARAM + e * ROW_SIZE + k * NAME_SIZE,
+        ) {
             return false;
         }
         k += 1;
@@ -121,7 +129,7 @@ fn same_def(w: &Script, d: usize, v: &Script, e: usize) -> bool
     requires { ⌜ (scriptOk (now w) ≡ true) × (d < defsIn (now w)) × (scriptOk (now v) ≡ true) × (e < defsIn (now v)) ⌝ }
     ensures { λ r. ⌜ r ≡ sameDef (defOf (now (w .entry)) d) (defOf (now (v .entry)) e) ⌝ }
 {
-    if !same_name(w, 10 + d * ROW_SIZE, v, 10 + e * ROW_SIZE) {
+    if !same_name(w, IDENTIFIERS + d * ROW_SIZE, v, IDENTIFIERS + e * ROW_SIZE) {
         return false;
     }
     if !same_params(w, d, v, e) {

@@ -1,23 +1,30 @@
 // Names, timers, values, parts and processes of two tables. A part is compared up to its inner processes first; these and their parts are
 // compared in turn, with the place in the first table as the falling number. Nothing in a table is shared, so the time is linear.
-// The name of location l stands at word 776 + 4l, of channel c at 1032 + 4c, of definition d at 10 + 24d, and what the input at i binds
-// at 1305 + 24i. Values are eight numbers: below 64 the location that a slot holds, else the slot stands for its own name.
+// Values are eight numbers: below 64 the location that a slot holds, else the slot stands for its own name.
 ghost use mathlib.Core.Path.{_≡_};
 ghost use mathlib.Core.Bool.{true};
 ghost use Prim.Native.Nat.{_≤_, _<_};
 ghost use lib.ListN.{length, set};
 ghost use Rattle.terms.specs.Clock.{ticksOf};
-ghost use Rattle.table.specs.Words.{nameAt, chanName, namesAt, field};
+ghost use Rattle.table.specs.Words.{nameAt, chanName, namesAt, field, rowSize, nameField, valueField};
 ghost use Rattle.table.specs.Valid.{refOk};
 ghost use Rattle.text_write.specs.Values.{Places, valueSeen, partSeen, processSeen};
 ghost use Rattle.calls_same.specs.Decides.{Decides};
 ghost use Rattle.calls_same.specs.Pieces.{opening, kindAt, resolved, named, ValueOk, ArgsOk, argsSeen, callSeen, goSeen, innerSeen};
+use table::ARG_FIELD;
 use table::CHANNELS;
+use table::IDENTIFIERS;
+use table::KIND_FIELD;
 use table::LOCATIONS;
+use table::NAME_FIELD;
+use table::NAME_SIZE;
 use table::OWNS;
 use table::PARTS;
 use table::ROW_SIZE;
+use table::SLOT_FIELD;
 use table::Script;
+use table::TIMER_FIELD;
+use table::VALUE_FIELD;
 use table::words::field;
 use table::words::is_named;
 use table::words::key_at;
@@ -74,13 +81,13 @@ fn same_named(w: &Script, i: usize, a: u32, v: &Script, j: usize, b: u32) -> boo
         if 64 <= n {
             return false;
         }
-        return same_name(w, LOCATIONS + m * 4, v, LOCATIONS + n * 4);
+        return same_name(w, LOCATIONS + m * NAME_SIZE, v, LOCATIONS + n * NAME_SIZE);
     }
     if n < 64 {
         return false;
     }
-    let o = wide(word(w, PARTS + i * ROW_SIZE + (9 + (m - 64))));
-    let p = wide(word(v, PARTS + j * ROW_SIZE + (9 + (n - 64))));
+    let o = wide(word(w, PARTS + i * ROW_SIZE + (SLOT_FIELD + (m - 64))));
+    let p = wide(word(v, PARTS + j * ROW_SIZE + (SLOT_FIELD + (n - 64))));
     same_name(w, o, v, p)
 }
 
@@ -125,11 +132,11 @@ fn same_args(
             w,
             i,
             vals,
-            field(w, i, 17 + k),
+            field(w, i, ARG_FIELD + k),
             v,
             j,
             vals2,
-            field(v, j, 17 + k),
+            field(v, j, ARG_FIELD + k),
         ) {
             return false;
         }
@@ -144,12 +151,12 @@ fn same_call(w: &Script, i: usize, vals: &[u32; 8], v: &Script, j: usize, vals2:
     requires { ⌜ (kindAt (now w) i ≡ 4) × (kindAt (now v) j ≡ 4) ⌝ }
     ensures { λ r. ⌜ Decides r (callSeen (now (w .entry)) i (now (vals .entry))) (callSeen (now (v .entry)) j (now (vals2 .entry))) ⌝ }
 {
-    let n = field(w, i, 3);
-    if n != field(v, j, 3) {
+    let n = field(w, i, VALUE_FIELD);
+    if n != field(v, j, VALUE_FIELD) {
         return false;
     }
-    let o = 10 + wide(field(w, i, 1)) * ROW_SIZE;
-    let p = 10 + wide(field(v, j, 1)) * ROW_SIZE;
+    let o = IDENTIFIERS + wide(field(w, i, NAME_FIELD)) * ROW_SIZE;
+    let p = IDENTIFIERS + wide(field(v, j, NAME_FIELD)) * ROW_SIZE;
     if !same_name(w, o, v, p) {
         return false;
     }
@@ -159,10 +166,10 @@ fn same_call(w: &Script, i: usize, vals: &[u32; 8], v: &Script, j: usize, vals2:
 // The channels of the parts at i and j.
 fn same_channel(w: &Script, i: usize, v: &Script, j: usize) -> bool
     requires { ⌜ (i < 4096) × (j < 4096) ⌝ }
-    ensures { λ r. ⌜ Decides r (chanName (now (w .entry)) (field (now (w .entry)) i 1)) (chanName (now (v .entry)) (field (now (v .entry)) j 1)) ⌝ }
+    ensures { λ r. ⌜ Decides r (chanName (now (w .entry)) (field (now (w .entry)) i nameField)) (chanName (now (v .entry)) (field (now (v .entry)) j nameField)) ⌝ }
 {
-    let o = CHANNELS + wide(field(w, i, 1)) * 4;
-    let p = CHANNELS + wide(field(v, j, 1)) * 4;
+    let o = CHANNELS + wide(field(w, i, NAME_FIELD)) * NAME_SIZE;
+    let p = CHANNELS + wide(field(v, j, NAME_FIELD)) * NAME_SIZE;
     same_name(w, o, v, p)
 }
 
@@ -184,7 +191,16 @@ fn same_timed(
     if !same_timer(t, u) {
         return false;
     }
-    same_value(w, i, vals, field(w, i, 3), v, j, vals2, field(v, j, 3))
+    same_value(
+        w,
+        i,
+        vals,
+        field(w, i, VALUE_FIELD),
+        v,
+        j,
+        vals2,
+        field(v, j, VALUE_FIELD),
+    )
 }
 
 // The parts at i and j with the timers t and u, up to their inner processes.
@@ -201,8 +217,8 @@ fn same_open(
     requires { ⌜ Places (now w) i (now vals) × Places (now v) j (now vals2) ⌝ }
     ensures { λ r. ⌜ Decides r (opening (partSeen (now (w .entry)) i t (now (vals .entry)))) (opening (partSeen (now (v .entry)) j u (now (vals2 .entry)))) ⌝ }
 {
-    let k = field(w, i, 0);
-    if k != field(v, j, 0) {
+    let k = field(w, i, KIND_FIELD);
+    if k != field(v, j, KIND_FIELD) {
         return false;
     }
     match k {
@@ -230,7 +246,7 @@ fn same_open(
 // ── parts and processes ──
 // Field k of the part at i, as a place or a slot.
 fn link(w: &Script, i: usize, k: usize) -> usize
-    requires { ⌜ (i < 4096) × (k < 24) ⌝ }
+    requires { ⌜ (i < 4096) × (k < rowSize) ⌝ }
     ensures { λ r. ⌜ r ≡ field (now (w .entry)) i k ⌝ }
 {
     wide(field(w, i, k))
@@ -239,7 +255,7 @@ fn link(w: &Script, i: usize, k: usize) -> usize
 // The values in the P of the input at i: the slot of its name holds none. In place, so that the recursion keeps no second copy.
 fn hide(w: &Script, i: usize, vals: &mut [u32; 8])
     requires { ⌜ (i < 4096) × (length (now vals) ≡ 8) ⌝ }
-    ensures { λ _. ⌜ now (vals .exit) ≡ set (now (vals .entry)) (field (now (w .entry)) i 3) 64 ⌝ }
+    ensures { λ _. ⌜ now (vals .exit) ≡ set (now (vals .entry)) (field (now (w .entry)) i valueField) 64 ⌝ }
 {
     let k = link(w, i, 3);
     if k < 8 {
@@ -252,7 +268,7 @@ fn same_inner(w: &Script, i: usize, vals: &[u32; 8], v: &Script, j: usize, vals2
     requires { ⌜ Places (now w) i (now vals) × Places (now v) j (now vals2) × (kindAt (now w) i ≡ kindAt (now v) j) ⌝ }
     ensures { λ r. ⌜ Decides r (innerSeen (now (w .entry)) i (now (vals .entry))) (innerSeen (now (v .entry)) j (now (vals2 .entry))) ⌝ }
 {
-    let k = field(w, i, 0);
+    let k = field(w, i, KIND_FIELD);
     match k {
         1 => same_process(w, link(w, i, 4), vals, v, link(v, j, 4), vals2),
         2 => {
@@ -290,7 +306,16 @@ pub(crate) fn same_process(
     let mut a = i;
     let mut b = j;
     loop {
-        if !same_open(w, a, field(w, a, 2), vals, v, b, field(v, b, 2), vals2) {
+        if !same_open(
+            w,
+            a,
+            field(w, a, TIMER_FIELD),
+            vals,
+            v,
+            b,
+            field(v, b, TIMER_FIELD),
+            vals2,
+        ) {
             return false;
         }
         if !same_inner(w, a, vals, v, b, vals2) {

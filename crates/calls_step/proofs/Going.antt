@@ -22,7 +22,7 @@ use Rattle.table.specs.declared.Head.the-variants.{Stop, Go, Out, In, Call}
 use Rattle.table.specs.Words.{compSize, stateWords, headAt}
 use Rattle.table.specs.Meaning.{compIn, wordsIn, PastKept, compsOf}
 use Rattle.table.specs.Valid.{scriptOk, compOk}
-use Rattle.table.specs.Fire.{ActedAt, actOn, readyAt}
+use Rattle.table.specs.Fire.{ActedAt, actOn, readyAt, sentOn, mustAct}
 use Rattle.table.proofs.Tests.{comp-fine}
 use Rattle.table.proofs.Fires.{every-at, map-append}
 use Rattle.table.proofs.Kept.{okA, goodActed, act-kept}
@@ -31,7 +31,7 @@ use Rattle.table.proofs.InUse.{comps-length}
 use Rattle.table.proofs.Stores.{comps-put, past-put, past-none, past-then}
 use Rattle.calls_step.specs.declared.Visit.{Visit}
 use Rattle.calls_step.specs.Sweep.{tookAt, takenAt, visitAt, followedAt, choiceAt, sweepAt, hearers, Chain, Queued, recOf}
-use Rattle.calls_step.specs.Visit.{sendsAt, kindAt, sentOn, kindBy, Performed, otherOf, poppedOf, recBy}
+use Rattle.calls_step.specs.Visit.{sendsAt, kindAt, kindBy, Performed, otherOf, poppedOf, recBy, kindOf}
 use Rattle.calls_step.proofs.Queues.{seek-first, sends-fits}
 use Rattle.calls_step.proofs.Sweeping.{recsOf, Turned, turned-none, turned-some}
 
@@ -105,24 +105,24 @@ chain-some nexts q [] c = absurd (omega arith)
 chain-some nexts q (r ∷ rest) c = let z : q ≡ r = omega (arith, c .0) in (rest, ap (λ y. y ∷ rest) (sym z), subst (λ y. Chain nexts (getD nexts y 0) rest) (sym z) (c .1))
 
 -- where nothing fires there is no link
-head-idle : (x t : ℕ) (h : Head) → kindBy x t h ≡ 0 → (sentOn h ≡ 64 → x ≡ 0) → x ≡ 0
-unfolding kindBy sentOn
-head-idle x t Stop e n = n refl
-head-idle x t (Go u y q) e n = n refl
-head-idle x t (In d u k q r) e n = n refl
-head-idle x t (Call d m a₀ a₁ a₂ a₃) e n = n refl
-head-idle x t (Out d u y q r) e n = go (eqb x 0) refl e
+head-idle : (x : ℕ) (c : Comp) (h : Head) → kindBy x c h ≡ 0 → (sentOn h ≡ 64 → x ≡ 0) → x ≡ 0
+unfolding kindBy kindOf mustAct sentOn
+head-idle x c Stop e n = n refl
+head-idle x c (Go u y q) e n = n refl
+head-idle x c (In d u k q r) e n = n refl
+head-idle x c (Call d m) e n = n refl
+head-idle x c (Out d u y q r) e n = go (ltb 0 x) refl e
   where
-    go : (b : Bool) → eqb x 0 ≡ b → _≡_ {A = ℕ} (cond b 0 3) 0 → x ≡ 0
-    go true z e = eqb-true x 0 z
-    go false z e = absurd (omega arith)
+    go : (b : Bool) → ltb 0 x ≡ b → _≡_ {A = ℕ} (cond b 3 0) 0 → x ≡ 0
+    go true z e = absurd (omega arith)
+    go false z e = omega (arith, ltb-false 0 x z)
 
 idle-link : (w : List ℕ) (l : ℕ) (c : Comp) (x : ℕ) → kindAt w l c x ≡ 0 → (sendsAt w l c ≡ 64 → x ≡ 0) → x ≡ 0
 unfolding kindAt sendsAt
 idle-link w l c x = go (readyAt l c)
   where
-    go : (b : Bool) → cond b (kindBy x (c .timer) (headAt w (c .place))) 0 ≡ 0 → (cond b (sentOn (headAt w (c .place))) 64 ≡ 64 → x ≡ 0) → x ≡ 0
-    go true e n = head-idle x (c .timer) (headAt w (c .place)) e n
+    go : (b : Bool) → cond b (kindBy x c (headAt w (c .place))) 0 ≡ 0 → (cond b (sentOn (headAt w (c .place))) 64 ≡ 64 → x ≡ 0) → x ≡ 0
+    go true e n = head-idle x c (headAt w (c .place)) e n
     go false e n = n refl
 
 module _ (w : List ℕ) (good : scriptOk w ≡ true) (l : ℕ) (st now : State) (heads nexts : List ℕ) (acts : List (List ℕ)) (count p : ℕ) (few : st .n ≤ 256) (i : Going w l st now heads nexts acts count p) (h : p < st .n) where

@@ -18,13 +18,13 @@ use Rattle.table.specs.declared.Head.{Head}
 use Rattle.table.specs.declared.Head.the-variants.{Stop, Go, Out, In, Call}
 use Rattle.table.specs.Words.{headAt}
 use Rattle.table.specs.Valid.{scriptOk, compOk}
-use Rattle.table.specs.Fire.{readyAt, hears}
+use Rattle.table.specs.Fire.{readyAt, hears, sentOn}
 use Rattle.table.specs.declared.State.{State}
 use Rattle.table.specs.Meaning.{compIn, compsOf}
 use Rattle.calls_tick.specs.Heard.{heardOn, hearsAt}
 use Rattle.calls_tick.proofs.Hearing.{ear-fits, inEar, hears-own}
 use Rattle.calls_step.specs.Sweep.{hearers, Chain, Queued}
-use Rattle.calls_step.specs.Visit.{sentOn, sendsAt, link, otherOf, poppedOf}
+use Rattle.calls_step.specs.Visit.{sendsAt, link, otherOf, poppedOf}
 use Rattle.table.proofs.InUse.{comps-length, from-here}
 
 -- ── positions of a chain ──
@@ -57,7 +57,7 @@ heard-small Stop i = omega arith
 heard-small (Go t v p) i = omega arith
 heard-small (Out d t v p q) i = omega arith
 heard-small (In d t k p q) i = omega arith
-heard-small (Call d n a₀ a₁ a₂ a₃) i = omega arith
+heard-small (Call d n) i = omega arith
 
 cond-small : (b : Bool) (x : ℕ) → x ≤ 64 → cond b x 64 ≤ 64
 cond-small true x h = h
@@ -73,7 +73,7 @@ sent-small Stop i = omega arith
 sent-small (Go t v p) i = omega arith
 sent-small (Out d t v p q) i = omega arith
 sent-small (In d t k p q) i = omega arith
-sent-small (Call d n a₀ a₁ a₂ a₃) i = omega arith
+sent-small (Call d n) i = omega arith
 
 pub sends-fits : (w : List ℕ) (l : ℕ) (c : Comp) → scriptOk w ≡ true → compOk w c ≡ true → sendsAt w l c ≤ 64
 unfolding sendsAt

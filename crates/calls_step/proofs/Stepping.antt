@@ -17,7 +17,7 @@ use Rattle.terms.proofs.Names.{and-in}
 use Rattle.terms.proofs.Steps.{step-accepted}
 use Rattle.table.specs.declared.State.{State}
 use Rattle.table.specs.Words.{locsIn, locName}
-use Rattle.table.specs.Meaning.{PastKept, defsOf, means, compsOf, netOf}
+use Rattle.table.specs.Meaning.{PastKept, contextOf, means, compsOf, netOf}
 use Rattle.table.specs.Valid.{scriptOk, stateOk, valid}
 use Rattle.table.specs.Fire.{passedAll}
 use Rattle.table.proofs.Ticks.{passed-all}
@@ -45,8 +45,8 @@ module _ (w : List ℕ) (st : State) (l : ℕ) (v : valid w st ≡ true) (after 
 
   module _ (inl : l < locsIn w) where
     -- the sweep of the rules
-    like : Like w good l inl (fires (defsOf w) (locName w l) (map (means w) (compsOf st))) (sweepAt w l 0 (st .n) (compsOf st))
-    like = subst (λ n. Like w good l inl (fires (defsOf w) (locName w l) (map (means w) (compsOf st))) (sweepAt w l 0 n (compsOf st))) (comps-length st) (fires-like w good l inl (compsOf st) (valid-parts w st v .1 .each))
+    like : Like w good l inl (fires (contextOf w) (locName w l) (map (means w) (compsOf st))) (sweepAt w l 0 (st .n) (compsOf st))
+    like = subst (λ n. Like w good l inl (fires (contextOf w) (locName w l) (map (means w) (compsOf st))) (sweepAt w l 0 n (compsOf st))) (comps-length st) (fires-like w good l inl (compsOf st) (valid-parts w st v .1 .each))
 
     -- the swept state still passes question 17
     pub swept-good : valid w left ≡ true
@@ -60,7 +60,7 @@ module _ (w : List ℕ) (st : State) (l : ℕ) (v : valid w st ≡ true) (after 
     unfolding stepRule netOf
     ruled size =
         let c = passed-all w good l inl (swept .comps) (like .fine) in
-        rw (lt-ltb l (locsIn w) inl, like .actions, ← s .number, step-accepted (defsOf w) (locName w l) (map (means w) (compsOf st)), like .actions, like .comps, ← c, s .comps)
+        rw (lt-ltb l (locsIn w) inl, like .actions, ← s .number, step-accepted (contextOf w) (locName w l) (map (means w) (compsOf st)), like .actions, like .comps, ← c, s .comps)
 
     pub step-small : (size : ℕ) → size < count → stepRule w st l size ≡ refused 15
     step-small size h = ruled size ∙ rw (lt-leb count size h)
@@ -77,7 +77,7 @@ module _ (w : List ℕ) (st : State) (l : ℕ) (v : valid w st ≡ true) (after 
         → now ≡ take count acts ++ drop count before
         → Took w st (stepOf (swept .actions) (map (means w) (passedAll w l (compsOf left)))) (record { code = 0; count = count; n = k }) cs before now
     step-took cs k before now e n b q a =
-        let t = tick-took w left (record { c = cs; n = k }) l swept-good e n b q in
+        let t = tick-took w left cs k l swept-good e n b q in
         record { code = refl; count = s .number; few = s .few; comps = t .comps; good = t .good; past = past-then (t .grows) (s .past) q; records = a ∙ ap (λ xs. xs ++ drop count before) (s .records) ∙ ap (λ k. map recOf (swept .actions) ++ drop k before) (s .number) }
 
 -- question 8

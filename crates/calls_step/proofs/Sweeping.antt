@@ -20,7 +20,8 @@ use Rattle.table.specs.declared.Head.{Head}
 use Rattle.table.specs.declared.Head.the-variants.{Stop, Go, Out, In, Call}
 use Rattle.table.specs.Words.{locsIn, headAt, bodyOf}
 use Rattle.table.specs.Valid.{scriptOk}
-use Rattle.table.specs.Fire.{Left, leftAt, becomesAt, handed, meetAt, aloneAt, togetherAt, leftBy, actOn, readyAt, hears, valueIn, loaded}
+use Rattle.table.specs.Split.{dueAt}
+use Rattle.table.specs.Fire.{Left, leftAt, becomesAt, handed, meetAt, aloneAt, togetherAt, leftBy, actOn, readyAt, hears, valueIn, loaded, mustAct, sentOn, fitsAlone, fitsTogether}
 use Rattle.table.proofs.Tests.{CompFine, comp-ok, script-fine}
 use Rattle.calls_tick.proofs.Hearing.{ear-fits, inEar}
 use Rattle.calls_act.specs.declared.Fired.{Fired}
@@ -28,7 +29,7 @@ use Rattle.calls_act.specs.declared.Met.{Met}
 use Rattle.calls_act.specs.Fired.{tagOf, oneOf, twoOf}
 use Rattle.calls_step.specs.declared.Visit.{Visit}
 use Rattle.calls_step.specs.Sweep.{chosenBy, choiceAt, visitAt, hearers, recOf}
-use Rattle.calls_step.specs.Visit.{sentOn, sendsAt, kindBy, kindAt, Performed, recBy}
+use Rattle.calls_step.specs.Visit.{sendsAt, kindBy, kindAt, Performed, recBy, kindOf}
 use Rattle.calls_step.proofs.Queues.{seek-first, seek-nobody, hearers-other, hearers-first}
 
 -- ── lists ──
@@ -80,12 +81,12 @@ becomes-unready w l calls c Stop f g q e = clash e
 becomes-unready w l calls c (Go t v p) f g q e = clash e
 becomes-unready w l calls c (Out d t v p r) f g q e = clash e
 becomes-unready w l calls c (In d t k p r) f g q e = clash e
-becomes-unready w l calls c (Call d n a₀ a₁ a₂ a₃) f g q e = subst (λ z. unready l (z .after)) (took e) (left-unready w l (c .loc) (c .loc) (bodyOf w d) (loaded (c .vals) n a₀ a₁ a₂ a₃) g (q .loc), tt)
+becomes-unready w l calls c (Call d n) f g q e = subst (λ z. unready l (z .after)) (took e) (left-unready w l (c .loc) (c .loc) (bodyOf w d) (loaded w (c .place) (c .vals) n) g (q .loc), tt)
 becomes-unready w l moves c Stop f g q e = clash e
 becomes-unready w l moves c (Go t v p) f g q e = subst (λ z. unready l (z .after)) (took e) (left-unready w l (c .loc) (valueIn (c .vals) v) p (c .vals) g (q .loc), tt)
 becomes-unready w l moves c (Out d t v p r) f g q e = clash e
 becomes-unready w l moves c (In d t k p r) f g q e = clash e
-becomes-unready w l moves c (Call d n a₀ a₁ a₂ a₃) f g q e = clash e
+becomes-unready w l moves c (Call d n) f g q e = clash e
 
 -- ── a component that is ready, by its test ──
 ready-free : (l : ℕ) (c : Comp) → readyAt l c ≡ true → (ltb (c .mark) 64 ≡ false) × (c .loc ≡ l)
@@ -206,11 +207,11 @@ fires-two w l p q d cs c e v m g i j a b o u s n r x y = record {
     there = at-put-other cs p q (m .sender) e j apart
 
 -- ── by cases on the head ──
-kind-ready : (w : List ℕ) (l : ℕ) (c : Comp) (x : ℕ) (h : Head) → readyAt l c ≡ true → headAt w (c .place) ≡ h → kindAt w l c x ≡ kindBy x (c .timer) h
+kind-ready : (w : List ℕ) (l : ℕ) (c : Comp) (x : ℕ) (h : Head) → readyAt l c ≡ true → headAt w (c .place) ≡ h → kindAt w l c x ≡ kindBy x c h
 unfolding kindAt
 kind-ready w l c x h r e = rw (r, e)
 
-choice-ready : (w : List ℕ) (l p : ℕ) (c : Comp) (cs : List Comp) (h : Head) → readyAt l c ≡ true → headAt w (c .place) ≡ h → choiceAt w l p c cs ≡ chosenBy w l p (c .timer) cs h
+choice-ready : (w : List ℕ) (l p : ℕ) (c : Comp) (cs : List Comp) (h : Head) → readyAt l c ≡ true → headAt w (c .place) ≡ h → choiceAt w l p c cs ≡ chosenBy w l p c cs h
 unfolding choiceAt
 choice-ready w l p c cs h r e = rw (r, e)
 
@@ -219,7 +220,7 @@ unfolding sendsAt
 sends-ready w l c h r e = rw (r, e)
 
 alone-free : (w : List ℕ) (k : Kind) (l : ℕ) (c : Comp) (h : Head) → readyAt l c ≡ true → headAt w (c .place) ≡ h → aloneAt w k c ≡ becomesAt w k c h
-unfolding aloneAt
+unfolding aloneAt fitsAlone
 alone-free w k l c h r e = rw (ready-free l c r .0, e)
 
 module _ (w : List ℕ) (good : scriptOk w ≡ true) (l p : ℕ) (cs : List Comp) (c : Comp) (v : Visit) (at-p : at cs p ≡ accepted c) (fine : CompFine w c) where
@@ -230,20 +231,20 @@ module _ (w : List ℕ) (good : scriptOk w ≡ true) (l p : ℕ) (cs : List Comp
   silent : (h : Head) → headAt w (c .place) ≡ h → ((g : ℕ) → hears g h ≡ false) → (g : ℕ) → hears g (headAt w (c .place)) ≡ false
   silent h e k g = rw e (k g)
 
-  call-case : (d n a₀ a₁ a₂ a₃ : ℕ) → readyAt l c ≡ true → headAt w (c .place) ≡ Call d n a₀ a₁ a₂ a₃ → Performed w (kindAt w l c 0) c c v → Turned w l p p (kindAt w l c 0) 0 cs c v
-  unfolding kindBy chosenBy becomesAt hears
-  call-case d n a₀ a₁ a₂ a₃ r e f =
+  call-case : (d n : ℕ) → readyAt l c ≡ true → headAt w (c .place) ≡ Call d n → Performed w (kindAt w l c 0) c c v → Turned w l p p (kindAt w l c 0) 0 cs c v
+  unfolding kindBy kindOf mustAct chosenBy becomesAt hears
+  call-case d n r e f =
       let k : kindAt w l c 0 ≡ 1 = kind-ready w l c 0 _ r e in
       let g = f .call k in
       let a = alone-free w calls l c _ r e in
       subst (λ z. Turned w l p p z 0 cs c v) (sym k)
-      (fires-one w l p calls cs c v (g .0) _ at-p (choice-ready w l p c cs _ r e) a (g .1) (becomes-unready w l calls c (Call d n a₀ a₁ a₂ a₃) _ good fine refl) (silent _ e (λ g. refl)) (g .2) (g .3))
+      (fires-one w l p calls cs c v (g .0) _ at-p (choice-ready w l p c cs _ r e) a (g .1) (becomes-unready w l calls c (Call d n) _ good fine refl) (silent _ e (λ g. refl)) (g .2) (g .3))
 
   go-case : (t y q : ℕ) → readyAt l c ≡ true → headAt w (c .place) ≡ Go t y q → Performed w (kindAt w l c 0) c c v → Turned w l p p (kindAt w l c 0) 0 cs c v
-  unfolding kindBy chosenBy becomesAt hears
-  go-case t y q r e f = by-timer (eqb (c .timer) 0) refl
+  unfolding kindBy kindOf mustAct chosenBy becomesAt hears
+  go-case t y q r e f = by-timer (dueAt c) refl
     where
-      by-timer : (b : Bool) → eqb (c .timer) 0 ≡ b → Turned w l p p (kindAt w l c 0) 0 cs c v
+      by-timer : (b : Bool) → dueAt c ≡ b → Turned w l p p (kindAt w l c 0) 0 cs c v
       by-timer true z =
           let k : kindAt w l c 0 ≡ 2 = kind-ready w l c 0 _ r e ∙ rw z in
           let g = f .move k in
@@ -253,7 +254,7 @@ module _ (w : List ℕ) (good : scriptOk w ≡ true) (l p : ℕ) (cs : List Comp
       by-timer false z = rest-case (kind-ready w l c 0 _ r e ∙ rw z) 0 (choice-ready w l p c cs _ r e ∙ rw z) f
 
   out-case : (d t y q s : ℕ) → readyAt l c ≡ true → headAt w (c .place) ≡ Out d t y q s → (sendsAt w l c < 64 → hearers w l (sendsAt w l c) 0 cs ≡ []) → Performed w (kindAt w l c 0) c c v → (b : Bool) → ltb d 64 ≡ b → Turned w l p p (kindAt w l c 0) 0 cs c v
-  unfolding kindBy chosenBy sentOn
+  unfolding kindBy kindOf mustAct chosenBy sentOn
   out-case d t y q s r e nobody f true b =
       let z : sendsAt w l c ≡ d = sends-ready w l c _ r e in
       let n : hearers w l d 0 cs ≡ [] = subst (λ k. hearers w l k 0 cs ≡ []) z (nobody (rw z (ltb-true d 64 b))) in
@@ -265,10 +266,10 @@ module _ (w : List ℕ) (good : scriptOk w ≡ true) (l p : ℕ) (cs : List Comp
     where
       by-ready : (b : Bool) → readyAt l c ≡ b → (h : Head) → headAt w (c .place) ≡ h → Turned w l p p (kindAt w l c 0) 0 cs c v
       by-ready false r h e = rest-case (unfold kindAt in rw r) 0 (unfold choiceAt in rw r) f
-      by-ready true r Stop e = rest-case (kind-ready w l c 0 _ r e ∙ (unfold kindBy in refl)) 0 (choice-ready w l p c cs _ r e ∙ (unfold chosenBy in refl)) f
+      by-ready true r Stop e = rest-case (kind-ready w l c 0 _ r e ∙ (unfold kindBy kindOf mustAct in refl)) 0 (choice-ready w l p c cs _ r e ∙ (unfold chosenBy in refl)) f
       by-ready true r (Go t y q) e = go-case t y q r e f
-      by-ready true r (In d t k y q) e = rest-case (kind-ready w l c 0 _ r e ∙ (unfold kindBy in refl)) 0 (choice-ready w l p c cs _ r e ∙ (unfold chosenBy in refl)) f
-      by-ready true r (Call d n a₀ a₁ a₂ a₃) e = call-case d n a₀ a₁ a₂ a₃ r e f
+      by-ready true r (In d t k y q) e = rest-case (kind-ready w l c 0 _ r e ∙ (unfold kindBy kindOf mustAct in refl)) 0 (choice-ready w l p c cs _ r e ∙ (unfold chosenBy in refl)) f
+      by-ready true r (Call d n) e = call-case d n r e f
       by-ready true r (Out d t y q s) e = out-case d t y q s r e nobody f (ltb d 64) refl
 
 -- a link: the first who hears is the partner
@@ -278,7 +279,7 @@ hears-in w l d e Stop q z = absurd (false≢true (and-inv (readyAt l e) _ z .1))
 hears-in w l d e (Go t y p) q z = absurd (false≢true (and-inv (readyAt l e) _ z .1))
 hears-in w l d e (Out d₂ t y p r) q z = absurd (false≢true (and-inv (readyAt l e) _ z .1))
 hears-in w l d e (In d₂ t k p r) q z = (d₂, t, k, p, r, refl, and-inv (readyAt l e) _ z .1)
-hears-in w l d e (Call d₂ n a₀ a₁ a₂ a₃) q z = absurd (false≢true (and-inv (readyAt l e) _ z .1))
+hears-in w l d e (Call d₂ n) q z = absurd (false≢true (and-inv (readyAt l e) _ z .1))
 
 handed-unready : (w : List ℕ) (l : ℕ) (c e : Comp) (h x p k q : ℕ) → scriptOk w ≡ true → CompFine w c → unready l (handed c e h x p k q .after)
 unfolding handed
@@ -286,7 +287,7 @@ handed-unready w l c e h x p k q g f = (left-unready w l (c .loc) (c .loc) p (c 
 
 meet-free : (w : List ℕ) (l : ℕ) (c e : Comp) (d t y p q d₂ t₂ k p₂ q₂ : ℕ) → readyAt l c ≡ true → readyAt l e ≡ true → headAt w (c .place) ≡ Out d t y p q → headAt w (e .place) ≡ In d₂ t₂ k p₂ q₂ → eqb d d₂ ≡ true
     → togetherAt w c e ≡ accepted (handed c e d (valueIn (c .vals) y) p k p₂)
-unfolding togetherAt meetAt
+unfolding togetherAt fitsTogether meetAt
 meet-free w l c e d t y p q d₂ t₂ k p₂ q₂ r s a b z =
     let f = ready-free l c r in
     let g = ready-free l e s in
@@ -294,14 +295,14 @@ meet-free w l c e d t y p q d₂ t₂ k p₂ q₂ r s a b z =
 
 module _ (w : List ℕ) (good : scriptOk w ≡ true) (l p q : ℕ) (cs : List Comp) (c e : Comp) (v : Visit) (at-p : at cs p ≡ accepted c) (at-q : at cs q ≡ accepted e) (fine : CompFine w c) where
   two-case : (d t y a b : ℕ) (qs : List ℕ) → readyAt l c ≡ true → headAt w (c .place) ≡ Out d t y a b → hearers w l d 0 cs ≡ q ∷ qs → Performed w (kindAt w l c (suc q)) c e v → Turned w l p q (kindAt w l c (suc q)) (suc q) cs c v
-  unfolding kindBy chosenBy sentOn hears
+  unfolding kindBy kindOf mustAct chosenBy sentOn hears
   two-case d t y a b qs r h k f =
       let s = seek-first w l d 0 cs q qs k in
       let z : s .0 ≡ q = omega (arith, s .2) in
       let u : seek (λ x. readyAt l x && hears d (headAt w (x .place))) cs ≡ accepted q = s .1 ∙ ap accepted z in
       let m = seek-at (λ x. readyAt l x && hears d (headAt w (x .place))) cs q e u at-q in
       let i = hears-in w l d e (headAt w (e .place)) refl m in
-      let o : kindAt w l c (suc q) ≡ 3 = kind-ready w l c (suc q) _ r h ∙ rw (ne-eqb (suc q) 0 (λ z. omega arith)) in
+      let o : kindAt w l c (suc q) ≡ 3 = kind-ready w l c (suc q) _ r h ∙ rw (lt-ltb 0 (suc q) (omega arith)) in
       let g = f .pair o in
       let j = meet-free w l c e d t y a b (i .0) (i .1) (i .2) (i .3) (i .4) r (and-inv (readyAt l e) _ m .0) h (i .5) (i .6) in
       subst (λ z. Turned w l p q z (suc q) cs c v) (sym o)
@@ -319,5 +320,5 @@ module _ (w : List ℕ) (good : scriptOk w ≡ true) (l p q : ℕ) (cs : List Co
       by-ready true r Stop e = absurd (not-sent Stop (unfold sentOn in refl) r e nope)
       by-ready true r (Go t y a) e = absurd (not-sent (Go t y a) (unfold sentOn in refl) r e nope)
       by-ready true r (In d t y a b) e = absurd (not-sent (In d t y a b) (unfold sentOn in refl) r e nope)
-      by-ready true r (Call d n a₀ a₁ a₂ a₃) e = absurd (not-sent (Call d n a₀ a₁ a₂ a₃) (unfold sentOn in refl) r e nope)
+      by-ready true r (Call d n) e = absurd (not-sent (Call d n) (unfold sentOn in refl) r e nope)
       by-ready true r (Out d t y a b) e = two-case d t y a b qs r e (subst (λ z. hearers w l z 0 cs ≡ q ∷ qs) (sends-ready w l c _ r e ∙ (unfold sentOn in refl)) k) f

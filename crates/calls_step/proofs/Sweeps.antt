@@ -18,9 +18,10 @@ use Rattle.table.specs.declared.Comp.{Comp}
 use Rattle.table.specs.declared.Head.{Head}
 use Rattle.table.specs.declared.Head.the-variants.{Stop, Go, Out, In, Call}
 use Rattle.table.specs.Words.{locsIn, locName, headAt}
-use Rattle.table.specs.Meaning.{defsOf, means}
+use Rattle.table.specs.Meaning.{contextOf, means}
 use Rattle.table.specs.Valid.{scriptOk, compOk}
-use Rattle.table.specs.Fire.{ActedAt, actOn, aloneAt, becomesAt, readyAt, hears}
+use Rattle.table.specs.Split.{dueAt}
+use Rattle.table.specs.Fire.{ActedAt, actOn, aloneAt, becomesAt, readyAt, hears, fitsAlone}
 use Rattle.table.proofs.Tests.{CompFine, comp-fine}
 use Rattle.table.proofs.Fires.{mapA, actedOf, act-means, at-map, every-at}
 use Rattle.table.proofs.Ticks.{ready-means, alone-ok, due-here, isDue, partner-means, Ready, is-ready, meets}
@@ -61,39 +62,39 @@ agree-refl (accepted a) = refl
 module _ (w : List ℕ) (good : scriptOk w ≡ true) (l : ℕ) (inl : l < locsIn w) where
   -- what the rules choose at a component ready at l, by its head
   by-head : (p : ℕ) (c : Comp) (cs : List Comp) (h : Head)
-      → Agree (cond (ok (becomesAt w calls c h)) (accepted (single calls p)) (cond (isDue (c .timer) h) (accepted (single moves p)) (seek (λ e. readyAt l e && meets h (headAt w (e .place))) cs >>= λ q. accepted (pair p q))))
-      (chosenBy w l p (c .timer) cs h)
+      → Agree (cond (ok (becomesAt w calls c h)) (accepted (single calls p)) (cond (isDue c h) (accepted (single moves p)) (seek (λ e. readyAt l e && meets h (headAt w (e .place))) cs >>= λ q. accepted (pair p q))))
+      (chosenBy w l p c cs h)
   unfolding becomesAt isDue meets chosenBy
   by-head p c cs Stop = rw (seek-never (readyAt l) cs) tt
-  by-head p c cs (Go t v q) = go (eqb (c .timer) 0)
+  by-head p c cs (Go t v q) = go (dueAt c)
     where
       go : (b : Bool) → Agree (cond b (accepted (single moves p)) (seek (λ e. readyAt l e && false) cs >>= λ q. accepted (pair p q))) (cond b (accepted (single moves p)) (refused 0))
       go true = refl
       go false = rw (seek-never (readyAt l) cs) tt
   by-head p c cs (Out h t v q r) = agree-refl (seek (λ e. readyAt l e && hears h (headAt w (e .place))) cs >>= λ q. accepted (pair p q))
   by-head p c cs (In h t k q r) = rw (seek-never (readyAt l) cs) tt
-  by-head p c cs (Call d n a₀ a₁ a₂ a₃) = refl
+  by-head p c cs (Call d n) = refl
 
-  choice-agrees : (p : ℕ) (c : Comp) (cs : List Comp) → CompFine w c → every (compOk w) cs ≡ true → Agree (choice (defsOf w) (locName w l) p (means w c) (map (means w) cs)) (choiceAt w l p c cs)
+  choice-agrees : (p : ℕ) (c : Comp) (cs : List Comp) → CompFine w c → every (compOk w) cs ≡ true → Agree (choice (contextOf w) (locName w l) p (means w c) (map (means w) cs)) (choiceAt w l p c cs)
   unfolding choice choiceAt
   choice-agrees p c cs f e = rw (ready-means w good l c inl f) (go (readyAt l c) refl)
     where
-      partners : Ready w good l c → seek (λ x. ready (locName w l) x && ok (fire (defsOf w) (together (means w c) x))) (map (means w) cs) ≡ seek (λ x. readyAt l x && meets (headAt w (c .place)) (headAt w (x .place))) cs
+      partners : Ready w good l c → seek (λ x. ready (locName w l) x && ok (fire (contextOf w) (together (means w c) x))) (map (means w) cs) ≡ seek (λ x. readyAt l x && meets (headAt w (c .place)) (headAt w (x .place))) cs
       partners r =
-          seek-map (λ x. ready (locName w l) x && ok (fire (defsOf w) (together (means w c) x))) (means w) cs
+          seek-map (λ x. ready (locName w l) x && ok (fire (contextOf w) (together (means w c) x))) (means w) cs
           ∙ seek-same _ _ (compOk w) cs e (λ x g. partner-means w good l c x inl f (comp-fine w x g) r)
 
       go : (b : Bool) → readyAt l c ≡ b
-          → Agree (cond b (cond (ok (fire (defsOf w) (alone calls (means w c)))) (accepted (single calls p)) (cond (dueGo (means w c)) (accepted (single moves p)) (seek (λ x. ready (locName w l) x && ok (fire (defsOf w) (together (means w c) x))) (map (means w) cs) >>= λ q. accepted (pair p q)))) (refused 0))
-          (cond b (chosenBy w l p (c .timer) cs (headAt w (c .place))) (refused 0))
+          → Agree (cond b (cond (ok (fire (contextOf w) (alone calls (means w c)))) (accepted (single calls p)) (cond (dueGo (means w c)) (accepted (single moves p)) (seek (λ x. ready (locName w l) x && ok (fire (contextOf w) (together (means w c) x))) (map (means w) cs) >>= λ q. accepted (pair p q)))) (refused 0))
+          (cond b (chosenBy w l p c cs (headAt w (c .place))) (refused 0))
       go false q = tt
       go true q =
           let r = is-ready w good l c q in
-          let a : ok (fire (defsOf w) (alone calls (means w c))) ≡ ok (becomesAt w calls c (headAt w (c .place))) = alone-ok w good calls c f ∙ (free-alone c (r .free)) in
+          let a : ok (fire (contextOf w) (alone calls (means w c))) ≡ ok (becomesAt w calls c (headAt w (c .place))) = alone-ok w good calls c f ∙ (free-alone c (r .free)) in
           rw (a, due-here w good c (r .free), partners r) (by-head p c cs (headAt w (c .place)))
         where
           free-alone : (c : Comp) → ltb (c .mark) 64 ≡ false → ok (aloneAt w calls c) ≡ ok (becomesAt w calls c (headAt w (c .place)))
-          free-alone c e = unfold aloneAt in rw e
+          free-alone c e = unfold aloneAt fitsAlone in rw e
 
   -- ── what a choice leaves ──
   pub record Like (r : Swept) (s : SweptAt) : Type 0 where
@@ -106,7 +107,7 @@ module _ (w : List ℕ) (good : scriptOk w ≡ true) (l : ℕ) (inl : l < locsIn
   unfolding idle
   idle-like cs e = record { actions = refl; comps = refl; fine = e; size = sym (length-map cs (means w)) }
 
-  took-like : (a : Action) (cs : List Comp) → every (compOk w) cs ≡ true → Like (taken (defsOf w) (accepted a) (map (means w) cs)) (takenAt w (accepted a) cs)
+  took-like : (a : Action) (cs : List Comp) → every (compOk w) cs ≡ true → Like (taken (contextOf w) (accepted a) (map (means w) cs)) (takenAt w (accepted a) cs)
   unfolding taken
   took-like a cs e = subst (λ x. Like (tookPlace a x (map (means w) cs)) (tookAt a (actOn w a cs) cs)) (act-means w good cs e a) (go (actOn w a cs) (act-kept w good cs e a))
     where
@@ -114,37 +115,37 @@ module _ (w : List ℕ) (good : scriptOk w ≡ true) (l : ℕ) (inl : l < locsIn
       go (refused n) g = unfold tookPlace in idle-like cs e
       go (accepted r) g = unfold tookPlace actedOf in record { actions = refl; comps = refl; fine = g; size = sym (length-map (r .comps) (means w)) }
 
-  taken-like : (x y : Answer Action) (cs : List Comp) → Agree x y → every (compOk w) cs ≡ true → Like (taken (defsOf w) x (map (means w) cs)) (takenAt w y cs)
+  taken-like : (x y : Answer Action) (cs : List Comp) → Agree x y → every (compOk w) cs ≡ true → Like (taken (contextOf w) x (map (means w) cs)) (takenAt w y cs)
   taken-like (refused m) (refused n) cs a e = unfold taken in idle-like cs e
   taken-like (refused m) (accepted b) cs a e = absurd a
   taken-like (accepted a) (refused n) cs q e = absurd q
-  taken-like (accepted a) (accepted b) cs q e = subst (λ z. Like (taken (defsOf w) (accepted a) (map (means w) cs)) (takenAt w (accepted z) cs)) q (took-like a cs e)
+  taken-like (accepted a) (accepted b) cs q e = subst (λ z. Like (taken (contextOf w) (accepted a) (map (means w) cs)) (takenAt w (accepted z) cs)) q (took-like a cs e)
 
-  visit-like : (p : ℕ) (cs : List Comp) → every (compOk w) cs ≡ true → Like (visit (defsOf w) (locName w l) p (at (map (means w) cs) p) (map (means w) cs)) (visitAt w l p (at cs p) cs)
+  visit-like : (p : ℕ) (cs : List Comp) → every (compOk w) cs ≡ true → Like (visit (contextOf w) (locName w l) p (at (map (means w) cs) p) (map (means w) cs)) (visitAt w l p (at cs p) cs)
   visit-like p cs e = rw (at-map (means w) cs p) (go (at cs p) refl)
     where
-      go : (x : Answer Comp) → at cs p ≡ x → Like (visit (defsOf w) (locName w l) p (mapA (means w) x) (map (means w) cs)) (visitAt w l p x cs)
+      go : (x : Answer Comp) → at cs p ≡ x → Like (visit (contextOf w) (locName w l) p (mapA (means w) x) (map (means w) cs)) (visitAt w l p x cs)
       go (refused n) q = unfold visit in idle-like cs e
       go (accepted c) q = unfold visit in taken-like _ _ cs (choice-agrees p c cs (comp-fine w c (every-at (compOk w) cs p c e q)) e) e
 
-  sweep-like : (n p : ℕ) (cs : List Comp) → every (compOk w) cs ≡ true → Like (sweep (defsOf w) (locName w l) p n (map (means w) cs)) (sweepAt w l p n cs)
+  sweep-like : (n p : ℕ) (cs : List Comp) → every (compOk w) cs ≡ true → Like (sweep (contextOf w) (locName w l) p n (map (means w) cs)) (sweepAt w l p n cs)
   unfolding sweep sweepAt followed
   sweep-like zero p cs e = idle-like cs e
   sweep-like (suc n) p cs e =
       let v = visit-like p cs e in
       let s = sweep-like n (suc p) (visitAt w l p (at cs p) cs .comps) (v .fine) in
-      join (visit (defsOf w) (locName w l) p (at (map (means w) cs) p) (map (means w) cs)) (visitAt w l p (at cs p) cs) v s
+      join (visit (contextOf w) (locName w l) p (at (map (means w) cs) p) (map (means w) cs)) (visitAt w l p (at cs p) cs) v s
     where
-      join : (r : Swept) (s : SweptAt) → Like r s → Like (sweep (defsOf w) (locName w l) (suc p) n (map (means w) (s .comps))) (sweepAt w l (suc p) n (s .comps))
-          → Like (record { actions = r .actions ++ sweep (defsOf w) (locName w l) (suc p) n (r .comps) .actions; labels = r .labels ++ sweep (defsOf w) (locName w l) (suc p) n (r .comps) .labels; comps = sweep (defsOf w) (locName w l) (suc p) n (r .comps) .comps }) (followedAt s (sweepAt w l (suc p) n))
+      join : (r : Swept) (s : SweptAt) → Like r s → Like (sweep (contextOf w) (locName w l) (suc p) n (map (means w) (s .comps))) (sweepAt w l (suc p) n (s .comps))
+          → Like (record { actions = r .actions ++ sweep (contextOf w) (locName w l) (suc p) n (r .comps) .actions; labels = r .labels ++ sweep (contextOf w) (locName w l) (suc p) n (r .comps) .labels; comps = sweep (contextOf w) (locName w l) (suc p) n (r .comps) .comps }) (followedAt s (sweepAt w l (suc p) n))
       join r s a b = record {
-        actions = ap (λ z. r .actions ++ sweep (defsOf w) (locName w l) (suc p) n z .actions) (a .comps) ∙ rw (a .actions, b .actions);
-        comps = ap (λ z. sweep (defsOf w) (locName w l) (suc p) n z .comps) (a .comps) ∙ b .comps;
+        actions = ap (λ z. r .actions ++ sweep (contextOf w) (locName w l) (suc p) n z .actions) (a .comps) ∙ rw (a .actions, b .actions);
+        comps = ap (λ z. sweep (contextOf w) (locName w l) (suc p) n z .comps) (a .comps) ∙ b .comps;
         fine = b .fine;
-        size = b .size ∙ ap (λ z. length (sweep (defsOf w) (locName w l) (suc p) n z .comps)) (sym (a .comps));
+        size = b .size ∙ ap (λ z. length (sweep (contextOf w) (locName w l) (suc p) n z .comps)) (sym (a .comps));
       }
 
   -- the actions of the step at l, and what they leave
-  pub fires-like : (cs : List Comp) → every (compOk w) cs ≡ true → Like (fires (defsOf w) (locName w l) (map (means w) cs)) (sweepAt w l 0 (length cs) cs)
+  pub fires-like : (cs : List Comp) → every (compOk w) cs ≡ true → Like (fires (contextOf w) (locName w l) (map (means w) cs)) (sweepAt w l 0 (length cs) cs)
   unfolding fires
   fires-like cs e = rw (length-map cs (means w)) (sweep-like (length cs) 0 cs e)

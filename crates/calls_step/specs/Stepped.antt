@@ -11,7 +11,7 @@ use Rattle.terms.specs.Rules.Answer.{refused, accepted}
 use Rattle.terms.specs.Step.{fires, step}
 use Rattle.table.specs.declared.State.{State}
 use Rattle.table.specs.Words.{locsIn, locName}
-use Rattle.table.specs.Meaning.{PastKept, defsOf, netOf}
+use Rattle.table.specs.Meaning.{PastKept, contextOf, netOf}
 use Rattle.table.specs.Valid.{valid}
 use Rattle.calls_act.specs.Acted.{asked}
 use Rattle.calls_tick.specs.Ticked.{room}
@@ -30,8 +30,8 @@ stepOf xs cs = record { actions = xs; comps = cs }
 unfoldable pub stepRule : List ℕ → State → ℕ → ℕ → Answer Step
 stepRule w st l size =
     asked 8 (ltb l (locsIn w))
-    (asked 15 (leb (length (fires (defsOf w) (locName w l) (netOf w st) .actions)) size)
-    (step (defsOf w) (locName w l) (netOf w st) >>= λ s. room (s .comps) >>= λ cs. accepted (stepOf (s .actions) cs)))
+    (asked 15 (leb (length (fires (contextOf w) (locName w l) (netOf w st) .actions)) size)
+    (step (contextOf w) (locName w l) (netOf w st) >>= λ s. room (s .comps) >>= λ cs. accepted (stepOf (s .actions) cs)))
 
 -- question 17 first
 unfoldable pub stepAnswer : List ℕ → State → ℕ → ℕ → Answer Step
@@ -45,7 +45,7 @@ abbrev pub left : Stepped → List ℕ → State
 left r cs = record { c = cs; n = r .n }
 
 -- an accepted step: the code 0; the number of actions, never above that of the components before it; the next components, with question 17 still
--- answered by yes; every word past those in use as it was; and the records in front of what was there
+-- answered by yes; every word that is none of theirs as it was; and the records in front of what was there
 pub record Took (w : List ℕ) (st : State) (s : Step) (r : Stepped) (cs : List ℕ) (before after : List (List ℕ)) : Type 0 where
   pub code : r .code ≡ 0
   pub count : r .count ≡ length (s .actions)

@@ -14,19 +14,20 @@ use Rattle.table.specs.declared.Comp.{Comp}
 use Rattle.table.specs.declared.Head.{Head}
 use Rattle.table.specs.declared.Head.the-variants.{Stop, Go, Out, In, Call}
 use Rattle.table.specs.Words.{headAt}
+use Rattle.table.specs.Split.{dueAt}
 use Rattle.table.specs.Fire.{ActedAt, actOn, readyAt, hears}
 
 -- ── which action fires at a component that stands at p ──
--- of a component ready at l with this timer and head
-unfoldable pub chosenBy : List ℕ → ℕ → ℕ → ℕ → List Comp → Head → Answer Action
-chosenBy w l p t cs Stop = refused 0
-chosenBy w l p t cs (Go u v q) = cond (eqb t 0) (accepted (single moves p)) (refused 0)
-chosenBy w l p t cs (Out h u v q r) = seek (λ e. readyAt l e && hears h (headAt w (e .place))) cs >>= λ q. accepted (pair p q)
-chosenBy w l p t cs (In h u k q r) = refused 0
-chosenBy w l p t cs (Call d n a₀ a₁ a₂ a₃) = accepted (single calls p)
+-- of a component ready at l with this head
+unfoldable pub chosenBy : List ℕ → ℕ → ℕ → Comp → List Comp → Head → Answer Action
+chosenBy w l p c cs Stop = refused 0
+chosenBy w l p c cs (Go u v q) = cond (dueAt c) (accepted (single moves p)) (refused 0)
+chosenBy w l p c cs (Out h u v q r) = seek (λ e. readyAt l e && hears h (headAt w (e .place))) cs >>= λ q. accepted (pair p q)
+chosenBy w l p c cs (In h u k q r) = refused 0
+chosenBy w l p c cs (Call d n) = accepted (single calls p)
 
 unfoldable pub choiceAt : List ℕ → ℕ → ℕ → Comp → List Comp → Answer Action
-choiceAt w l p c cs = cond (readyAt l c) (chosenBy w l p (c .timer) cs (headAt w (c .place))) (refused 0)
+choiceAt w l p c cs = cond (readyAt l c) (chosenBy w l p c cs (headAt w (c .place))) (refused 0)
 
 -- ── the sweep ──
 pub record SweptAt : Type 0 where

@@ -13,20 +13,12 @@ use Rattle.table.specs.declared.Head.{Head}
 use Rattle.table.specs.declared.Head.the-variants.{Stop, Go, Out, In, Call}
 use Rattle.table.specs.Words.{stateWords, headAt}
 use Rattle.table.specs.Meaning.{PastKept, compsOf}
-use Rattle.table.specs.Fire.{aloneAt, togetherAt, readyAt}
+use Rattle.table.specs.Fire.{aloneAt, togetherAt, readyAt, sentOn, mustAct}
 use Rattle.calls_act.specs.declared.Fired.{Fired}
 use Rattle.calls_act.specs.declared.Met.{Met}
 use Rattle.calls_act.specs.Fired.{oneOf, twoOf}
 use Rattle.calls_step.specs.declared.Visit.{Visit}
 use Rattle.calls_step.specs.Sweep.{sweepAt, recOf}
-
--- the channel of an output; 64 for none
-unfoldable pub sentOn : Head → ℕ
-sentOn Stop = 64
-sentOn (Go t v p) = 64
-sentOn (Out h t v p q) = h
-sentOn (In h t k p q) = 64
-sentOn (Call d n a₀ a₁ a₂ a₃) = 64
 
 -- of a component that is ready at l
 unfoldable pub sendsAt : List ℕ → ℕ → Comp → ℕ
@@ -36,16 +28,20 @@ sendsAt w l c = cond (readyAt l c) (sentOn (headAt w (c .place))) 64
 abbrev pub link : ℕ → ℕ → ℕ
 link h i = cond (ltb h 64) (suc i) 0
 
--- the kind of the action that fires, 0 for none, where x is the link to the lowest that hears
-unfoldable pub kindBy : ℕ → ℕ → Head → ℕ
-kindBy x t Stop = 0
-kindBy x t (Go u v p) = cond (eqb t 0) 2 0
-kindBy x t (Out h u v p q) = cond (eqb x 0) 0 3
-kindBy x t (In h u k p q) = 0
-kindBy x t (Call d n a₀ a₁ a₂ a₃) = 1
+-- the kind of the action of a part; 0 where it has none of its own
+unfoldable pub kindOf : Head → ℕ
+kindOf Stop = 0
+kindOf (Go t v p) = 2
+kindOf (Out h t v p q) = 3
+kindOf (In h t k p q) = 0
+kindOf (Call d n) = 1
+
+-- the kind of the action that fires, 0 for none, where x is the link to the lowest that hears: what must act does
+unfoldable pub kindBy : ℕ → Comp → Head → ℕ
+kindBy x c h = cond (mustAct (ltb 0 x) c h) (kindOf h) 0
 
 unfoldable pub kindAt : List ℕ → ℕ → Comp → ℕ → ℕ
-kindAt w l c x = cond (readyAt l c) (kindBy x (c .timer) (headAt w (c .place))) 0
+kindAt w l c x = cond (readyAt l c) (kindBy x c (headAt w (c .place))) 0
 
 -- what becomes of the component c at the position and of e, its partner or itself
 pub record Performed (w : List ℕ) (k : ℕ) (c e : Comp) (r : Visit) : Type 0 where

@@ -4,7 +4,7 @@ ghost use mathlib.Core.Bool.{true};
 ghost use Prim.Native.Nat.{_<_};
 ghost use lib.ListN.{length};
 ghost use Rattle.table.specs.Valid.{scriptOk, compOk, valid};
-ghost use Rattle.calls_step.specs.Visit.{sentOn, sendsAt, link, kindBy, kindAt, Performed, otherOf, poppedOf, recBy, SweepsAs};
+ghost use Rattle.calls_step.specs.Visit.{sendsAt, link, kindOf, kindBy, kindAt, Performed, otherOf, poppedOf, recBy, SweepsAs};
 ghost use Rattle.table.specs.Words.{stateWords};
 use super::Queue;
 use super::Visit;
@@ -18,25 +18,13 @@ use table::comps::comp_at;
 use table::comps::put_comp;
 use table::words;
 
-fn sent_on(h: Head) -> u32
-    ensures { λ r. ⌜ r ≡ sentOn h ⌝ }
-{
-    match h {
-        Head::Out(d, _, _, _, _) => d,
-        Head::Stop => 64,
-        Head::Go(_, _, _) => 64,
-        Head::In(_, _, _, _, _) => 64,
-        Head::Call(_, _, _, _, _, _) => 64,
-    }
-}
-
 fn sends_at(w: &Script, l: u32, c: Comp) -> u32
     requires { ⌜ (scriptOk (now w) ≡ true) × (compOk (now w) c ≡ true) ⌝ }
     ensures { λ r. ⌜ r ≡ sendsAt (now (w .entry)) l c ⌝ }
 {
     if forced::ready_at(l, c) {
         let h = words::head_at(w, words::wide(c.place));
-        return sent_on(h);
+        return forced::sent_on(h);
     }
     64
 }
@@ -51,26 +39,26 @@ fn link_to(h: usize, i: usize) -> u32
     0
 }
 
-fn kind_by(x: u32, t: u32, h: Head) -> u32
-    ensures { λ r. ⌜ r ≡ kindBy x t h ⌝ }
+fn kind_of(h: Head) -> u32
+    ensures { λ r. ⌜ r ≡ kindOf h ⌝ }
 {
     match h {
         Head::Stop => 0,
-        Head::Go(_, _, _) => {
-            if t == 0 {
-                return 2;
-            }
-            0
-        }
-        Head::Out(_, _, _, _, _) => {
-            if x == 0 {
-                return 0;
-            }
-            3
-        }
+        Head::Go(_, _, _) => 2,
+        Head::Out(_, _, _, _, _) => 3,
         Head::In(_, _, _, _, _) => 0,
-        Head::Call(_, _, _, _, _, _) => 1,
+        Head::Call(_, _) => 1,
     }
+}
+
+// The kind of the action that a ready component with the head h performs, 0 for none; x is the link to the lowest that hears its channel.
+fn kind_by(x: u32, c: Comp, h: Head) -> u32
+    ensures { λ r. ⌜ r ≡ kindBy x c h ⌝ }
+{
+    if forced::must_act(0 < x, c, h) {
+        return kind_of(h);
+    }
+    0
 }
 
 fn kind_at(w: &Script, l: u32, c: Comp, x: u32) -> u32
@@ -79,7 +67,7 @@ fn kind_at(w: &Script, l: u32, c: Comp, x: u32) -> u32
 {
     if forced::ready_at(l, c) {
         let h = words::head_at(w, words::wide(c.place));
-        return kind_by(x, c.timer, h);
+        return kind_by(x, c, h);
     }
     0
 }

@@ -16,10 +16,10 @@ use Rattle.table.specs.declared.Head.{Head}
 use Rattle.table.specs.declared.Head.the-variants.{Stop, Go, Out, In, Call}
 use Rattle.table.specs.Words.{chansIn, headAt}
 use Rattle.table.specs.Valid.{headOk, scriptOk, compOk}
-use Rattle.table.specs.Fire.{readyAt, hears, pressesAt}
+use Rattle.table.specs.Fire.{readyAt, sentOn, hears, mustAct, heardAt, pressesAt}
 use Rattle.table.proofs.Tests.{script-fine, part-fine, comp-fine}
 use Rattle.table.proofs.Places.{out-fine, in-fine}
-use Rattle.calls_tick.specs.Heard.{heardOn, hearsAt, Heard, pressesBy, pressedBy}
+use Rattle.calls_tick.specs.Heard.{heardOn, hearsAt, Heard, pressedBy}
 
 -- ── lists ──
 pub some-append : {A : Type 0} (f : A → Bool) (xs ys : List A) → some f (xs ++ ys) ≡ (some f xs || some f ys)
@@ -50,14 +50,14 @@ inEar n Stop = Unit {0}
 inEar n (Go t v p) = Unit {0}
 inEar n (Out h t v p q) = h < n
 inEar n (In h t k p q) = h < n
-inEar n (Call d m a₀ a₁ a₂ a₃) = Unit {0}
+inEar n (Call d m) = Unit {0}
 
 ear-small : (w : List ℕ) (i : ℕ) (h : Head) → headOk w i h ≡ true → chansIn w ≤ 64 → inEar 64 h
 ear-small w i Stop e n = tt
 ear-small w i (Go t v p) e n = tt
 ear-small w i (Out h t v p q) e n = omega (arith, ltb-true h (chansIn w) (out-fine w i h t v p q e .channel))
 ear-small w i (In h t k p q) e n = omega (arith, ltb-true h (chansIn w) (in-fine w i h t k p q e .channel))
-ear-small w i (Call d m a₀ a₁ a₂ a₃) e n = tt
+ear-small w i (Call d m) e n = tt
 
 pub ear-fits : (w : List ℕ) (c : Comp) → scriptOk w ≡ true → compOk w c ≡ true → inEar 64 (headAt w (c .place))
 ear-fits w c e f = ear-small w (c .place) (headAt w (c .place)) (part-fine w e (c .place) (comp-fine w c f .place) .head) (script-fine w e .chans)
@@ -76,10 +76,10 @@ hears-own w l g c h = go (readyAt l c) (headAt w (c .place))
     go true (Go t v p) = unfold hears heardOn in none
     go true (Out d t v p q) = unfold hears heardOn in none
     go true (In d t k p q) = unfold hears heardOn in refl
-    go true (Call d n a₀ a₁ a₂ a₃) = unfold hears heardOn in none
+    go true (Call d n) = unfold hears heardOn in none
 
 pub heard-none : (w : List ℕ) (l : ℕ) → Heard w l [] (replicate 64 0)
-unfolding some
+unfolding some heardAt
 heard-none w l h k = zeros 64 h
   where
     zeros : (n h : ℕ) → eqb (getD (replicate n 0) h 0) 1 ≡ false
@@ -89,7 +89,8 @@ heard-none w l h k = zeros 64 h
 
 -- one more component is looked at, which hears a channel, or none
 module _ (w : List ℕ) (l : ℕ) (xs : List Comp) (j : ℕ) (d : Comp) (ys : List ℕ) (b : j < length xs) (n : length ys ≡ 64) (p : Heard w l (take j xs) ys) where
-  one-more : (h : ℕ) → h < 64 → some (λ e. readyAt l e && hears h (headAt w (e .place))) (take (j + 1) xs) ≡ (eqb (getD ys h 0) 1 || eqb h (hearsAt w l (getD xs j d)))
+  one-more : (h : ℕ) → h < 64 → heardAt w l (take (j + 1) xs) h ≡ (eqb (getD ys h 0) 1 || eqb h (hearsAt w l (getD xs j d)))
+  unfolding heardAt
   one-more h k =
       some-more (λ e. readyAt l e && hears h (headAt w (e .place))) xs j d b
       ∙ ap (λ z. z || (readyAt l (getD xs j d) && hears h (headAt w (getD xs j d .place)))) (sym (p h k))
@@ -110,26 +111,27 @@ module _ (w : List ℕ) (l : ℕ) (xs : List Comp) (j : ℕ) (d : Comp) (ys : Li
   heard-past m h k = sym (one-more h k ∙ rw (ne-eqb h (hearsAt w l (getD xs j d)) (λ e. omega arith)) (or-none (eqb (getD ys h 0) 1)))
 
 -- ── what presses ──
-presses-heard : (w : List ℕ) (l : ℕ) (cs : List Comp) (ys : List ℕ) (t : ℕ) (g : Head) → inEar 64 g → Heard w l cs ys → pressesBy ys t g ≡ pressesAt w l cs t g
-unfolding pressesBy pressesAt
-presses-heard w l cs ys t Stop i p = refl
-presses-heard w l cs ys t (Go u v q) i p = refl
-presses-heard w l cs ys t (Out h u v q r) i p = p h i
-presses-heard w l cs ys t (In h u k q r) i p = refl
-presses-heard w l cs ys t (Call d n a₀ a₁ a₂ a₃) i p = refl
+presses-heard : (w : List ℕ) (l : ℕ) (cs : List Comp) (ys : List ℕ) (c : Comp) (g : Head) → inEar 64 g → Heard w l cs ys
+    → mustAct (eqb (getD ys (sentOn g) 0) 1) c g ≡ mustAct (heardAt w l cs (sentOn g)) c g
+unfolding mustAct sentOn
+presses-heard w l cs ys c Stop i p = refl
+presses-heard w l cs ys c (Go u v q) i p = refl
+presses-heard w l cs ys c (Out h u v q r) i p = p h i
+presses-heard w l cs ys c (In h u k q r) i p = refl
+presses-heard w l cs ys c (Call d n) i p = refl
 
 pub pressed-is : (w : List ℕ) (l : ℕ) (cs : List Comp) (ys : List ℕ) (c : Comp) → scriptOk w ≡ true → compOk w c ≡ true → Heard w l cs ys
-    → pressedBy w l ys c ≡ (readyAt l c && pressesAt w l cs (c .timer) (headAt w (c .place)))
-unfolding pressedBy
-pressed-is w l cs ys c e f p = ap (λ b. readyAt l c && b) (presses-heard w l cs ys (c .timer) (headAt w (c .place)) (ear-fits w c e f) p)
+    → pressedBy w l ys c ≡ pressesAt w l cs c
+unfolding pressedBy pressesAt
+pressed-is w l cs ys c e f p = ap (λ b. readyAt l c && b) (presses-heard w l cs ys c (headAt w (c .place)) (ear-fits w c e f) p)
 
 -- no component up to j presses
 abbrev pub quiet : List ℕ → ℕ → List Comp → List Comp → Bool
-quiet w l cs xs = some (λ c. readyAt l c && pressesAt w l cs (c .timer) (headAt w (c .place))) xs
+quiet w l cs xs = some (pressesAt w l cs) xs
 
 pub quiet-more : (w : List ℕ) (l : ℕ) (cs xs : List Comp) (j : ℕ) (d : Comp) → j < length xs → quiet w l cs (take j xs) ≡ false
-    → (readyAt l (getD xs j d) && pressesAt w l cs (getD xs j d .timer) (headAt w (getD xs j d .place))) ≡ false → quiet w l cs (take (j + 1) xs) ≡ false
-quiet-more w l cs xs j d h p q = some-more (λ c. readyAt l c && pressesAt w l cs (c .timer) (headAt w (c .place))) xs j d h ∙ rw (p, q)
+    → pressesAt w l cs (getD xs j d) ≡ false → quiet w l cs (take (j + 1) xs) ≡ false
+quiet-more w l cs xs j d h p q = some-more (pressesAt w l cs) xs j d h ∙ rw (p, q)
 
 -- one that presses decides
 pub some-getD : {A : Type 0} (f : A → Bool) (xs : List A) (n j : ℕ) (d : A) → j < n → n ≤ length xs → f (getD xs j d) ≡ true → some f (take n xs) ≡ true

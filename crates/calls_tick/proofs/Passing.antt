@@ -88,11 +88,6 @@ unfoldable pub rank : ℕ → ℕ
 rank zero = 8_000
 rank (suc j) = j
 
-rank-small : (n : ℕ) → n ≤ 4_096 → rank n ≤ 8_000
-unfolding rank
-rank-small zero h = omega arith
-rank-small (suc j) h = omega arith
-
 -- how far the loop has come: components left, then parts left
 abbrev pub left-over : ℕ → ℕ → ℕ → ℕ
 left-over n i next = (n - i) * 8_192 + rank next

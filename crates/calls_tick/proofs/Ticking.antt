@@ -47,16 +47,16 @@ pub tick-done : (w : List ℕ) (st : State) (l : ℕ) → valid w st ≡ true �
 unfolding room
 tick-done w st l v h e n = in-range w st l v h ∙ rw (e, length-map (passedAll w l (compsOf st)) (means w), le-leb (length (passedAll w l (compsOf st))) 256 (omega arith))
 
--- a state whose components are what the tick leaves
-pub tick-took : (w : List ℕ) (st next : State) (l : ℕ) → valid w st ≡ true → compsOf next ≡ passedAll w l (compsOf st) → next .n ≡ length (passedAll w l (compsOf st)) → length (passedAll w l (compsOf st)) < 257 → PastKept (next .n) (st .c) (next .c)
-    → Took w st (map (means w) (passedAll w l (compsOf st))) (record { code = 0; state = next })
+-- k components whose words are out are what the tick leaves
+pub tick-took : (w : List ℕ) (st : State) (out : List ℕ) (k l : ℕ) → valid w st ≡ true → compsOf (record { c = out; n = k }) ≡ passedAll w l (compsOf st) → k ≡ length (passedAll w l (compsOf st)) → length (passedAll w l (compsOf st)) < 257 → PastKept k (st .c) out
+    → Took w st (map (means w) (passedAll w l (compsOf st))) (record { code = 0; n = k }) out
 unfolding netOf valid stateOk
-tick-took w st next l v e n b k =
+tick-took w st out k l v e n b q =
     let p = valid-parts w st v in
     record {
       code = refl;
       comps = ap (map (means w)) e;
-      good = and-in _ _ (p .0) (and-in _ _ (lt-ltb 0 (next .n) (omega (arith, n, tick-grows w l (compsOf st), comps-length st, p .1 .some))) (and-in _ _ (le-leb (next .n) 256 (omega (arith, n))) (rw e (tick-kept w (p .0) l (compsOf st) (p .1 .each)))));
+      good = and-in _ _ (p .0) (and-in _ _ (lt-ltb 0 k (omega (arith, n, tick-grows w l (compsOf st), comps-length st, p .1 .some))) (and-in _ _ (le-leb k 256 (omega (arith, n))) (rw e (tick-kept w (p .0) l (compsOf st) (p .1 .each)))));
       grows = omega (arith, n, tick-grows w l (compsOf st), comps-length st);
-      past = k;
+      past = q;
     }

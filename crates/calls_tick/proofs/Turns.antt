@@ -13,7 +13,7 @@ use Rattle.table.specs.declared.Head.{Head}
 use Rattle.table.specs.declared.Head.the-variants.{Stop, Go, Out, In, Call}
 use Rattle.table.specs.Words.{partsIn, headAt, nextAt}
 use Rattle.table.specs.Valid.{headOk, nextOk, scriptOk, compOk}
-use Rattle.table.specs.Split.{fresh, andThen, partsFrom, splitAt, timed, orElse, waited, passed}
+use Rattle.table.specs.Split.{fresh, andThen, partsFrom, splitAt, timed, orElse, waited, passed, expiredAt}
 use Rattle.table.specs.Fire.{passedAll}
 use Rattle.table.proofs.Tests.{inner, part-fine, comp-fine}
 use Rattle.table.proofs.Places.{out-fine, in-fine}
@@ -67,7 +67,7 @@ module _ (w : List ℕ) (good : scriptOk w ≡ true) (l : ℕ) (c : Comp) where
 
   else-writes : (q : ℕ) → q < partsIn w → Writes w l c (orElse w c q) (elseTurn w c q)
   unfolding orElse elseTurn
-  else-writes q h = go (eqb (c .timer) 0)
+  else-writes q h = go (expiredAt c)
     where
       go : (b : Bool) → Writes w l c (cond b (splitAt w (c .loc) (c .vals) q) (timed c (lessRaw (c .timer)) ∷ [])) (cond b (partOf w c q) (whole (timed c (lessRaw (c .timer)))))
       go true = part-writes q h
@@ -79,7 +79,7 @@ module _ (w : List ℕ) (good : scriptOk w ≡ true) (l : ℕ) (c : Comp) where
   wait-writes (Go t v p) e b = whole-writes (timed c (lessRaw (c .timer)))
   wait-writes (Out d t v p q) e b = else-writes q (omega (arith, out-fine w (c .place) d t v p q e .second .lesser))
   wait-writes (In d t k p q) e b = else-writes q (omega (arith, in-fine w (c .place) d t k p q e .second .lesser))
-  wait-writes (Call d n a₀ a₁ a₂ a₃) e b = whole-writes c
+  wait-writes (Call d n) e b = whole-writes c
 
   first-writes : compOk w c ≡ true → Writes w l c (passed w l c) (firstTurn w l c)
   unfolding passed firstTurn
@@ -118,9 +118,9 @@ turn-next w good l c next f h = (small next h, turn-writes w good l c next f h .
     wait-small : (g : Head) → headOk w (c .place) g ≡ true → waitTurn w c g .next ≤ partsIn w
     wait-small Stop e = unfold waitTurn in omega arith
     wait-small (Go t v p) e = unfold waitTurn in omega arith
-    wait-small (Out d t v p q) e = unfold waitTurn elseTurn in else-small q (omega (arith, out-fine w (c .place) d t v p q e .second .lesser, b)) (eqb (c .timer) 0)
-    wait-small (In d t k p q) e = unfold waitTurn elseTurn in else-small q (omega (arith, in-fine w (c .place) d t k p q e .second .lesser, b)) (eqb (c .timer) 0)
-    wait-small (Call d n a₀ a₁ a₂ a₃) e = unfold waitTurn in omega arith
+    wait-small (Out d t v p q) e = unfold waitTurn elseTurn in else-small q (omega (arith, out-fine w (c .place) d t v p q e .second .lesser, b)) (expiredAt c)
+    wait-small (In d t k p q) e = unfold waitTurn elseTurn in else-small q (omega (arith, in-fine w (c .place) d t k p q e .second .lesser, b)) (expiredAt c)
+    wait-small (Call d n) e = unfold waitTurn in omega arith
 
     first-small : (m x y : Bool) → cond m (cond x (partOf w c (c .place)) (whole c)) (cond y (waitTurn w c (headAt w (c .place))) (whole c)) .next ≤ partsIn w
     first-small true true y = part-small (c .place) b
@@ -185,9 +185,9 @@ turn-vals w l c zero = first (ltb (c .mark) 64) (eqb (c .mark) l) (eqb (c .loc) 
     wait : (h : Head) → length (waitTurn w c h .comp .vals) ≡ length (c .vals)
     wait Stop = refl
     wait (Go t v p) = refl
-    wait (Out d t v p q) = other (eqb (c .timer) 0) q
-    wait (In d t k p q) = other (eqb (c .timer) 0) q
-    wait (Call d n a₀ a₁ a₂ a₃) = refl
+    wait (Out d t v p q) = other (expiredAt c) q
+    wait (In d t k p q) = other (expiredAt c) q
+    wait (Call d n) = refl
 
     first : (m x y : Bool) (h : Head) → length (cond m (cond x (partOf w c (c .place)) (whole c)) (cond y (waitTurn w c h) (whole c)) .comp .vals) ≡ length (c .vals)
     first true true y h = refl

@@ -11,7 +11,7 @@ use Rattle.table.specs.declared.Comp.{Comp}
 use Rattle.table.specs.declared.Head.{Head}
 use Rattle.table.specs.declared.Head.the-variants.{Stop, Go, Out, In, Call}
 use Rattle.table.specs.Words.{headAt}
-use Rattle.table.specs.Fire.{readyAt, hears}
+use Rattle.table.specs.Fire.{readyAt, sentOn, mustAct, heardAt}
 
 -- the channel of an input; 64 for none
 unfoldable pub heardOn : Head → ℕ
@@ -19,7 +19,7 @@ heardOn Stop = 64
 heardOn (Go t v p) = 64
 heardOn (Out h t v p q) = 64
 heardOn (In h t k p q) = h
-heardOn (Call d n a₀ a₁ a₂ a₃) = 64
+heardOn (Call d n) = 64
 
 -- the channel that c hears if it is ready at l
 unfoldable pub hearsAt : List ℕ → ℕ → Comp → ℕ
@@ -27,15 +27,8 @@ hearsAt w l c = cond (readyAt l c) (heardOn (headAt w (c .place))) 64
 
 -- ys has a 1 for each channel that one of cs, ready at l, hears
 abbrev pub Heard : List ℕ → ℕ → List Comp → List ℕ → Type 0
-Heard w l cs ys = (h : ℕ) → h < 64 → eqb (getD ys h 0) 1 ≡ some (λ e. readyAt l e && hears h (headAt w (e .place))) cs
+Heard w l cs ys = (h : ℕ) → h < 64 → eqb (getD ys h 0) 1 ≡ heardAt w l cs h
 
--- of a component with this timer and head, where ys are heard: must it act before a tick?
-unfoldable pub pressesBy : List ℕ → ℕ → Head → Bool
-pressesBy ys t Stop = false
-pressesBy ys t (Go u v p) = eqb t 0
-pressesBy ys t (Out h u v p q) = eqb (getD ys h 0) 1
-pressesBy ys t (In h u k p q) = false
-pressesBy ys t (Call d n a₀ a₁ a₂ a₃) = true
-
+-- where ys are heard: must c act before the tick at l?
 unfoldable pub pressedBy : List ℕ → ℕ → List ℕ → Comp → Bool
-pressedBy w l ys c = readyAt l c && pressesBy ys (c .timer) (headAt w (c .place))
+pressedBy w l ys c = readyAt l c && mustAct (eqb (getD ys (sentOn (headAt w (c .place))) 0) 1) c (headAt w (c .place))

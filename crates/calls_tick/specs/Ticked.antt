@@ -11,7 +11,7 @@ use Rattle.terms.specs.Rules.Answer.{refused, accepted}
 use Rattle.table.specs.declared.Comp.{Comp}
 use Rattle.table.specs.declared.State.{State}
 use Rattle.table.specs.Words.{stateWords, locsIn, locName}
-use Rattle.table.specs.Meaning.{listFrom, compIn, PastKept, defsOf, compsOf, netOf}
+use Rattle.table.specs.Meaning.{listFrom, compIn, PastKept, contextOf, compsOf, netOf}
 use Rattle.table.specs.Valid.{valid}
 use Rattle.table.specs.Fire.{passedAll}
 use Rattle.calls_act.specs.Acted.{asked}
@@ -23,29 +23,33 @@ room cs = asked 13 (leb (length cs) 256) (accepted cs)
 
 -- the tick at the location numbered l: questions 8, 12 and 13
 unfoldable pub tickRule : List ℕ → State → ℕ → Answer (List Component)
-tickRule w st l = asked 8 (ltb l (locsIn w)) (tick (defsOf w) (locName w l) (netOf w st) >>= room)
+tickRule w st l = asked 8 (ltb l (locsIn w)) (tick (contextOf w) (locName w l) (netOf w st) >>= room)
 
 -- question 17 first
 unfoldable pub tickAnswer : List ℕ → State → ℕ → Answer (List Component)
 tickAnswer w st l = asked 17 (valid w st) (tickRule w st l)
 
-abbrev pub refusal : ℕ → State → Ticked
-refusal n st = record { code = n; state = st }
+abbrev pub refusal : ℕ → ℕ → Ticked
+refusal code n = record { code = code; n = n }
 
--- an accepted tick: the code 0; the next components, with question 17 still answered by yes; no fewer than before, and every word past them as it was
-pub record Took (w : List ℕ) (st : State) (cs : List Component) (r : Ticked) : Type 0 where
+-- the lent components afterwards, of which the answer says how many are in use
+abbrev pub left : Ticked → List ℕ → State
+left r cs = record { c = cs; n = r .n }
+
+-- an accepted tick: the code 0; the next components, with question 17 still answered by yes; no fewer than before, and every word that is none of theirs as it was
+pub record Took (w : List ℕ) (st : State) (cs : List Component) (r : Ticked) (out : List ℕ) : Type 0 where
   pub code : r .code ≡ 0
-  pub comps : netOf w (r .state) ≡ cs
-  pub good : valid w (r .state) ≡ true
-  pub grows : st .n ≤ r .state .n
-  pub past : PastKept (r .state .n) (st .c) (r .state .c)
+  pub comps : netOf w (left r out) ≡ cs
+  pub good : valid w (left r out) ≡ true
+  pub grows : st .n ≤ r .n
+  pub past : PastKept (r .n) (st .c) out
 
--- the code's answer r stands for the answer of the rules
-abbrev pub ticksAs : List ℕ → State → Answer (List Component) → Ticked → Type 0
-ticksAs w st (refused n) r = r ≡ refusal n st
-ticksAs w st (accepted cs) r = Took w st cs r
+-- the code's answer r and the lent components out afterwards stand for the answer of the rules
+abbrev pub ticksAs : List ℕ → State → Answer (List Component) → Ticked → List ℕ → Type 0
+ticksAs w st (refused k) r out = (r ≡ refusal k (st .n)) × (out ≡ st .c)
+ticksAs w st (accepted cs) r out = Took w st cs r out
 
--- what the tick's pass over all components gives: it is full if there is no room, else the components are these, and past them nothing was written
+-- what the tick's pass over all components gives: it is full if there is no room, else the components are these, and no other word was written
 abbrev pub passes : List Comp → List ℕ → List ℕ → ℕ → Type 0
 passes cs before out k = (256 < k → 256 < length cs) × (k ≤ 256 → (compsOf (record { c = out; n = k }) ≡ cs) × (k ≡ length cs) × PastKept k before out)
 

@@ -9,7 +9,7 @@ use Rattle.table.specs.declared.Comp.{Comp}
 use Rattle.table.specs.declared.Head.{Head}
 use Rattle.table.specs.declared.Head.the-variants.{Stop, Go, Out, In, Call}
 use Rattle.table.specs.Words.{headAt, nextAt}
-use Rattle.table.specs.Split.{fresh, splitAt, timed, passed}
+use Rattle.table.specs.Split.{fresh, splitAt, timed, expiredAt, passed}
 use Rattle.table.specs.Fire.{passedAll}
 use Rattle.calls_tick.specs.declared.Turn.{Turn}
 
@@ -28,7 +28,7 @@ partOf w c j = record { comp = fresh w (c .loc) (c .vals) j; next = nextAt w j; 
 
 -- an `in` or `out` with its Q at q
 unfoldable pub elseTurn : List ℕ → Comp → ℕ → Turn
-elseTurn w c q = cond (eqb (c .timer) 0) (partOf w c q) (whole (timed c (lessRaw (c .timer))))
+elseTurn w c q = cond (expiredAt c) (partOf w c q) (whole (timed c (lessRaw (c .timer))))
 
 -- a component that is ready where the tick is, with the head h
 unfoldable pub waitTurn : List ℕ → Comp → Head → Turn
@@ -36,7 +36,7 @@ waitTurn w c Stop = whole c
 waitTurn w c (Go t v p) = whole (timed c (lessRaw (c .timer)))
 waitTurn w c (Out d t v p q) = elseTurn w c q
 waitTurn w c (In d t k p q) = elseTurn w c q
-waitTurn w c (Call d n a₀ a₁ a₂ a₃) = whole c
+waitTurn w c (Call d n) = whole c
 
 -- the first turn of a component in the tick at l
 unfoldable pub firstTurn : List ℕ → ℕ → Comp → Turn

@@ -6,14 +6,15 @@ ghost use lib.Dec.{eqb};
 ghost use lib.ListN.{getD};
 ghost use Rattle.table.specs.Meaning.{compsOf};
 ghost use Rattle.table.specs.Valid.{scriptOk, compOk, valid};
-ghost use Rattle.table.specs.Fire.{readyAt, forcedAt};
-ghost use Rattle.calls_tick.specs.Heard.{heardOn, hearsAt, Heard, pressesBy, pressedBy};
+ghost use Rattle.table.specs.Fire.{readyAt, sentOn, mustAct, forcedAt};
+ghost use Rattle.calls_tick.specs.Heard.{heardOn, hearsAt, Heard, pressedBy};
 use table::Comp;
 use table::Head;
 use table::Script;
 use table::Words;
 use table::comps::comp_at;
 use table::words;
+use terms::Timer;
 
 pub fn ready_at(l: u32, c: Comp) -> bool
     ensures { λ r. ⌜ r ≡ readyAt l c ⌝ }
@@ -32,7 +33,7 @@ fn heard_on(h: Head) -> u32
         Head::Stop => 64,
         Head::Go(_, _, _) => 64,
         Head::Out(_, _, _, _, _) => 64,
-        Head::Call(_, _, _, _, _, _) => 64,
+        Head::Call(_, _) => 64,
     }
 }
 
@@ -65,15 +66,32 @@ fn heard_at(w: &Script, c: &Words, n: usize, l: u32) -> [u32; 64]
     out
 }
 
-fn presses_by(ears: &[u32; 64], t: u32, h: Head) -> bool
-    ensures { λ r. ⌜ r ≡ pressesBy (now (ears .entry)) t h ⌝ }
+// The channel of an output; 64 for none.
+pub fn sent_on(h: Head) -> u32
+    ensures { λ r. ⌜ r ≡ sentOn h ⌝ }
+{
+    match h {
+        Head::Out(d, _, _, _, _) => d,
+        Head::Stop => 64,
+        Head::Go(_, _, _) => 64,
+        Head::In(_, _, _, _, _) => 64,
+        Head::Call(_, _) => 64,
+    }
+}
+
+// Must c, a ready component with the head h, act before a tick? `heard` says whether the channel that it sends on is heard.
+pub fn must_act(heard: bool, c: Comp, h: Head) -> bool
+    ensures { λ r. ⌜ r ≡ mustAct heard c h ⌝ }
 {
     match h {
         Head::Stop => false,
-        Head::Go(_, _, _) => t == 0,
-        Head::Out(d, _, _, _, _) => is_heard(ears, words::wide(d)),
+        Head::Go(_, _, _) => {
+            let t = Timer { raw: c.timer };
+            t.is_due()
+        }
+        Head::Out(_, _, _, _, _) => heard,
         Head::In(_, _, _, _, _) => false,
-        Head::Call(_, _, _, _, _, _) => true,
+        Head::Call(_, _) => true,
     }
 }
 
@@ -92,7 +110,8 @@ fn pressed_by(w: &Script, l: u32, ears: &[u32; 64], c: Comp) -> bool
 {
     if ready_at(l, c) {
         let h = words::head_at(w, words::wide(c.place));
-        return presses_by(ears, c.timer, h);
+        let heard = is_heard(ears, words::wide(sent_on(h)));
+        return must_act(heard, c, h);
     }
     false
 }

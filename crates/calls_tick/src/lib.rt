@@ -16,7 +16,6 @@ pub mod pass;
 pub mod tick;
 
 use table::Comp;
-use table::State;
 
 // One turn of a component in a tick: the component written, the place and one of the part that comes next or 0, and 1 once it is done with.
 pub struct Turn {
@@ -25,9 +24,9 @@ pub struct Turn {
     pub step: usize,
 }
 
-// The answer of a tick: code 0 with the next state, or the number of the question answered by no with the state as it was.
+// The answer of a tick: code 0 with the number of components after it, or the number of the question answered by no and the number of components as it was.
 #[repr(C)]
 pub struct Ticked {
     pub code: u32,
-    pub state: State,
+    pub n: usize,
 }

@@ -30,7 +30,7 @@ fn timer_in(h: Head) -> u32
         Head::Go(t, _, _) => t,
         Head::Out(_, t, _, _, _) => t,
         Head::In(_, t, _, _, _) => t,
-        Head::Call(_, _, _, _, _, _) => 0,
+        Head::Call(_, _) => 0,
     }
 }
 
@@ -116,7 +116,7 @@ fn wait_turn(w: &Script, c: Comp, h: Head) -> Turn
         Head::Go(_, _, _) => timed_turn(c),
         Head::Out(_, _, _, _, q) => else_turn(w, c, q),
         Head::In(_, _, _, _, q) => else_turn(w, c, q),
-        Head::Call(_, _, _, _, _, _) => whole_turn(c),
+        Head::Call(_, _) => whole_turn(c),
     }
 }
 

@@ -1,4 +1,4 @@
-// The tick at a location of a table that passes question 17: questions 8, 12 and 13.
+// The tick at a location of a table that passes question 17, in the lent components: questions 8, 12 and 13. A refusal leaves them as they were.
 ghost use mathlib.Core.Path.{_≡_};
 ghost use mathlib.Core.Bool.{true};
 ghost use Rattle.table.specs.Valid.{valid};
@@ -7,36 +7,39 @@ use super::Ticked;
 use super::forced;
 use super::pass;
 use table::Script;
-use table::State;
+use table::Words;
+use table::comps::sized;
 use table::words;
 
-pub fn refuse(code: u32, st: State) -> Ticked
-    ensures { λ r. ⌜ r ≡ refusal code st ⌝ }
+pub fn refuse(code: u32, n: usize) -> Ticked
+    ensures { λ r. ⌜ r ≡ refusal code n ⌝ }
 {
-    Ticked {
-        code: code,
-        state: st,
-    }
+    Ticked { code: code, n: n }
 }
 
-pub fn tick_valid(w: &Script, st: State, l: u32) -> Ticked
-    requires { ⌜ valid (now w) st ≡ true ⌝ }
-    ensures { λ r. ⌜ ticksAs (now (w .entry)) st (tickRule (now (w .entry)) st l) r ⌝ }
+// A refusal, with the components as they were.
+pub fn put_back(code: u32, n: usize, held: &Words, c: &mut Words) -> Ticked
+    ensures { λ r. ⌜ (r ≡ refusal code n) × (now (c .exit) ≡ now (held .entry)) ⌝ }
+{
+    *c = *held;
+    refuse(code, n)
+}
+
+pub fn tick_valid(w: &Script, c: &mut Words, n: usize, l: u32) -> Ticked
+    requires { ⌜ valid (now w) (record { c = now c; n = n }) ≡ true ⌝ }
+    ensures { λ r. ⌜ ticksAs (now (w .entry)) (record { c = now (c .entry); n = n }) (tickRule (now (w .entry)) (record { c = now (c .entry); n = n }) l) r (now (c .exit)) ⌝ }
 {
     if words::word(w, 1) <= l {
-        return refuse(8, st);
+        return refuse(8, n);
     }
-    if forced::forced_at(w, &st.c, st.n, l) {
-        return refuse(12, st);
+    if forced::forced_at(w, c, n, l) {
+        return refuse(12, n);
     }
-    let mut out = st;
-    let k = pass::pass_all(w, &mut out.c, st.n, l);
+    sized(*c);
+    let held = *c;
+    let k = pass::pass_all(w, c, n, l);
     if 256 < k {
-        return refuse(13, st);
+        return put_back(13, n, &held, c);
     }
-    out.n = k;
-    Ticked {
-        code: 0,
-        state: out,
-    }
+    Ticked { code: 0, n: k }
 }

@@ -13,7 +13,7 @@ use Rattle.terms.specs.Rules.Answer.{refused, accepted}
 use Rattle.terms.specs.Step.{step}
 use Rattle.table.specs.declared.State.{State}
 use Rattle.table.specs.Words.{locsIn, locName}
-use Rattle.table.specs.Meaning.{defsOf, compsOf, netOf}
+use Rattle.table.specs.Meaning.{contextOf, compsOf, netOf}
 use Rattle.table.specs.Valid.{valid}
 use Rattle.table.specs.Fire.{Left, labelOf, leftBy}
 use Rattle.calls_act.specs.Acted.{asked, actionOf, actionRule, actionAnswer}
@@ -21,8 +21,8 @@ use Rattle.calls_tick.specs.Ticked.{room}
 use Rattle.run_line.specs.Line.{labelText, lineText, stepLabels}
 use Rattle.run_line.proofs.Fits.{name-short, label-short, line-short}
 use Rattle.host.specs.Shown.{holding, nameAnswer, labelAnswer, lineAnswer}
-use Rattle.host.specs.Label.{labelled}
-use Rattle.host.proofs.Labelled.{tagged, on-table}
+use Rattle.calls_act.specs.Labelled.{labelled}
+use Rattle.calls_act.proofs.Labelling.{tagged, on-table}
 
 held : (s : List ℕ) (n k : ℕ) → length s ≤ n → n ≤ k → holding s k ≡ accepted s
 unfolding holding
@@ -41,9 +41,9 @@ module _ (w : List ℕ) (st : State) (n : ℕ) (h : 51 ≤ n) where
   by-label (refused m) e = refl
   by-label (accepted a) e = e
 
-  by-action : valid w st ≡ true → (x : Answer Action) → each (x >>= λ a. act (defsOf w) a (netOf w st))
+  by-action : valid w st ≡ true → (x : Answer Action) → each (x >>= λ a. act (contextOf w) a (netOf w st))
   by-action v (refused m) = refl
-  by-action v (accepted a) = by-label (act (defsOf w) a (netOf w st)) (rw (sym (on-table w st v a)) (go (leftBy w a (compsOf st))))
+  by-action v (accepted a) = by-label (act (contextOf w) a (netOf w st)) (rw (sym (on-table w st v a)) (go (leftBy w a (compsOf st))))
     where
       go : (x : Answer Left) → (tagged w x >>= λ y. holding (labelText y) n) ≡ (tagged w x >>= λ y. accepted (labelText y))
       go (refused m) = refl
@@ -53,7 +53,7 @@ module _ (w : List ℕ) (st : State) (n : ℕ) (h : 51 ≤ n) where
   unfolding labelAnswer actionAnswer actionRule
   label-held k p q = go (valid w st) refl
     where
-      go : (b : Bool) → valid w st ≡ b → each (asked 17 b (actionOf k p q >>= λ a. act (defsOf w) a (netOf w st)))
+      go : (b : Bool) → valid w st ≡ b → each (asked 17 b (actionOf k p q >>= λ a. act (contextOf w) a (netOf w st)))
       go true v = by-action v (actionOf k p q)
       go false v = refl
 
@@ -62,12 +62,12 @@ module _ (w : List ℕ) (st : State) (l n : ℕ) (h : 13_329 ≤ n) where
   abbrev Line : List ℕ
   Line = lineText (locName w l) (stepLabels w st l)
 
-  pub line-held : lineAnswer w st l n ≡ asked 17 (valid w st) (asked 8 (ltb l (locsIn w)) (step (defsOf w) (locName w l) (netOf w st) >>= λ s. room (s .comps) >>= λ cs. accepted Line))
+  pub line-held : lineAnswer w st l n ≡ asked 17 (valid w st) (asked 8 (ltb l (locsIn w)) (step (contextOf w) (locName w l) (netOf w st) >>= λ s. room (s .comps) >>= λ cs. accepted Line))
   unfolding lineAnswer
   line-held = go (valid w st) refl
     where
       go : (b : Bool) → valid w st ≡ b
-          → asked 17 b (asked 8 (ltb l (locsIn w)) (step (defsOf w) (locName w l) (netOf w st) >>= λ s. room (s .comps) >>= λ cs. holding Line n))
-          ≡ asked 17 b (asked 8 (ltb l (locsIn w)) (step (defsOf w) (locName w l) (netOf w st) >>= λ s. room (s .comps) >>= λ cs. accepted Line))
+          → asked 17 b (asked 8 (ltb l (locsIn w)) (step (contextOf w) (locName w l) (netOf w st) >>= λ s. room (s .comps) >>= λ cs. holding Line n))
+          ≡ asked 17 b (asked 8 (ltb l (locsIn w)) (step (contextOf w) (locName w l) (netOf w st) >>= λ s. room (s .comps) >>= λ cs. accepted Line))
       go true v = rw (held Line 13_329 n (line-short w st v l) h)
       go false v = refl

@@ -16,7 +16,7 @@ use Rattle.terms.specs.Step.{fires}
 use Rattle.terms.proofs.Steps.{step-accepted}
 use Rattle.table.specs.declared.State.{State}
 use Rattle.table.specs.Words.{locsIn, locName}
-use Rattle.table.specs.Meaning.{defsOf, netOf}
+use Rattle.table.specs.Meaning.{contextOf, netOf}
 use Rattle.table.specs.Valid.{valid}
 use Rattle.calls_act.specs.Acted.{asked}
 use Rattle.calls_tick.specs.Ticked.{room}
@@ -28,7 +28,7 @@ use Rattle.host.specs.Shown.{holding, lineAnswer}
 
 module _ (w : List ℕ) (st : State) (l n : ℕ) (r : Stepped) (ds : List ℕ) (before after : List (List ℕ)) where
   abbrev xs : List Action
-  xs = fires (defsOf w) (locName w l) (netOf w st) .actions
+  xs = fires (contextOf w) (locName w l) (netOf w st) .actions
 
   abbrev Line : List ℕ
   Line = lineText (locName w l) (stepLabels w st l)
@@ -48,11 +48,11 @@ module _ (w : List ℕ) (st : State) (l n : ℕ) (r : Stepped) (ds : List ℕ) (
   by-step : stepsAs w st (stepAnswer w st l 256) r ds before after → lineAnswer w st l n ≡ Told
   unfolding stepAnswer stepRule lineAnswer room
   by-step s =
-      let cs = flatMap (pass (λ m. sameName m (locName w l)) (locName w l)) (fires (defsOf w) (locName w l) (netOf w st) .comps) in
-      rw (step-accepted (defsOf w) (locName w l) (netOf w st)) (by-questions (valid w st) (ltb l (locsIn w)) (leb (length xs) 256) (leb (length cs) 256) cs room-for (rw (step-accepted (defsOf w) (locName w l) (netOf w st)) at s))
+      let cs = flatMap (pass (λ m. sameName m (locName w l)) (locName w l)) (fires (contextOf w) (locName w l) (netOf w st) .comps) in
+      rw (step-accepted (contextOf w) (locName w l) (netOf w st)) (by-questions (valid w st) (ltb l (locsIn w)) (leb (length xs) 256) (leb (length cs) 256) cs room-for (rw (step-accepted (contextOf w) (locName w l) (netOf w st)) at s))
     where
       room-for : valid w st ≡ true → leb (length xs) 256 ≡ true
-      room-for v = le-leb (length xs) 256 (omega (arith, fires-few (defsOf w) (locName w l) (netOf w st), few w st v))
+      room-for v = le-leb (length xs) 256 (omega (arith, fires-few (contextOf w) (locName w l) (netOf w st), few w st v))
 
   -- question 17 is asked before the step
   pub asked-first : valid w st ≡ true → stepsAs w st (stepRule w st l 256) r ds before after → stepsAs w st (stepAnswer w st l 256) r ds before after

@@ -10,7 +10,7 @@ use Rattle.terms.specs.Rules.Answer.{refused, accepted}
 use Rattle.terms.specs.Step.{step}
 use Rattle.table.specs.declared.State.{State}
 use Rattle.table.specs.Words.{locsIn, locName}
-use Rattle.table.specs.Meaning.{defsOf, netOf}
+use Rattle.table.specs.Meaning.{contextOf, netOf}
 use Rattle.table.specs.Valid.{valid}
 use Rattle.calls_act.specs.Acted.{asked, actionAnswer}
 use Rattle.calls_tick.specs.Ticked.{room}
@@ -43,7 +43,7 @@ unfoldable pub lineAnswer : List ℕ → State → ℕ → ℕ → Answer (List 
 lineAnswer w st l n =
     asked 17 (valid w st)
     (asked 8 (ltb l (locsIn w))
-    (step (defsOf w) (locName w l) (netOf w st) >>= λ s. room (s .comps) >>= λ cs.
+    (step (contextOf w) (locName w l) (netOf w st) >>= λ s. room (s .comps) >>= λ cs.
     holding (lineText (locName w l) (stepLabels w st l)) n))
 
 -- ── a text s that is never refused, in lent bytes that held d: the length r of all of it, and as much of it as they hold ──

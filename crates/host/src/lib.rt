@@ -1,15 +1,12 @@
 // The library, in letters: what a host asks of a network to show it. No call here changes a network.
 //
 //   specs/Shown      what each call answers
-//   specs/Label      the label of an action, as the code gives it back
 //   proofs/Given     a text that was written beside the lent bytes and is handed over
-//   proofs/Labelled  the label of an action, from its components alone
+//   proofs/Labelled  the label of an action, and its text
 //   proofs/Lined     the line of a step, from the step on a copy
 //   proofs/Records   the labels of a step's records are those of the step
 //   proofs/Shows     a text that is never refused, in bytes of any number
 //   proofs/Enough    how many bytes hold every name, label and line
-//   label            the label of an action
-mod label;
 
 ghost use mathlib.Core.Path.{_≡_};
 ghost use Prim.Native.Nat.{_≤_};
@@ -21,16 +18,17 @@ ghost use Rattle.text_write.specs.Answer.{Answers};
 ghost use Rattle.run_line.specs.Line.{labelText};
 ghost use Rattle.host.specs.Shown.{holding, locationsAnswer, counted, nameAnswer, labelAnswer, lineAnswer};
 use calls_act::Label;
+use calls_act::naming::label_at;
 use calls_step::step::step_valid;
 use run_line::put_label;
 use run_line::put_line;
 use table::LOCATIONS;
+use table::NAME_SIZE;
 use table::Script;
-use table::State;
 use table::Words;
-use table::valid::is_valid;
 use table::words::wide;
 use table::words::word;
+use table_valid::is_valid;
 use text_write::Written;
 use text_write::put::put_all;
 use text_write::put::put_name;
@@ -40,12 +38,6 @@ use text_write::put::put_name;
 pub struct Counted {
     pub code: u32,
     pub count: u32,
-}
-
-// The code of a refused action, or 0 and its label in numbers.
-pub struct Named {
-    pub code: u32,
-    pub label: Label,
 }
 
 // How many locations a network has: question 17.
@@ -92,7 +84,7 @@ pub fn location_name(w: &Script, c: &Words, n: usize, l: u32, buf: &mut [u8]) ->
     if word(w, 1) <= l {
         return Written { code: 8, len: 0 };
     }
-    give_name(w, LOCATIONS + wide(l) * 4, buf)
+    give_name(w, LOCATIONS + wide(l) * NAME_SIZE, buf)
 }
 
 // The text of a label, or 15. It has at most 51 bytes.
@@ -120,7 +112,7 @@ pub fn action_label(
     if !is_valid(w, c, n) {
         return Written { code: 17, len: 0 };
     }
-    let r = label::label_at(w, c, n, kind, p, q);
+    let r = label_at(w, c, n, kind, p, q);
     if r.code != 0 {
         return Written {
             code: r.code,
@@ -139,10 +131,9 @@ pub fn step_line(w: &Script, c: &Words, n: usize, l: u32, buf: &mut [u8]) -> Wri
     if !is_valid(w, c, n) {
         return Written { code: 17, len: 0 };
     }
-    let st = State { c: *c, n: n };
-    let mut next = st;
+    let mut next = *c;
     let mut records = [[0; 3]; 256];
-    let s = step_valid(w, &mut next.c, n, l, &mut records);
+    let s = step_valid(w, &mut next, n, l, &mut records);
     if s.code != 0 {
         return Written {
             code: s.code,
@@ -150,6 +141,6 @@ pub fn step_line(w: &Script, c: &Words, n: usize, l: u32, buf: &mut [u8]) -> Wri
         };
     }
     let mut text = [0; 13329];
-    let k = put_line(w, st, l, &records, s.count, &mut text, 0);
+    let k = put_line(w, c, n, l, &records, s.count, &mut text, 0);
     give(&text, k, buf)
 }

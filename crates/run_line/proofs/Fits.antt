@@ -10,18 +10,18 @@ use lib.ListN.{length, take, length-map, length-append}
 use lib.Seq.{take-at}
 use borrow.Author.Tests.{leb-true}
 use Rattle.terms.specs.Names.{Name, bytes}
-use Rattle.terms.specs.Terms.{Component, Def}
+use Rattle.terms.specs.Terms.{Component, Context}
 use Rattle.terms.specs.Terms.Label.{called, moved, sent}
 use Rattle.terms.specs.Rules.{Answer, Action, Acted, at, act}
 use Rattle.terms.specs.Rules.Answer.{refused, accepted}
 use Rattle.terms.specs.Step.{idle, tookPlace, taken, followed, visit, sweep, fires, choice}
 use Rattle.table.specs.declared.State.{State}
-use Rattle.table.specs.Words.{rowSize, chansAt, locsAt, nameAt, locName, chanName, defName, word}
-use Rattle.table.specs.Meaning.{defsOf, means, compsOf, netOf}
+use Rattle.table.specs.Words.{rowSize, chansAt, locsAt, nameAt, locName, chanName, defName, word, idsAt, nameSize}
+use Rattle.table.specs.Meaning.{contextOf, means, compsOf, netOf}
 use Rattle.table.proofs.InUse.{comps-length}
 use Rattle.table.specs.Valid.{valid}
 use Rattle.table.specs.Fire.{Tag, ActedAt, labelOf, actOn}
-use Rattle.table.proofs.NamesForm.{short-enough}
+use Rattle.table.proofs.Names.{short-enough}
 use Rattle.table.proofs.Fires.{mapA, actedOf, act-means}
 use Rattle.calls_act.proofs.Positions.{valid-parts}
 use Rattle.text_write.specs.Put.{Wrote}
@@ -41,12 +41,12 @@ unfolding labelText labelOf locName chanName defName
 label-short w t = go (eqb (t .kind) 1) (eqb (t .kind) 2)
   where
     go : (x y : Bool) → length (labelText (cond x (called (defName w (t .a)) (locName w (t .spot))) (cond y (moved (locName w (t .a)) (locName w (t .spot))) (sent (chanName w (t .a)) (locName w (t .b)) (locName w (t .spot)))))) ≤ 51
-    go true y = simp length-append (omega (arith, name-short w (10 + t .a * rowSize), name-short w (locsAt + t .spot * 4)))
-    go false true = simp length-append (omega (arith, name-short w (locsAt + t .a * 4), name-short w (locsAt + t .spot * 4)))
-    go false false = simp length-append (omega (arith, name-short w (chansAt + t .a * 4), name-short w (locsAt + t .b * 4), name-short w (locsAt + t .spot * 4)))
+    go true y = simp length-append (omega (arith, name-short w (idsAt + t .a * rowSize), name-short w (locsAt + t .spot * nameSize)))
+    go false true = simp length-append (omega (arith, name-short w (locsAt + t .a * nameSize), name-short w (locsAt + t .spot * nameSize)))
+    go false false = simp length-append (omega (arith, name-short w (chansAt + t .a * nameSize), name-short w (locsAt + t .b * nameSize), name-short w (locsAt + t .spot * nameSize)))
 
 -- ── the actions of a step: at most one at a position ──
-taken-few : (d : List Def) (x : Answer Action) (net : List Component) → length (taken d x net .actions) ≤ 1
+taken-few : (d : Context) (x : Answer Action) (net : List Component) → length (taken d x net .actions) ≤ 1
 unfolding taken tookPlace idle
 taken-few d (refused n) net = omega arith
 taken-few d (accepted a) net = go (act d a net)
@@ -55,24 +55,24 @@ taken-few d (accepted a) net = go (act d a net)
     go (refused n) = omega arith
     go (accepted r) = omega arith
 
-visit-few : (d : List Def) (l : Name) (p : ℕ) (x : Answer Component) (net : List Component) → length (visit d l p x net .actions) ≤ 1
+visit-few : (d : Context) (l : Name) (p : ℕ) (x : Answer Component) (net : List Component) → length (visit d l p x net .actions) ≤ 1
 unfolding visit idle
 visit-few d l p (refused n) net = omega arith
 visit-few d l p (accepted c) net = taken-few d (choice d l p c net) net
 
-sweep-few : (d : List Def) (l : Name) (p n : ℕ) (net : List Component) → length (sweep d l p n net .actions) ≤ n
+sweep-few : (d : Context) (l : Name) (p n : ℕ) (net : List Component) → length (sweep d l p n net .actions) ≤ n
 unfolding sweep followed idle
 sweep-few d l p zero net = omega arith
 sweep-few d l p (suc n) net = simp length-append (omega (arith, visit-few d l p (at net p) net, sweep-few d l (suc p) n (visit d l p (at net p) net .comps)))
 
 -- document 01, *Step at l*: their number is never above that of the components
-pub fires-few : (d : List Def) (l : Name) (net : List Component) → length (fires d l net .actions) ≤ length net
+pub fires-few : (d : Context) (l : Name) (net : List Component) → length (fires d l net .actions) ≤ length net
 unfolding fires
 fires-few d l net = sweep-few d l 0 (length net) net
 
 -- ── the line ──
 module _ (w : List ℕ) (st : State) (v : valid w st ≡ true) where
-  one-short : (a : Action) → length (spaced (labelBy (act (defsOf w) a (netOf w st)))) ≤ 52
+  one-short : (a : Action) → length (spaced (labelBy (act (contextOf w) a (netOf w st)))) ≤ 52
   unfolding netOf spaced actedOf
   one-short a = subst (λ x. length (spaced (labelBy x)) ≤ 52) (act-means w (valid-parts w st v .0) (compsOf st) (valid-parts w st v .1 .each) a) (go (actOn w a (compsOf st)))
     where
@@ -80,7 +80,7 @@ module _ (w : List ℕ) (st : State) (v : valid w st ≡ true) where
       go (refused n) = omega arith
       go (accepted r) = simp length-append (omega (arith, label-short w (r .tag)))
 
-  all-short : (xs : List Action) → length (spaced (flatMap (λ a. labelBy (act (defsOf w) a (netOf w st))) xs)) ≤ 52 * length xs
+  all-short : (xs : List Action) → length (spaced (flatMap (λ a. labelBy (act (contextOf w) a (netOf w st))) xs)) ≤ 52 * length xs
   unfolding flatMap
   all-short [] = unfold spaced in omega arith
   all-short (a ∷ xs) = rw spaced-append (simp length-append (omega (arith, one-short a, all-short xs)))
@@ -92,14 +92,6 @@ module _ (w : List ℕ) (st : State) (v : valid w st ≡ true) where
   pub line-short : (l : ℕ) → length (lineText (locName w l) (stepLabels w st l)) ≤ 13_329
   unfolding lineText locName
   line-short l =
-      let xs = fires (defsOf w) (locName w l) (netOf w st) .actions in
-      let s : length (spaced (stepLabels w st l)) ≤ 52 * length xs = rw (step-before (defsOf w) (locName w l) (netOf w st) .labels) (all-short xs) in
-      simp length-append (omega (arith, s, name-short w (locsAt + l * 4), fires-few (defsOf w) (locName w l) (netOf w st), few))
-
-  -- a line put at the start of such a buffer is its first r bytes
-  pub line-stands : (l : ℕ) (d e : List ℕ) (r : ℕ) → Wrote d 0 (lineText (locName w l) (stepLabels w st l)) e r → 13_329 ≤ length d → length d ≤ 9_223_372_036_854_775_808
-      → (r ≤ length d) × (take r e ≡ lineText (locName w l) (stepLabels w st l))
-  line-stands l d e r x h k =
-      let s = lineText (locName w l) (stepLabels w st l) in
-      let n : r ≡ length s = x .place ∙ after-room 0 s (omega (arith, line-short l)) ∙ omega arith in
-      (omega (arith, n, line-short l), ap (take r) (x .bytes ∙ over-whole d s (omega (arith, line-short l)) k) ∙ take-at s _ r (sym n))
+      let xs = fires (contextOf w) (locName w l) (netOf w st) .actions in
+      let s : length (spaced (stepLabels w st l)) ≤ 52 * length xs = rw (step-before (contextOf w) (locName w l) (netOf w st) .labels) (all-short xs) in
+      simp length-append (omega (arith, s, name-short w (locsAt + l * nameSize), fires-few (contextOf w) (locName w l) (netOf w st), few))

@@ -7,7 +7,7 @@ use mathlib.Core.Bool.{true, false, false≢true}
 use mathlib.Core.Logic.{_⊎_, inl, inr}
 use mathlib.Core.Path.{_≡_, refl, ap, sym, subst, _∙_}
 use Rattle.terms.specs.Names.{Name, sameName}
-use Rattle.terms.specs.Terms.{Part, Component, Def, Label, firesAt}
+use Rattle.terms.specs.Terms.{Part, Component, Context, Label, firesAt}
 use Rattle.terms.specs.Terms.Process.{one}
 use Rattle.terms.specs.Terms.Mark.{none}
 use Rattle.terms.specs.Terms.Component.{comp}
@@ -27,7 +27,7 @@ use Rattle.run_line.specs.Records.{labelBy}
 abbrev Stood : List Component → List Component → Type 0
 Stood net0 net = (p : ℕ) (l : Name) (a : Part) → at net p ≡ accepted (comp l none (one a)) → at net0 p ≡ accepted (comp l none (one a))
 
-act-stood : (d : List Def) (a : Action) (net : List Component) (r : Acted) → act d a net ≡ accepted r → Stood net (r .comps)
+act-stood : (d : Context) (a : Action) (net : List Component) (r : Acted) → act d a net ≡ accepted r → Stood net (r .comps)
 act-stood d a net r e p l b h = go (act-fewer d a net r e p (comp l none (one b)) h)
   where
     go : (at net p ≡ accepted (comp l none (one b))) ⊎ ((k : Name) → ready k (comp l none (one b)) ≡ false) → at net p ≡ accepted (comp l none (one b))
@@ -55,7 +55,7 @@ firing-before (pair p q) net0 net f (two-shape {l = l} {a = a} {b = b} n) e =
     rw (f p l a (cc (r .1, t .2)), f q l b (cc (t .1, t .2)))
 
 -- an accepted action is accepted in the network before, with its label
-act-before : (d : List Def) (a : Action) (net0 net : List Component) (r : Acted) → Stood net0 net → act d a net ≡ accepted r → (s : Acted) × (act d a net0 ≡ accepted s) × (s .label ≡ r .label)
+act-before : (d : Context) (a : Action) (net0 net : List Component) (r : Acted) → Stood net0 net → act d a net ≡ accepted r → (s : Acted) × (act d a net0 ≡ accepted s) × (s .label ≡ r .label)
 unfolding act
 act-before d a net0 net r f e =
     let u = bind-inv (firingAt a net) _ r e in
@@ -64,18 +64,18 @@ act-before d a net0 net r f e =
     (_, act-ok d a net0 (u .0) (t .0) b (t .1), ap (λ z. z .label) (took (t .2)))
 
 -- an action that fires at l is one that is accepted
-at-inv : (d : List Def) (l : Name) (a : Action) (net : List Component) (r : Acted) → actAt d l a net ≡ accepted r → act d a net ≡ accepted r
+at-inv : (d : Context) (l : Name) (a : Action) (net : List Component) (r : Acted) → actAt d l a net ≡ accepted r → act d a net ≡ accepted r
 unfolding actAt
 at-inv d l a net r e =
     let v = bind-inv (act d a net) _ r e in
     v .1 ∙ ap accepted (cond-inv (sameName (firesAt (v .0 .label)) l) (v .0) r 16 (v .2) .1)
 
 -- ── a list of actions, each on what those before it left ──
-pub record Before (d : List Def) (net0 : List Component) (xs : List Action) (ls : List Label) : Type 0 where
+pub record Before (d : Context) (net0 : List Component) (xs : List Action) (ls : List Label) : Type 0 where
   pub labels : ls ≡ flatMap (λ a. labelBy (act d a net0)) xs
   pub fire : every (λ a. ok (act d a net0)) xs ≡ true
 
-all-before : (d : List Def) (l : Name) (xs : List Action) (net0 net : List Component) (s : Done) → Stood net0 net → actAll d l xs net ≡ accepted s → Before d net0 xs (s .labels)
+all-before : (d : Context) (l : Name) (xs : List Action) (net0 net : List Component) (s : Done) → Stood net0 net → actAll d l xs net ≡ accepted s → Before d net0 xs (s .labels)
 unfolding actAll flatMap every
 all-before d l [] net0 net s f e = record { labels = ap (λ z. z .labels) (sym (took e)); fire = refl }
 all-before d l (a ∷ xs) net0 net s f e =
@@ -90,7 +90,7 @@ all-before d l (a ∷ xs) net0 net s f e =
     }
 
 -- the actions of the step at l
-pub step-before : (d : List Def) (l : Name) (net : List Component) → Before d net (fires d l net .actions) (fires d l net .labels)
+pub step-before : (d : Context) (l : Name) (net : List Component) → Before d net (fires d l net .actions) (fires d l net .labels)
 unfolding wholeStep
 step-before d l net =
     let w = step-whole d l net _ (step-accepted d l net) in

@@ -4,9 +4,9 @@ use Prim.Native.Nat.{ℕ, suc, _+_, _*_, _≤_, _<_}
 use native.Mathlib.Omega.{arith}
 use native.Mathlib.Numerals.{add-one}
 use mathlib.Core.List.{List, [], _∷_, _++_, map, append-assoc, append-nil, flatMap}
-use mathlib.Core.Bool.{Bool, true, false, false≢true}
-use mathlib.Core.Path.{_≡_, refl, ap, sym, subst, _∙_}
-use lib.Dec.{leb, ltb}
+use mathlib.Core.Bool.{Bool, true, false, cond, false≢true}
+use mathlib.Core.Path.{_≡_, refl, ap, sym, _∙_}
+use lib.Dec.{eqb, leb, ltb}
 use lib.ListN.{length, getD, take, drop, length-map, length-append, length-take, drop-of-length-le}
 use lib.Seq.{drop-cons, getD-take, take-at}
 use borrow.Author.Tests.{eq-eqb, ne-eqb}
@@ -18,19 +18,18 @@ use Rattle.terms.specs.Rules.Answer.{refused, accepted}
 use Rattle.terms.specs.Rules.Kind.{calls, moves}
 use Rattle.terms.specs.Rules.Action.{single, pair}
 use Rattle.terms.specs.Step.{fires}
+use Rattle.terms.proofs.Answers.{clash, took}
 use Rattle.terms.proofs.Steps.{step-accepted}
 use Rattle.table.specs.declared.State.{State}
-use Rattle.table.specs.Words.{rowSize, locsAt, locsIn, nameAt, locName, chanName, defName}
-use Rattle.table.specs.Meaning.{defsOf, compsOf, netOf}
+use Rattle.table.specs.Words.{rowSize, locsAt, locsIn, nameAt, locName, chanName, defName, idsAt, nameSize}
+use Rattle.table.specs.Meaning.{contextOf, netOf}
 use Rattle.table.specs.Valid.{valid}
-use Rattle.table.specs.Fire.{ActedAt, labelOf, tagIn, actOn}
+use Rattle.table.specs.Fire.{labelOf}
 use Rattle.table.proofs.Tests.{every-getD}
-use Rattle.table.proofs.Fires.{mapA, actedOf, act-means}
-use Rattle.table.proofs.Tags.{actedTag, act-tagged}
-use Rattle.calls_act.proofs.Positions.{valid-parts}
 use Rattle.calls_act.specs.declared.Acted.{Acted}
 use Rattle.calls_act.specs.Fired.{tagOf}
-use Rattle.calls_act.specs.Acted.{asked, actionOf, actionRule, actsAs}
+use Rattle.calls_act.specs.Acted.{asked, actionOf, actionRule}
+use Rattle.calls_act.specs.Labelled.{named, labelled}
 use Rattle.calls_tick.specs.Ticked.{room}
 use Rattle.calls_step.specs.Sweep.{recOf}
 use Rattle.calls_step.specs.declared.Stepped.{Stepped}
@@ -42,11 +41,11 @@ use Rattle.calls_act.specs.declared.Label.{Label as Numbers}
 
 -- ── the label of one record ──
 -- a label in numbers, by its kind; o is the number of the definition called or of the location moved to
-pub label-call : (w : List ℕ) (x : Numbers) (o : ℕ) → x .kind ≡ 1 → o ≡ x .a → nameAt w (10 + o * rowSize) ++ (bytes "@" ++ locName w (x .«at»)) ≡ labelText (labelOf w (tagOf x))
+pub label-call : (w : List ℕ) (x : Numbers) (o : ℕ) → x .kind ≡ 1 → o ≡ x .a → nameAt w (idsAt + o * rowSize) ++ (bytes "@" ++ locName w (x .«at»)) ≡ labelText (labelOf w (tagOf x))
 unfolding labelText labelOf defName
 label-call w x o k e = rw (eq-eqb (x .kind) 1 k, e)
 
-pub label-move : (w : List ℕ) (x : Numbers) (o : ℕ) → (x .kind ≡ 1 → ⊥) → x .kind ≡ 2 → o ≡ x .a → nameAt w (locsAt + o * 4) ++ (bytes "@" ++ locName w (x .«at»)) ≡ labelText (labelOf w (tagOf x))
+pub label-move : (w : List ℕ) (x : Numbers) (o : ℕ) → (x .kind ≡ 1 → ⊥) → x .kind ≡ 2 → o ≡ x .a → nameAt w (locsAt + o * nameSize) ++ (bytes "@" ++ locName w (x .«at»)) ≡ labelText (labelOf w (tagOf x))
 unfolding labelText labelOf locName
 label-move w x o n k e = rw (ne-eqb (x .kind) 1 n, eq-eqb (x .kind) 2 k, e)
 
@@ -55,35 +54,15 @@ pub label-sent : (w : List ℕ) (x : Numbers) → (x .kind ≡ 1 → ⊥) → (x
 unfolding labelText labelOf
 label-sent w x m n = rw (ne-eqb (x .kind) 1 m, ne-eqb (x .kind) 2 n)
 
--- the numbers of an accepted action's label stand for the label
-abbrev spoken : List ℕ → Answer ActedBy → Type 0
-spoken w (refused n) = Unit {0}
-spoken w (accepted a) = labelOf w (tagIn w (a .label)) ≡ a .label
-
-module _ (w : List ℕ) (st : State) (v : valid w st ≡ true) where
-  act-spoken : (a : Action) → spoken w (act (defsOf w) a (netOf w st))
-  unfolding netOf actedOf
-  act-spoken a =
-      let p = valid-parts w st v in
-      subst (spoken w) (act-means w (p .0) (compsOf st) (p .1 .each) a) (go (actOn w a (compsOf st)) (act-tagged w (p .0) (compsOf st) (p .1 .each) a))
-    where
-      go : (x : Answer ActedAt) → actedTag w x → spoken w (mapA (actedOf w) x)
-      go (refused n) t = tt
-      go (accepted b) t = ap (labelOf w) (t .number)
-
-  pub rule-spoken : (k p q : ℕ) → spoken w (actionRule w st k p q)
-  unfolding actionRule
-  rule-spoken k p q = go (actionOf k p q)
-    where
-      go : (x : Answer Action) → spoken w (x >>= λ a. act (defsOf w) a (netOf w st))
-      go (refused n) = tt
-      go (accepted a) = act-spoken a
-
--- an accepted action has the label that the code gives back
-pub action-text : (w : List ℕ) (st : State) (x : Answer ActedBy) (r : Acted) → actsAs w st x r → ok x ≡ true → spoken w x → bytes " " ++ labelText (labelOf w (tagOf (r .label))) ≡ spaced (labelBy x)
-unfolding spaced
-action-text w st (refused n) r a e s = absurd (false≢true e)
-action-text w st (accepted a) r t e s = ap (λ z. 32 ∷ z) (sym (append-nil (labelText (labelOf w (tagOf (r .label))))) ∙ ap (λ z. labelText z ++ []) (ap (labelOf w) (t .label) ∙ s))
+-- an action that is accepted has the label that the code gives back
+pub action-text : (w : List ℕ) (x : Answer ActedBy) (r : Acted) → named w r ≡ labelled x → ok x ≡ true → bytes " " ++ labelText (labelOf w (tagOf (r .label))) ≡ spaced (labelBy x)
+unfolding spaced named
+action-text w (refused n) r e o = absurd (false≢true o)
+action-text w (accepted a) r e o = ap (λ z. 32 ∷ z) (sym (append-nil (labelText (labelOf w (tagOf (r .label))))) ∙ ap (λ z. labelText z ++ []) (go (eqb (r .code) 0) e))
+  where
+    go : (b : Bool) → cond b (accepted (labelOf w (tagOf (r .label)))) (refused (r .code)) ≡ accepted (a .label) → labelOf w (tagOf (r .label)) ≡ a .label
+    go true e = took e
+    go false e = clash e
 
 -- ── one record after the other ──
 pub spaced-append : (xs ys : List Label) → spaced (xs ++ ys) ≡ spaced xs ++ spaced ys
@@ -117,25 +96,25 @@ module _ (w : List ℕ) (st : State) (records : List (List ℕ)) (n : ℕ) where
 
 -- ── the records of a step ──
 -- the rules answer a record as they answer its action
-answered : (w : List ℕ) (st : State) (a : Action) → answerBy w st (recOf a) ≡ act (defsOf w) a (netOf w st)
+answered : (w : List ℕ) (st : State) (a : Action) → answerBy w st (recOf a) ≡ act (contextOf w) a (netOf w st)
 unfolding actionRule actionOf
 answered w st (single calls p) = refl
 answered w st (single moves p) = refl
 answered w st (pair p q) = refl
 
-labels-of : (w : List ℕ) (st : State) (xs : List Action) → flatMap (labelIn w st) (map recOf xs) ≡ flatMap (λ a. labelBy (act (defsOf w) a (netOf w st))) xs
+labels-of : (w : List ℕ) (st : State) (xs : List Action) → flatMap (labelIn w st) (map recOf xs) ≡ flatMap (λ a. labelBy (act (contextOf w) a (netOf w st))) xs
 unfolding flatMap
 labels-of w st [] = refl
 labels-of w st (a ∷ xs) = rw (answered w st a, labels-of w st xs)
 
-fires-of : (w : List ℕ) (st : State) (xs : List Action) → every (mayFire w st) (map recOf xs) ≡ every (λ a. ok (act (defsOf w) a (netOf w st))) xs
+fires-of : (w : List ℕ) (st : State) (xs : List Action) → every (mayFire w st) (map recOf xs) ≡ every (λ a. ok (act (contextOf w) a (netOf w st))) xs
 unfolding every
 fires-of w st [] = refl
 fires-of w st (a ∷ xs) = rw (answered w st a, fires-of w st xs)
 
 module _ (w : List ℕ) (st : State) (l : ℕ) (records : List (List ℕ)) (n : ℕ) (h : Holds w st l records n) where
-  before : Before (defsOf w) (netOf w st) (fires (defsOf w) (locName w l) (netOf w st) .actions) (stepLabels w st l)
-  before = step-before (defsOf w) (locName w l) (netOf w st)
+  before : Before (contextOf w) (netOf w st) (fires (contextOf w) (locName w l) (netOf w st) .actions) (stepLabels w st l)
+  before = step-before (contextOf w) (locName w l) (netOf w st)
 
   pub held-labels : flatMap (labelIn w st) (take n records) ≡ stepLabels w st l
   held-labels = ap (flatMap (labelIn w st)) (h .actions) ∙ labels-of w st _ ∙ sym (before .labels)
@@ -147,9 +126,9 @@ module _ (w : List ℕ) (st : State) (l : ℕ) (records : List (List ℕ)) (n : 
 -- the first records that an accepted step gave back are those of its actions
 module _ (w : List ℕ) (st : State) (l size : ℕ) (r : Stepped) (ds : List ℕ) (before after : List (List ℕ)) where
   abbrev xs : List Action
-  xs = fires (defsOf w) (locName w l) (netOf w st) .actions
+  xs = fires (contextOf w) (locName w l) (netOf w st) .actions
 
-  took-holds : (cs : List Component) → valid w st ≡ true → Took w st (stepOf (fires (defsOf w) (locName w l) (netOf w st) .actions) cs) r ds before after → Holds w st l after (r .count)
+  took-holds : (cs : List Component) → valid w st ≡ true → Took w st (stepOf (fires (contextOf w) (locName w l) (netOf w st) .actions) cs) r ds before after → Holds w st l after (r .count)
   took-holds cs v t =
       let n : length (map recOf xs) ≡ r .count = length-map xs recOf ∙ sym (t .count) in
       record {
@@ -160,7 +139,7 @@ module _ (w : List ℕ) (st : State) (l size : ℕ) (r : Stepped) (ds : List ℕ
 
   -- a refusal has its number, which is not 0
   by-questions : (v a b c : Bool) (cs : List Component) → valid w st ≡ v
-      → stepsAs w st (asked 17 v (asked 8 a (asked 15 b (asked 13 c (accepted cs) >>= λ cs. accepted (stepOf (fires (defsOf w) (locName w l) (netOf w st) .actions) cs))))) r ds before after
+      → stepsAs w st (asked 17 v (asked 8 a (asked 15 b (asked 13 c (accepted cs) >>= λ cs. accepted (stepOf (fires (contextOf w) (locName w l) (netOf w st) .actions) cs))))) r ds before after
       → r .code ≡ 0 → Holds w st l after (r .count)
   by-questions true true true true cs v t z = took-holds cs v t
   by-questions false a b c cs v t z = absurd (omega (arith, z, ap (λ r. r .code) (t .0)))
@@ -171,5 +150,5 @@ module _ (w : List ℕ) (st : State) (l size : ℕ) (r : Stepped) (ds : List ℕ
   pub step-holds : stepsAs w st (stepAnswer w st l size) r ds before after → r .code ≡ 0 → Holds w st l after (r .count)
   unfolding stepAnswer stepRule room
   step-holds s z =
-      let cs = flatMap (pass (λ m. sameName m (locName w l)) (locName w l)) (fires (defsOf w) (locName w l) (netOf w st) .comps) in
-      by-questions (valid w st) (ltb l (locsIn w)) (leb (length xs) size) (leb (length cs) 256) cs refl (rw (step-accepted (defsOf w) (locName w l) (netOf w st)) at s) z
+      let cs = flatMap (pass (λ m. sameName m (locName w l)) (locName w l)) (fires (contextOf w) (locName w l) (netOf w st) .comps) in
+      by-questions (valid w st) (ltb l (locsIn w)) (leb (length xs) size) (leb (length cs) 256) cs refl (rw (step-accepted (contextOf w) (locName w l) (netOf w st)) at s) z

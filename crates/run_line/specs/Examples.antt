@@ -3,7 +3,7 @@ use Prim.Native.Nat.{ℕ, zero, suc}
 use mathlib.Core.List.{List, [], _∷_, _++_}
 use mathlib.Core.Path.{_≡_, refl}
 use Rattle.terms.specs.Names.{Name, bytes}
-use Rattle.terms.specs.Terms.{Process, Component, Def}
+use Rattle.terms.specs.Terms.{Process, Component, Context}
 use Rattle.terms.specs.Terms.Timer.{ticks}
 use Rattle.terms.specs.Terms.Value.{loc, var}
 use Rattle.terms.specs.Terms.Part.{stop, go, out, inp, call}
@@ -36,8 +36,8 @@ abbrev halt : Process
 halt = one stop
 
 -- Page(x) = go(0,x,out(c,1,x,stop,stop)) .
-abbrev defs : List Def
-defs = define (bytes "Page") (x ∷ []) (one (go (ticks 0) (var x) (one (out c (ticks 1) (var x) halt halt)))) ∷ []
+abbrev pages : Context
+pages = record { defs = define (bytes "Page") (x ∷ []) (one (go (ticks 0) (var x) (one (out c (ticks 1) (var x) halt halt)))) ∷ [] }
 
 -- A[Page(B)] | B[in(c,2,y,go(0,y,stop),stop)] .
 abbrev net0 : List Component
@@ -47,7 +47,7 @@ net0 = comp A none (one (call (bytes "Page") (loc B ∷ []))) ∷ comp B none (o
 unfoldable rounds : ℕ → List Component → Answer (List ℕ)
 rounds zero net = accepted []
 rounds (suc n) net =
-    step defs A net >>= λ a. step defs B (a .comps) >>= λ b. rounds n (b .comps) >>= λ s.
+    step pages A net >>= λ a. step pages B (a .comps) >>= λ b. rounds n (b .comps) >>= λ s.
     accepted (lineText A (a .labels) ++ (lineText B (b .labels) ++ s))
 
 printed : rounds 4 net0 ≡ accepted (bytes "A Page@A\nB\nA B@A\nB c<B>@B\nA\nB B@B\nA\nB\n")

@@ -7,7 +7,7 @@ use Rattle.terms.specs.Terms.Label.{called, moved, sent}
 use Rattle.terms.specs.Step.{fires}
 use Rattle.table.specs.declared.State.{State}
 use Rattle.table.specs.Words.{locName}
-use Rattle.table.specs.Meaning.{defsOf, netOf}
+use Rattle.table.specs.Meaning.{contextOf, netOf}
 
 -- a label: `id@l`, `v@l`, `c<v>@l`
 unfoldable pub labelText : Label → List ℕ
@@ -26,4 +26,4 @@ lineText l xs = l ++ (spaced xs ++ bytes "\n")
 
 -- the labels of the actions of the step at the location numbered l, each as its action fires
 abbrev pub stepLabels : List ℕ → State → ℕ → List Label
-stepLabels w st l = fires (defsOf w) (locName w l) (netOf w st) .labels
+stepLabels w st l = fires (contextOf w) (locName w l) (netOf w st) .labels

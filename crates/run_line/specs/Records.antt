@@ -12,7 +12,7 @@ use Rattle.terms.specs.Rules.Answer.{refused, accepted}
 use Rattle.terms.specs.Step.{fires}
 use Rattle.table.specs.declared.State.{State}
 use Rattle.table.specs.Words.{locName}
-use Rattle.table.specs.Meaning.{defsOf, netOf}
+use Rattle.table.specs.Meaning.{contextOf, netOf}
 use Rattle.table.specs.Valid.{valid}
 use Rattle.calls_act.specs.Acted.{actionRule}
 use Rattle.calls_step.specs.Sweep.{recOf}
@@ -37,4 +37,4 @@ mayFire w st e = ok (answerBy w st e)
 pub record Holds (w : List ℕ) (st : State) (l : ℕ) (records : List (List ℕ)) (n : ℕ) : Type 0 where
   pub good : valid w st ≡ true
   pub within : n ≤ length records
-  pub actions : take n records ≡ map recOf (fires (defsOf w) (locName w l) (netOf w st) .actions)
+  pub actions : take n records ≡ map recOf (fires (contextOf w) (locName w l) (netOf w st) .actions)

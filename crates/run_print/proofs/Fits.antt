@@ -9,7 +9,7 @@ use lib.Dec.{leb, ltb}
 use lib.ListN.{length, take, length-append}
 use lib.Seq.{take-at}
 use borrow.Author.Tests.{leb-true, leb-false}
-use Rattle.terms.specs.Terms.{Component, Def}
+use Rattle.terms.specs.Terms.{Component, Context}
 use Rattle.terms.specs.Rules.{unmarked, _>>=_}
 use Rattle.terms.specs.Rules.Answer.{accepted}
 use Rattle.terms.specs.Step.{Swept, step}
@@ -19,7 +19,7 @@ use Rattle.text.specs.Tokens.{lastDigit, digitsOf}
 use Rattle.text.specs.Write.{write}
 use Rattle.table.specs.declared.State.{State}
 use Rattle.table.specs.Words.{locName}
-use Rattle.table.specs.Meaning.{defsOf, netOf}
+use Rattle.table.specs.Meaning.{contextOf, netOf}
 use Rattle.table.specs.Valid.{valid}
 use Rattle.calls_act.specs.Acted.{asked}
 use Rattle.calls_tick.specs.Ticked.{room}
@@ -54,28 +54,28 @@ refused-ends n h x = ends 25 x (refused-short n h)
 
 -- ── a step: refused by question 13, or a line ──
 module _ (w : List ℕ) (st : State) (l : ℕ) (good : valid w st ≡ true) where
-  pub turn-ends : (d e : List ℕ) (at : ℕ) (r : Turned) → TurnIs w (turnOf (defsOf w) (locName w l) (netOf w st)) d at e r → r .at ≤ at + 13_329
+  pub turn-ends : (d e : List ℕ) (at : ℕ) (r : Turned) → TurnIs w (turnOf (contextOf w) (locName w l) (netOf w st)) d at e r → r .at ≤ at + 13_329
   unfolding turnOf room
-  turn-ends d e at r t = by-step _ (step-accepted (defsOf w) (locName w l) (netOf w st))
+  turn-ends d e at r t = by-step _ (step-accepted (contextOf w) (locName w l) (netOf w st))
     where
       go : (y : Bool) (cs : List Component) → TurnIs w (asked 13 y (accepted cs) >>= λ ds. accepted (record { line = lineText (locName w l) (stepLabels w st l); comps = ds })) d at e r → r .at ≤ at + 13_329
       go true cs s = ends 13_329 (s .wrote) (line-short w st good l)
       go false cs s = omega (arith, refused-ends 13 (omega arith) (s .wrote))
 
-      by-step : (x : Swept) → step (defsOf w) (locName w l) (netOf w st) ≡ accepted x → r .at ≤ at + 13_329
+      by-step : (x : Swept) → step (contextOf w) (locName w l) (netOf w st) ≡ accepted x → r .at ≤ at + 13_329
       by-step x f = go (leb (length (x .comps)) 256) (x .comps) (rw f at t)
 
 -- ── the network ──
-ending-few : (ds : List Def) (cs : List Component) → length (ending ds cs) ≤ 65_536
+ending-few : (ds : Context) (cs : List Component) → length (ending ds cs) ≤ 65_536
 unfolding ending
-ending-few ds cs = go (every unmarked cs) (leb (length (write (record { defs = ds; comps = cs }))) 65_536) refl
+ending-few ds cs = go (every unmarked cs) (leb (length (write (record { defs = ds .defs; comps = cs }))) 65_536) refl
   where
-    go : (a b : Bool) → leb (length (write (record { defs = ds; comps = cs }))) 65_536 ≡ b → length (cond a (cond b (write (record { defs = ds; comps = cs })) (refusedText 15)) (refusedText 14)) ≤ 65_536
+    go : (a b : Bool) → leb (length (write (record { defs = ds .defs; comps = cs }))) 65_536 ≡ b → length (cond a (cond b (write (record { defs = ds .defs; comps = cs })) (refusedText 15)) (refusedText 14)) ≤ 65_536
     go true true f = leb-true _ _ f
     go true false f = omega (arith, refused-short 15 (omega arith))
     go false b f = omega (arith, refused-short 14 (omega arith))
 
-pub ending-ends : {d e : List ℕ} {at r : ℕ} (ds : List Def) (cs : List Component) → Wrote d at (ending ds cs) e r → r ≤ at + 65_536
+pub ending-ends : {d e : List ℕ} {at r : ℕ} (ds : Context) (cs : List Component) → Wrote d at (ending ds cs) e r → r ≤ at + 65_536
 ending-ends ds cs x = ends 65_536 x (ending-few ds cs)
 
 -- ── the whole, with what `printout` promises of r: the first r bytes of a buffer of that many are the printout ──

@@ -9,13 +9,13 @@ use lib.ListN.{length, take, drop}
 use lib.Seq.{take-at, drop-at}
 use borrow.Author.Tests.{leb-true, leb-false}
 use Rattle.terms.specs.Names.{Name}
-use Rattle.terms.specs.Terms.{Component, Def, Network}
+use Rattle.terms.specs.Terms.{Component, Context, Network, contextIn}
 use Rattle.terms.specs.Rules.{Answer}
 use Rattle.terms.specs.Rules.Answer.{refused, accepted}
 use Rattle.text.specs.Questions.{form, read}
 use Rattle.table.specs.declared.State.{State}
 use Rattle.table.specs.Words.{locsIn, locName}
-use Rattle.table.specs.Meaning.{defsOf, netOf}
+use Rattle.table.specs.Meaning.{contextOf, netOf}
 use Rattle.table.specs.Valid.{valid}
 use Rattle.text_build.specs.Rows.{locsOf}
 use Rattle.text_read.specs.declared.Reading.{Reading}
@@ -32,7 +32,7 @@ use Rattle.run_print.proofs.Playing.{locs-some, all-rounds, remaining-n
 use Rattle.run_print.proofs.Fits.{refused-ends, turn-ends, ending-ends}
 
 -- ── joined, the pieces are the printout ──
-playing-joined : (d : List Def) (ls : List Name) (cs : List Component) → playing d ls cs ≡ flatten (playingPieces d ls cs)
+playing-joined : (d : Context) (ls : List Name) (cs : List Component) → playing d ls cs ≡ flatten (playingPieces d ls cs)
 unfolding playing playingPieces flatten
 playing-joined d [] cs = sym (append-nil (ending d cs))
 playing-joined d (l ∷ ls) cs = go (turnOf d l cs) (λ ds. playing-joined d ls ds)
@@ -47,7 +47,7 @@ joined s = go (read s)
   where
     go : (x : Answer Network) → printed (locationsIn (form s)) x ≡ flatten (piecesOf (locationsIn (form s)) x)
     go (refused n) = sym (append-nil (refusedText n))
-    go (accepted m) = playing-joined (m .defs) (four (locationsIn (form s))) (m .comps)
+    go (accepted m) = playing-joined (contextIn m) (four (locationsIn (form s))) (m .comps)
 
 -- ── a text that fits stands at the front of the buffer, and the bytes past it are as they were ──
 pub fronted : {d s e : List ℕ} {r : ℕ} → Wrote d 0 s e r → r ≤ 65_536 → length d ≡ 65_536 → (take r e ≡ s) × (drop r e ≡ drop r d)
@@ -60,7 +60,7 @@ fronted {d} {s} {e} {r} x h k = go (leb (length s) 9_223_372_036_854_775_808) re
         (ap (take r) b ∙ take-at s _ r (sym n), ap (drop r) b ∙ drop-at s _ r (sym n) ∙ ap (λ m. drop m d) (sym n))
     go false f = absurd (omega (arith, x .place, after-full 0 s (omega (arith, leb-false (length s) 9_223_372_036_854_775_808 f))))
 
-pub front-ending : {d e : List ℕ} {a : ℕ} (ds : List Def) (cs : List Component) → Wrote d 0 (ending ds cs) e a → length d ≡ 65_536 → (a ≤ 65_536) × (take a e ≡ ending ds cs) × (drop a e ≡ drop a d)
+pub front-ending : {d e : List ℕ} {a : ℕ} (ds : Context) (cs : List Component) → Wrote d 0 (ending ds cs) e a → length d ≡ 65_536 → (a ≤ 65_536) × (take a e ≡ ending ds cs) × (drop a e ≡ drop a d)
 front-ending {d} {e} {a} ds cs x k =
     let h : a ≤ 65_536 = omega (arith, ending-ends ds cs x) in
     let f = fronted x h k in
@@ -100,15 +100,15 @@ module _ (w : List ℕ) (c : Progress) (live : c .over ≡ false) (ok : Progress
       go (suc m) n = refl
 
   module _ (z : c .code ≡ 0) where
-    left-now : piecesLeftBy (c .code) w c ≡ playingPieces (defsOf w) (remaining (4 - c .round) (c .l) (locsOf w)) (netOf w (c .state))
+    left-now : piecesLeftBy (c .code) w c ≡ playingPieces (contextOf w) (remaining (4 - c .round) (c .l) (locsOf w)) (netOf w (c .state))
     left-now = ap (λ n. piecesLeftBy n w c) z
 
     -- the network
-    pub piece-ending : {d e : List ℕ} {a : ℕ} (x : Progress) → 4 ≤ c .round → x ≡ over c → a ≤ 65_536 → take a e ≡ ending (defsOf w) (netOf w (c .state)) → drop a e ≡ drop a d → PieceIs w c d e (record { len = a; next = x })
+    pub piece-ending : {d e : List ℕ} {a : ℕ} (x : Progress) → 4 ≤ c .round → x ≡ over c → a ≤ 65_536 → take a e ≡ ending (contextOf w) (netOf w (c .state)) → drop a e ≡ drop a d → PieceIs w c d e (record { len = a; next = x })
     unfolding playingPieces remaining
     piece-ending x m g h t p =
         let n : 4 - c .round ≡ 0 = omega arith in
-        last (ending (defsOf w) (netOf w (c .state))) x (left-now ∙ ap (λ n. playingPieces (defsOf w) (remaining n (c .l) (locsOf w)) (netOf w (c .state))) n) g h t p
+        last (ending (contextOf w) (netOf w (c .state))) x (left-now ∙ ap (λ n. playingPieces (contextOf w) (remaining n (c .l) (locsOf w)) (netOf w (c .state))) n) g h t p
 
     -- a step
     module _ (some : c .round < 4) where
@@ -119,27 +119,27 @@ module _ (w : List ℕ) (c : Progress) (live : c .over ≡ false) (ok : Progress
       rounds-left = omega arith
 
       abbrev On : List Component → List (List ℕ)
-      On = playingPieces (defsOf w) (remaining (4 - c .round) (c .l + 1) (locsOf w))
+      On = playingPieces (contextOf w) (remaining (4 - c .round) (c .l + 1) (locsOf w))
 
-      step-now : piecesLeftBy (c .code) w c ≡ followedPieces (turnOf (defsOf w) (locName w (c .l)) (netOf w (c .state))) On
+      step-now : piecesLeftBy (c .code) w c ≡ followedPieces (turnOf (contextOf w) (locName w (c .l)) (netOf w (c .state))) On
       unfolding playingPieces
       step-now =
           left-now
-          ∙ ap (λ ls. playingPieces (defsOf w) ls (netOf w (c .state))) (ap (λ m. remaining m (c .l) (locsOf w)) rounds-left ∙ remaining-next (3 - c .round) (c .l) (locsOf w) (omega (arith, locs-length w, inl)) ∙ ap (λ x. x ∷ remaining (suc (3 - c .round)) (c .l + 1) (locsOf w)) (loc-at w (c .l) inl) ∙ ap (λ m. locName w (c .l) ∷ remaining m (c .l + 1) (locsOf w)) (sym rounds-left))
+          ∙ ap (λ ls. playingPieces (contextOf w) ls (netOf w (c .state))) (ap (λ m. remaining m (c .l) (locsOf w)) rounds-left ∙ remaining-next (3 - c .round) (c .l) (locsOf w) (omega (arith, locs-length w, inl)) ∙ ap (λ x. x ∷ remaining (suc (3 - c .round)) (c .l + 1) (locsOf w)) (loc-at w (c .l) inl) ∙ ap (λ m. locName w (c .l) ∷ remaining m (c .l + 1) (locsOf w)) (sym rounds-left))
 
-      module _ (d e : List ℕ) (r : Turned) (t : TurnIs w (turnOf (defsOf w) (locName w (c .l)) (netOf w (c .state))) d 0 e r) (k : length d ≡ 65_536) where
+      module _ (d e : List ℕ) (r : Turned) (t : TurnIs w (turnOf (contextOf w) (locName w (c .l)) (netOf w (c .state))) d 0 e r) (k : length d ≡ 65_536) where
         few : r .at ≤ 65_536
         few = omega (arith, turn-ends w (c .state) (c .l) (ok .1 z .0) d e 0 r t)
 
         past : drop (r .at) e ≡ drop (r .at) d
-        past = go (turnOf (defsOf w) (locName w (c .l)) (netOf w (c .state))) t
+        past = go (turnOf (contextOf w) (locName w (c .l)) (netOf w (c .state))) t
           where
             go : (y : Answer Turn) → TurnIs w y d 0 e r → drop (r .at) e ≡ drop (r .at) d
             go (refused m) s = fronted (s .wrote) few k .1
             go (accepted u) s = fronted (s .wrote) few k .1
 
         pub piece-stopped : (x : Progress) → (r .code ≡ 0 → ⊥) → x ≡ over c → PieceIs w c d e (record { len = r .at; next = x })
-        piece-stopped x n g = last (take (r .at) e) x (step-now ∙ go (turnOf (defsOf w) (locName w (c .l)) (netOf w (c .state))) t) g few refl past
+        piece-stopped x n g = last (take (r .at) e) x (step-now ∙ go (turnOf (contextOf w) (locName w (c .l)) (netOf w (c .state))) t) g few refl past
           where
             go : (y : Answer Turn) → TurnIs w y d 0 e r → followedPieces y On ≡ take (r .at) e ∷ []
             go (refused m) s = ap (λ q. q ∷ []) (sym (fronted (s .wrote) few k .0))
@@ -147,7 +147,7 @@ module _ (w : List ℕ) (c : Progress) (live : c .over ≡ false) (ok : Progress
 
         module _ (o : r .code ≡ 0) where
           went : (piecesLeftBy (c .code) w c ≡ take (r .at) e ∷ On (netOf w (r .state))) × (valid w (r .state) ≡ true)
-          went = let g = go (turnOf (defsOf w) (locName w (c .l)) (netOf w (c .state))) t in (step-now ∙ g .0, g .1)
+          went = let g = go (turnOf (contextOf w) (locName w (c .l)) (netOf w (c .state))) t in (step-now ∙ g .0, g .1)
             where
               go : (y : Answer Turn) → TurnIs w y d 0 e r → (followedPieces y On ≡ take (r .at) e ∷ On (netOf w (r .state))) × (valid w (r .state) ≡ true)
               go (refused m) s = absurd (s .code o)
@@ -162,7 +162,7 @@ module _ (w : List ℕ) (c : Progress) (live : c .over ≡ false) (ok : Progress
               let m : 4 - (c .round + 1) ≡ 3 - c .round = omega arith in
               rw g
               (more (before (c .round + 1) 0 (r .state))
-              (went .0 ∙ ap (λ ls. take (r .at) e ∷ playingPieces (defsOf w) ls (netOf w (r .state))) (ap (λ m. remaining m (c .l + 1) (locsOf w)) rounds-left ∙ remaining-over (3 - c .round) (c .l + 1) (locsOf w) (omega (arith, locs-length w)) ∙ ap (λ n. remaining n 0 (locsOf w)) (sym m)))
+              (went .0 ∙ ap (λ ls. take (r .at) e ∷ playingPieces (contextOf w) ls (netOf w (r .state))) (ap (λ m. remaining m (c .l + 1) (locsOf w)) rounds-left ∙ remaining-over (3 - c .round) (c .l + 1) (locsOf w) (omega (arith, locs-length w)) ∙ ap (λ n. remaining n 0 (locsOf w)) (sym m)))
               few
               past
               (omega arith, λ q. (went .1, omega (arith, inl), omega arith)))
@@ -175,7 +175,7 @@ module _ (s u w v : List ℕ) (r : Reading) (x : readsAs s (read s) u w v r) whe
   by-code : (n : ℕ) → r .code ≡ n → ProgressOk v Start × (piecesLeft v Start ≡ pieces s)
   by-code zero z = (
     (omega arith, λ q. (whole-good s u w v r x z, locs-some v (r .state) (whole-good s u w v r x z), omega arith)),
-    ap (λ n. piecesLeftBy n v Start) z ∙ ap (λ ls. playingPieces (defsOf v) ls (netOf v (r .state))) (all-rounds (locsOf v)) ∙ whole-playingPieces s u w v r x z,
+    ap (λ n. piecesLeftBy n v Start) z ∙ ap (λ ls. playingPieces (contextOf v) ls (netOf v (r .state))) (all-rounds (locsOf v)) ∙ whole-playingPieces s u w v r x z,
   )
   by-code (suc n) z =
       let m : r .code ≡ 0 → ⊥ = λ q. absurd (omega arith) in

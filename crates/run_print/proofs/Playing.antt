@@ -10,7 +10,7 @@ use lib.Dec.{leb}
 use lib.ListN.{length, take, drop, getD, drop-of-length-le}
 use lib.Seq.{take-at, drop-at, drop-cons}
 use Rattle.terms.specs.Names.{Name, bytes}
-use Rattle.terms.specs.Terms.{Component, Def, Network}
+use Rattle.terms.specs.Terms.{Component, Context, Network}
 use Rattle.terms.specs.Rules.{Answer, Action, _>>=_}
 use Rattle.terms.specs.Rules.Answer.{refused, accepted}
 use Rattle.terms.specs.Step.{Swept, fires, step}
@@ -22,7 +22,7 @@ use Rattle.text.specs.Grammar.Rest.{ok, bad}
 use Rattle.text.specs.Questions.{ask, _>>_, short, whole, form, shallow, fits, definedOnce, callsMet, bound, read}
 use Rattle.table.specs.declared.State.{State}
 use Rattle.table.specs.Words.{locsIn, locName}
-use Rattle.table.specs.Meaning.{compIn, defsOf, netOf, networkOf as tableNetwork}
+use Rattle.table.specs.Meaning.{compIn, contextOf, netOf, networkOf as tableNetwork}
 use Rattle.table.specs.Valid.{valid}
 use Rattle.table.proofs.Tests.{length-listFrom, getD-listFrom, script-fine, comp-fine}
 use Rattle.text_build.specs.Rows.{locsOf}
@@ -64,8 +64,8 @@ unfolding stepAnswer
 as-answer w st l size r ds before after v s = rw v s
 
 module _ (w : List ℕ) (st : State) (l : ℕ) (good : valid w st ≡ true) (inl : l < locsIn w) where
-  abbrev D : List Def
-  D = defsOf w
+  abbrev D : Context
+  D = contextOf w
 
   abbrev N : Name
   N = locName w l
@@ -119,14 +119,14 @@ module _ (w : List ℕ) (st : State) (good : valid w st ≡ true) {t t′ : List
   unfolding writeAnswer
   by a b e f = rw (good, e, long, f)
 
-  ending-by : (a b : Bool) → noMark w st ≡ a → leb (length Text) 65_536 ≡ b → ending (defsOf w) (netOf w st) ≡ cond a (cond b Text (refusedText 15)) (refusedText 14)
-  unfolding ending noMark textOf tableNetwork
+  ending-by : (a b : Bool) → noMark w st ≡ a → leb (length Text) 65_536 ≡ b → ending (contextOf w) (netOf w st) ≡ cond a (cond b Text (refusedText 15)) (refusedText 14)
+  unfolding ending noMark textOf tableNetwork contextOf
   ending-by a b e f = rw (e, f)
 
-  pub ending-refused : (r .code ≡ 0 → ⊥) → refusedText (r .code) ≡ ending (defsOf w) (netOf w st)
+  pub ending-refused : (r .code ≡ 0 → ⊥) → refusedText (r .code) ≡ ending (contextOf w) (netOf w st)
   ending-refused n = go (noMark w st) (leb (length Text) 65_536) refl refl
     where
-      go : (a b : Bool) → noMark w st ≡ a → leb (length Text) 65_536 ≡ b → refusedText (r .code) ≡ ending (defsOf w) (netOf w st)
+      go : (a b : Bool) → noMark w st ≡ a → leb (length Text) 65_536 ≡ b → refusedText (r .code) ≡ ending (contextOf w) (netOf w st)
       go true true e f = absurd (n (rw (by true true e f) at (x .code)))
       go true false e f = ap refusedText (rw (by true false e f) at (x .code)) ∙ sym (ending-by true false e f)
       go false b e f = ap refusedText (rw (by false b e f) at (x .code)) ∙ sym (ending-by false b e f)
@@ -135,7 +135,7 @@ module _ (w : List ℕ) (st : State) (good : valid w st ≡ true) {t t′ : List
     len : r .len ≡ length Text
     fits : length Text ≤ 65_536
     bytes : t′ ≡ Text ++ drop (length Text) t
-    text : Text ≡ ending (defsOf w) (netOf w st)
+    text : Text ≡ ending (contextOf w) (netOf w st)
 
   written : r .code ≡ 0 → Whole
   written z = go (noMark w st) (leb (length Text) 65_536) refl refl
@@ -159,7 +159,7 @@ module _ (w : List ℕ) (st : State) (good : valid w st ≡ true) {t t′ : List
       go true false e f = rw (by true false e f) at (x .bytes)
       go false b e f = rw (by false b e f) at (x .bytes)
 
-  pub ending-text : r .code ≡ 0 → take (r .len) t′ ≡ ending (defsOf w) (netOf w st)
+  pub ending-text : r .code ≡ 0 → take (r .len) t′ ≡ ending (contextOf w) (netOf w st)
   ending-text z = let k = written z in ap (take (r .len)) (k .bytes) ∙ take-at Text _ (r .len) (sym (k .len)) ∙ k .text
 
 -- ── the rounds ──
@@ -191,47 +191,47 @@ module _ (w : List ℕ) where
 
   -- what is left to write, in front of which the buffer holds what was printed
   abbrev pub Playing : List ℕ → List ℕ → List ℕ → ℕ → State → ℕ → ℕ → Type 0
-  Playing d whole e at st round l = Left d 0 whole e at (playing (defsOf w) (remaining (4 - round) l (locsOf w)) (netOf w st))
+  Playing d whole e at st round l = Left d 0 whole e at (playing (contextOf w) (remaining (4 - round) l (locsOf w)) (netOf w st))
 
-  pub play-first : (d : List ℕ) (st : State) → Playing d (playing (defsOf w) (four (locsOf w)) (netOf w st)) d 0 st 0 0
-  play-first d st = left-as (ap (λ ls. playing (defsOf w) ls (netOf w st)) (sym (all-rounds (locsOf w)))) begun
+  pub play-first : (d : List ℕ) (st : State) → Playing d (playing (contextOf w) (four (locsOf w)) (netOf w st)) d 0 st 0 0
+  play-first d st = left-as (ap (λ ls. playing (contextOf w) ls (netOf w st)) (sym (all-rounds (locsOf w)))) begun
 
   module _ {d whole e : List ℕ} {at : ℕ} (st : State) (round l : ℕ) (some : round < 4) (inl : l < locsIn w) (p : Playing d whole e at st round l) where
     rounds-left : 4 - round ≡ suc (3 - round)
     rounds-left = omega arith
 
-    now-left : Left d 0 whole e at (followed (turnOf (defsOf w) (locName w l) (netOf w st)) (playing (defsOf w) (remaining (4 - round) (l + 1) (locsOf w))))
+    now-left : Left d 0 whole e at (followed (turnOf (contextOf w) (locName w l) (netOf w st)) (playing (contextOf w) (remaining (4 - round) (l + 1) (locsOf w))))
     unfolding playing
     now-left =
-        left-as (ap (λ ls. playing (defsOf w) ls (netOf w st)) (ap (λ m. remaining m l (locsOf w)) rounds-left ∙ remaining-next (3 - round) l (locsOf w) (omega (arith, locs-length)) ∙ ap (λ x. x ∷ remaining (suc (3 - round)) (l + 1) (locsOf w)) (loc-at l inl) ∙ ap (λ m. locName w l ∷ remaining m (l + 1) (locsOf w)) (sym rounds-left))) p
+        left-as (ap (λ ls. playing (contextOf w) ls (netOf w st)) (ap (λ m. remaining m l (locsOf w)) rounds-left ∙ remaining-next (3 - round) l (locsOf w) (omega (arith, locs-length)) ∙ ap (λ x. x ∷ remaining (suc (3 - round)) (l + 1) (locsOf w)) (loc-at l inl) ∙ ap (λ m. locName w l ∷ remaining m (l + 1) (locsOf w)) (sym rounds-left))) p
 
-    module _ {e′ : List ℕ} (r : Turned) (t : TurnIs w (turnOf (defsOf w) (locName w l) (netOf w st)) e at e′ r) where
+    module _ {e′ : List ℕ} (r : Turned) (t : TurnIs w (turnOf (contextOf w) (locName w l) (netOf w st)) e at e′ r) where
       -- refused
       pub play-stopped : (r .code ≡ 0 → ⊥) → Wrote d 0 whole e′ (r .at)
-      play-stopped n = go (turnOf (defsOf w) (locName w l) (netOf w st)) now-left t
+      play-stopped n = go (turnOf (contextOf w) (locName w l) (netOf w st)) now-left t
         where
-          go : (x : Answer Turn) → Left d 0 whole e at (followed x (playing (defsOf w) (remaining (4 - round) (l + 1) (locsOf w)))) → TurnIs w x e at e′ r → Wrote d 0 whole e′ (r .at)
+          go : (x : Answer Turn) → Left d 0 whole e at (followed x (playing (contextOf w) (remaining (4 - round) (l + 1) (locsOf w)))) → TurnIs w x e at e′ r → Wrote d 0 whole e′ (r .at)
           go (refused m) k s = last k (s .wrote)
           go (accepted u) k s = absurd (n (s .code))
 
       module _ (z : r .code ≡ 0) where
         pub play-on : (valid w (r .state) ≡ true) × Playing d whole e′ (r .at) (r .state) round (l + 1)
-        play-on = go (turnOf (defsOf w) (locName w l) (netOf w st)) now-left t
+        play-on = go (turnOf (contextOf w) (locName w l) (netOf w st)) now-left t
           where
-            go : (x : Answer Turn) → Left d 0 whole e at (followed x (playing (defsOf w) (remaining (4 - round) (l + 1) (locsOf w)))) → TurnIs w x e at e′ r → (valid w (r .state) ≡ true) × Playing d whole e′ (r .at) (r .state) round (l + 1)
+            go : (x : Answer Turn) → Left d 0 whole e at (followed x (playing (contextOf w) (remaining (4 - round) (l + 1) (locsOf w)))) → TurnIs w x e at e′ r → (valid w (r .state) ≡ true) × Playing d whole e′ (r .at) (r .state) round (l + 1)
             go (refused m) k s = absurd (s .code z)
-            go (accepted u) k s = (s .good, left-as (ap (playing (defsOf w) (remaining (4 - round) (l + 1) (locsOf w))) (sym (s .comps))) (put-step k (s .wrote)))
+            go (accepted u) k s = (s .good, left-as (ap (playing (contextOf w) (remaining (4 - round) (l + 1) (locsOf w))) (sym (s .comps))) (put-step k (s .wrote)))
 
         -- the round is over
         pub play-next : l + 1 ≡ locsIn w → Playing d whole e′ (r .at) (r .state) (round + 1) 0
         play-next h =
             let m : 4 - (round + 1) ≡ 3 - round = omega arith in
-            left-as (ap (λ ls. playing (defsOf w) ls (netOf w (r .state))) (ap (λ m. remaining m (l + 1) (locsOf w)) rounds-left ∙ remaining-over (3 - round) (l + 1) (locsOf w) (omega (arith, locs-length)) ∙ ap (λ n. remaining n 0 (locsOf w)) (sym m))) (play-on .1)
+            left-as (ap (λ ls. playing (contextOf w) ls (netOf w (r .state))) (ap (λ m. remaining m (l + 1) (locsOf w)) rounds-left ∙ remaining-over (3 - round) (l + 1) (locsOf w) (omega (arith, locs-length)) ∙ ap (λ n. remaining n 0 (locsOf w)) (sym m))) (play-on .1)
 
   -- all rounds are over
-  pub play-end : {d whole e e′ : List ℕ} {at r : ℕ} (st : State) (round l : ℕ) → 4 ≤ round → Playing d whole e at st round l → Wrote e at (ending (defsOf w) (netOf w st)) e′ r → Wrote d 0 whole e′ r
+  pub play-end : {d whole e e′ : List ℕ} {at r : ℕ} (st : State) (round l : ℕ) → 4 ≤ round → Playing d whole e at st round l → Wrote e at (ending (contextOf w) (netOf w st)) e′ r → Wrote d 0 whole e′ r
   unfolding playing remaining
-  play-end st round l h p b = let m : 4 - round ≡ 0 = omega arith in last (left-as (ap (λ n. playing (defsOf w) (remaining n l (locsOf w)) (netOf w st)) m) p) b
+  play-end st round l h p b = let m : 4 - round ≡ 0 = omega arith in last (left-as (ap (λ n. playing (contextOf w) (remaining n l (locsOf w)) (netOf w st)) m) p) b
 
 -- ── the whole ──
 module _ (s u w v : List ℕ) (r : Reading) (x : readsAs s (read s) u w v r) where
@@ -269,18 +269,18 @@ module _ (s u w v : List ℕ) (r : Reading) (x : readsAs s (read s) u w v r) whe
         go (refused m) e k = absurd (not-refused m e (k .0))
         go (accepted m) e k = k .good
 
-    pub whole-printed : playing (defsOf v) (four (locsOf v)) (netOf v (r .state)) ≡ printout s
-    unfolding printout tableNetwork
+    pub whole-printed : playing (contextOf v) (four (locsOf v)) (netOf v (r .state)) ≡ printout s
+    unfolding printout tableNetwork contextOf
     whole-printed = go (read s) refl x
       where
-        go : (y : Answer Network) → read s ≡ y → readsAs s y u w v r → playing (defsOf v) (four (locsOf v)) (netOf v (r .state)) ≡ printed (locationsIn (form s)) y
+        go : (y : Answer Network) → read s ≡ y → readsAs s y u w v r → playing (contextOf v) (four (locsOf v)) (netOf v (r .state)) ≡ printed (locationsIn (form s)) y
         go (refused m) e k = absurd (not-refused m e (k .0))
         go (accepted m) e k = rw (k .locs, ← k .network)
 
-    pub whole-playingPieces : playingPieces (defsOf v) (four (locsOf v)) (netOf v (r .state)) ≡ pieces s
-    unfolding pieces tableNetwork
+    pub whole-playingPieces : playingPieces (contextOf v) (four (locsOf v)) (netOf v (r .state)) ≡ pieces s
+    unfolding pieces tableNetwork contextOf
     whole-playingPieces = go (read s) refl x
       where
-        go : (y : Answer Network) → read s ≡ y → readsAs s y u w v r → playingPieces (defsOf v) (four (locsOf v)) (netOf v (r .state)) ≡ piecesOf (locationsIn (form s)) y
+        go : (y : Answer Network) → read s ≡ y → readsAs s y u w v r → playingPieces (contextOf v) (four (locsOf v)) (netOf v (r .state)) ≡ piecesOf (locationsIn (form s)) y
         go (refused m) e k = absurd (not-refused m e (k .0))
         go (accepted m) e k = rw (k .locs, ← k .network)

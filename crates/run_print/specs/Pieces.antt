@@ -5,12 +5,12 @@ use mathlib.Core.Bool.{true, cond}
 use mathlib.Core.Path.{_≡_}
 use lib.ListN.{length, take, drop}
 use Rattle.terms.specs.Names.{Name}
-use Rattle.terms.specs.Terms.{Component, Def, Network}
+use Rattle.terms.specs.Terms.{Component, Context, Network, contextIn}
 use Rattle.terms.specs.Rules.{Answer}
 use Rattle.terms.specs.Rules.Answer.{refused, accepted}
 use Rattle.text.specs.Questions.{form, read}
 use Rattle.table.specs.Words.{locsIn}
-use Rattle.table.specs.Meaning.{defsOf, netOf}
+use Rattle.table.specs.Meaning.{contextOf, netOf}
 use Rattle.table.specs.Valid.{valid}
 use Rattle.text_build.specs.Rows.{locsOf}
 use Rattle.text_read.specs.Answer.{locationsIn}
@@ -24,13 +24,13 @@ followedPieces (refused n) k = refusedText n ∷ []
 followedPieces (accepted t) k = t .line ∷ k (t .comps)
 
 -- the pieces of a step at each of the locations, then the network
-unfoldable pub playingPieces : List Def → List Name → List Component → List (List ℕ)
+unfoldable pub playingPieces : Context → List Name → List Component → List (List ℕ)
 playingPieces d [] cs = ending d cs ∷ []
 playingPieces d (l ∷ ls) cs = followedPieces (turnOf d l cs) (playingPieces d ls)
 
 abbrev pub piecesOf : List Name → Answer Network → List (List ℕ)
 piecesOf ls (refused n) = refusedText n ∷ []
-piecesOf ls (accepted m) = playingPieces (m .defs) (four ls) (m .comps)
+piecesOf ls (accepted m) = playingPieces (contextIn m) (four ls) (m .comps)
 
 unfoldable pub pieces : List ℕ → List (List ℕ)
 pieces s = piecesOf (locationsIn (form s)) (read s)
@@ -47,7 +47,7 @@ remaining (suc m) l ls = drop l ls ++ copies m ls
 
 -- the pieces that are left: none, or a refusal, or those of the steps that are left
 abbrev pub piecesLeftBy : ℕ → List ℕ → Progress → List (List ℕ)
-piecesLeftBy zero w c = playingPieces (defsOf w) (remaining (4 - c .round) (c .l) (locsOf w)) (netOf w (c .state))
+piecesLeftBy zero w c = playingPieces (contextOf w) (remaining (4 - c .round) (c .l) (locsOf w)) (netOf w (c .state))
 piecesLeftBy (suc n) w c = refusedText (suc n) ∷ []
 
 abbrev pub piecesLeft : List ℕ → Progress → List (List ℕ)

@@ -6,7 +6,7 @@ use mathlib.Core.Bool.{cond}
 use lib.Dec.{leb}
 use lib.ListN.{length}
 use Rattle.terms.specs.Names.{Name, bytes}
-use Rattle.terms.specs.Terms.{Component, Def, Network}
+use Rattle.terms.specs.Terms.{Component, Context, Network, contextIn}
 use Rattle.terms.specs.Rules.{Answer, unmarked, _>>=_}
 use Rattle.terms.specs.Rules.Answer.{refused, accepted}
 use Rattle.terms.specs.Step.{fires, step}
@@ -27,14 +27,14 @@ pub record Turn : Type 0 where
   pub line : List ℕ
   pub comps : List Component
 
-unfoldable pub turnOf : List Def → Name → List Component → Answer Turn
+unfoldable pub turnOf : Context → Name → List Component → Answer Turn
 turnOf d l cs = step d l cs >>= λ s. room (s .comps) >>= λ ds. accepted (record { line = lineText l (fires d l cs .labels); comps = ds })
 
 -- the network, in 65,536 bytes
-unfoldable pub ending : List Def → List Component → List ℕ
+unfoldable pub ending : Context → List Component → List ℕ
 ending d cs =
     cond (every unmarked cs)
-    (cond (leb (length (write (record { defs = d; comps = cs }))) 65_536) (write (record { defs = d; comps = cs })) (refusedText 15))
+    (cond (leb (length (write (record { defs = d .defs; comps = cs }))) 65_536) (write (record { defs = d .defs; comps = cs })) (refusedText 15))
     (refusedText 14)
 
 -- after a step: its line and what follows, or the refusal
@@ -43,7 +43,7 @@ followed (refused n) k = refusedText n
 followed (accepted t) k = t .line ++ k (t .comps)
 
 -- a step at each of the locations, then the network
-unfoldable pub playing : List Def → List Name → List Component → List ℕ
+unfoldable pub playing : Context → List Name → List Component → List ℕ
 playing d [] cs = ending d cs
 playing d (l ∷ ls) cs = followed (turnOf d l cs) (playing d ls)
 
@@ -53,7 +53,7 @@ four ls = ls ++ (ls ++ (ls ++ ls))
 
 abbrev pub printed : List Name → Answer Network → List ℕ
 printed ls (refused n) = refusedText n
-printed ls (accepted m) = playing (m .defs) (four ls) (m .comps)
+printed ls (accepted m) = playing (contextIn m) (four ls) (m .comps)
 
 unfoldable pub printout : List ℕ → List ℕ
 printout s = printed (locationsIn (form s)) (read s)

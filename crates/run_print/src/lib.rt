@@ -15,7 +15,7 @@ ghost use Prim.Native.Nat.{_≤_, _<_};
 ghost use lib.ListN.{length, take, drop};
 ghost use Rattle.text_write.specs.Put.{Wrote};
 ghost use Rattle.table.specs.Words.{locsIn, locName};
-ghost use Rattle.table.specs.Meaning.{defsOf, netOf};
+ghost use Rattle.table.specs.Meaning.{contextOf, netOf};
 ghost use Rattle.table.specs.Valid.{valid};
 ghost use Rattle.text_build.specs.Rows.{locsOf};
 ghost use Rattle.text_read.specs.Answer.{ReadsOver};
@@ -67,7 +67,7 @@ fn put_refused(n: u32, buf: &mut [u8], at: usize) -> usize
 // The step at the location l, and its line or its refusal.
 fn turn(w: &Script, st: State, l: u32, buf: &mut [u8], at: usize) -> Turned
     requires { ⌜ (valid (now w) st ≡ true) × (l < locsIn (now w)) ⌝ }
-    ensures { λ r. ⌜ TurnIs (now (w .entry)) (turnOf (defsOf (now (w .entry))) (locName (now (w .entry)) l) (netOf (now (w .entry)) st)) (now (buf .entry)) at (now (buf .exit)) r ⌝ }
+    ensures { λ r. ⌜ TurnIs (now (w .entry)) (turnOf (contextOf (now (w .entry))) (locName (now (w .entry)) l) (netOf (now (w .entry)) st)) (now (buf .entry)) at (now (buf .exit)) r ⌝ }
 {
     let mut records = [[0; 3]; 256];
     let mut next = st;
@@ -80,7 +80,7 @@ fn turn(w: &Script, st: State, l: u32, buf: &mut [u8], at: usize) -> Turned
             state: st,
         };
     }
-    let b = put_line(w, st, l, &records, s.count, buf, at);
+    let b = put_line(w, &st.c, st.n, l, &records, s.count, buf, at);
     next.n = s.n;
     Turned {
         code: 0,
@@ -100,7 +100,7 @@ fn put_first(s: &[u8], n: usize, buf: &mut [u8], at: usize) -> usize
 // The network, in 65,536 bytes, or the refusal to write it.
 fn put_network(w: &Script, st: State, buf: &mut [u8], at: usize) -> usize
     requires { ⌜ valid (now w) st ≡ true ⌝ }
-    ensures { λ r. ⌜ Wrote (now (buf .entry)) at (ending (defsOf (now (w .entry))) (netOf (now (w .entry)) st)) (now (buf .exit)) r ⌝ }
+    ensures { λ r. ⌜ Wrote (now (buf .entry)) at (ending (contextOf (now (w .entry))) (netOf (now (w .entry)) st)) (now (buf .exit)) r ⌝ }
 {
     let mut text = [0; 65536];
     let r = text_write::write(w, &st.c, st.n, &mut text);
@@ -113,7 +113,7 @@ fn put_network(w: &Script, st: State, buf: &mut [u8], at: usize) -> usize
 // Four rounds of steps over all locations by number, then the network. That is at most 4 rounds of 64 lines of 13,329 bytes, and 65,536 bytes.
 fn play(w: &Script, st: State, buf: &mut [u8]) -> usize
     requires { ⌜ valid (now w) st ≡ true ⌝ }
-    ensures { λ r. ⌜ Wrote (now (buf .entry)) 0 (playing (defsOf (now (w .entry))) (four (locsOf (now (w .entry)))) (netOf (now (w .entry)) st)) (now (buf .exit)) r × (r ≤ 3477760) ⌝ }
+    ensures { λ r. ⌜ Wrote (now (buf .entry)) 0 (playing (contextOf (now (w .entry))) (four (locsOf (now (w .entry)))) (netOf (now (w .entry)) st)) (now (buf .exit)) r × (r ≤ 3477760) ⌝ }
 {
     let n = wide(word(w, 1));
     let mut now = st;
@@ -181,7 +181,7 @@ fn before_step(round: usize, l: usize, st: State) -> Progress
 // The network, or the refusal to write it, at the front of a buffer of 65,536 bytes.
 fn put_ending(w: &Script, st: State, buf: &mut [u8]) -> usize
     requires { ⌜ (valid (now w) st ≡ true) × (length (now buf) ≡ 65536) ⌝ }
-    ensures { λ r. ⌜ (r ≤ 65536) × (take r (now (buf .exit)) ≡ ending (defsOf (now (w .entry))) (netOf (now (w .entry)) st)) × (drop r (now (buf .exit)) ≡ drop r (now (buf .entry))) ⌝ }
+    ensures { λ r. ⌜ (r ≤ 65536) × (take r (now (buf .exit)) ≡ ending (contextOf (now (w .entry))) (netOf (now (w .entry)) st)) × (drop r (now (buf .exit)) ≡ drop r (now (buf .entry))) ⌝ }
 {
     let r = text_write::write(w, &st.c, st.n, buf);
     if r.code != 0 {

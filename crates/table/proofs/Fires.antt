@@ -17,7 +17,7 @@ use Rattle.terms.specs.Terms.Component.{comp}
 use Rattle.terms.specs.Terms.Label.{sent}
 use Rattle.terms.specs.Same.{every}
 use Rattle.terms.specs.Substitution.{held, env, just, hide, sub, subP, subV, subVs}
-use Rattle.terms.specs.Rules.{Answer, Kind, Action, Acted, Fired, Became, Met, _>>=_, at, setAll, positions, locations, filled, body, becomes, meet, fire, firingAt, act}
+use Rattle.terms.specs.Rules.{Answer, Kind, Action, Acted, Fired, Became, Met, _>>=_, at, setAll, positions, locations, filled, body, becomes, meet, fire, firingAt, act, fits}
 use Rattle.terms.specs.Rules as R
 use Rattle.terms.specs.Rules.Answer.{refused, accepted}
 use Rattle.terms.specs.Rules.Kind.{calls, moves}
@@ -31,10 +31,10 @@ use Rattle.terms.specs.Letters.{isSmall, isIdentifier}
 use Rattle.table.specs.declared.Head.{Head}
 use Rattle.table.specs.declared.Head.the-variants.{Stop, Go, Out, In, Call}
 use Rattle.table.specs.declared.Comp.{Comp}
-use Rattle.table.specs.Words.{locsIn, chansIn, defsIn, nameAt, locName, chanName, defName, arityOf, bodyOf, paramsAt, paramsOf, headAt, ownAt, boundAt, scopeAt, namesAt}
-use Rattle.table.specs.Meaning.{valueOf, valuesOf, partOf, processAt, partAt, listFrom, defOf, defsOf, withTimer, envAt, means}
+use Rattle.table.specs.Words.{locsIn, chansIn, defsIn, nameAt, locName, chanName, defName, arityOf, bodyOf, paramsAt, paramsOf, headAt, ownAt, boundAt, scopeAt, namesAt, argsAt}
+use Rattle.table.specs.Meaning.{valueOf, valuesOf, partOf, processAt, partAt, listFrom, defOf, defsOf, withTimer, envAt, means, contextOf}
 use Rattle.table.specs.Valid.{index, slotOk, refOk, entered, headOk, scriptOk, compOk}
-use Rattle.table.specs.Fire.{Left, ActedAt, labelOf, valueIn, leftAt, argIn, loaded, becomesAt, handed, meetAt, aloneAt, togetherAt, leftBy, actOn}
+use Rattle.table.specs.Fire.{Left, ActedAt, labelOf, valueIn, leftAt, argIn, loaded, becomesAt, handed, meetAt, aloneAt, togetherAt, leftBy, actOn, fitsAlone, fitsTogether}
 use Rattle.table.proofs.Scopes.{enter, enter-is, received, slotted, index-enter}
 use Rattle.table.proofs.Tests.{part-fine, script-fine, def-fine, CompFine, comp-fine, held-once}
 use Rattle.table.proofs.Places.{go-fine, out-fine, in-fine}
@@ -103,36 +103,36 @@ unfolding paramsOf paramsAt
 params-length w d h = simp (length-map, length-take) (omega arith)
 
 -- the arguments stand in the first slots
-record Loads (vs : List ℕ) (n a₀ a₁ a₂ a₃ : ℕ) : Type 0 where
+record Loads (w : List ℕ) (i : ℕ) (vs : List ℕ) (n : ℕ) : Type 0 where
   more : List ℕ
-  is : loaded vs n a₀ a₁ a₂ a₃ ≡ map (valueIn vs) (take n (a₀ ∷ a₁ ∷ a₂ ∷ a₃ ∷ [])) ++ more
+  is : loaded w i vs n ≡ map (valueIn vs) (argsAt w i n) ++ more
 
-loads : (vs : List ℕ) (n a₀ a₁ a₂ a₃ : ℕ) → n ≤ 4 → Loads vs n a₀ a₁ a₂ a₃
+loads : (w : List ℕ) (i : ℕ) (vs : List ℕ) (n : ℕ) → n ≤ 4 → Loads w i vs n
 unfolding loaded argIn
-loads vs zero a₀ a₁ a₂ a₃ h = record { more = _; is = refl }
-loads vs (suc zero) a₀ a₁ a₂ a₃ h = record { more = _; is = refl }
-loads vs (suc (suc zero)) a₀ a₁ a₂ a₃ h = record { more = _; is = refl }
-loads vs (suc (suc (suc zero))) a₀ a₁ a₂ a₃ h = record { more = _; is = refl }
-loads vs (suc (suc (suc (suc zero)))) a₀ a₁ a₂ a₃ h = record { more = _; is = refl }
-loads vs (suc (suc (suc (suc (suc n))))) a₀ a₁ a₂ a₃ h = absurd (omega arith)
+loads w i vs zero h = record { more = _; is = refl }
+loads w i vs (suc zero) h = record { more = _; is = refl }
+loads w i vs (suc (suc zero)) h = record { more = _; is = refl }
+loads w i vs (suc (suc (suc zero))) h = record { more = _; is = refl }
+loads w i vs (suc (suc (suc (suc zero)))) h = record { more = _; is = refl }
+loads w i vs (suc (suc (suc (suc (suc n))))) h = absurd (omega arith)
 
 pub map-append : {A B : Type 0} (f : A → B) (xs ys : List A) → map f (xs ++ ys) ≡ map f xs ++ map f ys
 map-append f [] ys = refl
 map-append f (x ∷ xs) ys = rw (map-append f xs ys)
 
 -- a call's body with its arguments in is the body with its slots loaded
-body-means : (w : List ℕ) → scriptOk w ≡ true → (d n a₀ a₁ a₂ a₃ : ℕ) (vs : List ℕ) → d < defsIn w → n ≡ arityOf w d
-    → body (defsOf w) (defName w d) (map (locName w) (map (valueIn vs) (take n (a₀ ∷ a₁ ∷ a₂ ∷ a₃ ∷ []))))
-    ≡ accepted (subP (processAt w (bodyOf w d)) (envAt w (bodyOf w d) (loaded vs n a₀ a₁ a₂ a₃)))
+body-means : (w : List ℕ) → scriptOk w ≡ true → (d n i : ℕ) (vs : List ℕ) → d < defsIn w → n ≡ arityOf w d
+    → body (defsOf w) (defName w d) (map (locName w) (map (valueIn vs) (argsAt w i n)))
+    ≡ accepted (subP (processAt w (bodyOf w d)) (envAt w (bodyOf w d) (loaded w i vs n)))
 unfolding defsOf envAt namesAt paramsOf
-body-means w good d n a₀ a₁ a₂ a₃ vs h e =
+body-means w good d n i vs h e =
     let f = def-fine w good d h in
-    let l = loads vs n a₀ a₁ a₂ a₃ (omega (arith, f .few)) in
-    let xs = map (locName w) (map (valueIn vs) (take n (a₀ ∷ a₁ ∷ a₂ ∷ a₃ ∷ []))) in
+    let l = loads w i vs n (omega (arith, f .few)) in
+    let xs = map (locName w) (map (valueIn vs) (argsAt w i n)) in
     let len : length (paramsOf w d) ≡ length xs = params-length w d (f .few) ∙ sym e ∙ simp (length-map, length-take) (omega (arith, f .few)) in
     body-from w good 0 (defsIn w) d xs (omega arith) (omega arith) (omega arith)
     ∙ fill (paramsOf w d) xs len
-    ∙ ap (λ z. accepted (subP (processAt w (bodyOf w d)) z)) (sym (env-more (paramsOf w d) xs (map (locName w) (l .more)) (omega arith)) ∙ ap (env (paramsOf w d)) (sym (map-append (locName w) (map (valueIn vs) (take n (a₀ ∷ a₁ ∷ a₂ ∷ a₃ ∷ []))) (l .more)) ∙ ap (map (locName w)) (sym (l .is))) ∙ ap (λ os. env (map (nameAt w) os) (map (locName w) (loaded vs n a₀ a₁ a₂ a₃))) (sym (f .scope)))
+    ∙ ap (λ z. accepted (subP (processAt w (bodyOf w d)) z)) (sym (env-more (paramsOf w d) xs (map (locName w) (l .more)) (omega arith)) ∙ ap (env (paramsOf w d)) (sym (map-append (locName w) (map (valueIn vs) (argsAt w i n)) (l .more)) ∙ ap (map (locName w)) (sym (l .is))) ∙ ap (λ os. env (map (nameAt w) os) (map (locName w) (loaded w i vs n))) (sym (f .scope)))
   where
     fill : (us xs : List Name) → length us ≡ length xs → filled us (processAt w (bodyOf w d)) xs ≡ accepted (subP (processAt w (bodyOf w d)) (env us xs))
     fill us xs q = unfold filled in rw (eq-eqb (length us) (length xs) q)
@@ -152,25 +152,25 @@ module _ (w : List ℕ) (good : scriptOk w ≡ true) where
 
   -- the part of a head at the place of c, with its values and its timer
   abbrev seen : Comp → Head → Part
-  seen c h = withTimer (ticksOf (c .timer)) (sub (partOf w (processAt w) (namesAt w (c .place)) (boundAt w (c .place)) h) (envAt w (c .place) (c .vals)))
+  seen c h = withTimer (ticksOf (c .timer)) (sub (partOf w (processAt w) (c .place) h) (envAt w (c .place) (c .vals)))
 
   vals-enough : (c : Comp) → CompFine w c → length (namesAt w (c .place)) ≤ length (c .vals)
   vals-enough c f = omega (arith, f .slots, names-length w (c .place), scope-length w (c .place))
 
   becomes-means : (k : Kind) (c : Comp) (h : Head) → headOk w (c .place) h ≡ true → CompFine w c
-      → mapA (firedOf w) (becomesAt w k c h) ≡ asFired (becomes (defsOf w) k (locName w (c .loc)) (seen c h)) (locName w (c .loc))
-  unfolding becomesAt becomes withTimer sub partOf firedOf labelOf envAt headOk
+      → mapA (firedOf w) (becomesAt w k c h) ≡ asFired (becomes (contextOf w) k (locName w (c .loc)) (seen c h)) (locName w (c .loc))
+  unfolding contextOf becomesAt becomes withTimer sub partOf firedOf labelOf envAt headOk
   becomes-means calls c Stop o f = refl
   becomes-means calls c (Go t v p) o f = refl
   becomes-means calls c (Out h t v p q) o f = refl
   becomes-means calls c (In h t k p q) o f = refl
-  becomes-means calls c (Call d m a₀ a₁ a₂ a₃) o f =
+  becomes-means calls c (Call d m) o f =
       let r = and-inv (ltb d (defsIn w)) _ o in
       let s = and-inv (eqb m (arityOf w d)) _ (r .1) in
       rw (
-        refs-mean w (namesAt w (c .place)) (c .vals) (take m (a₀ ∷ a₁ ∷ a₂ ∷ a₃ ∷ [])) (s .1) (vals-enough c f),
-        body-means w good d m a₀ a₁ a₂ a₃ (c .vals) (ltb-true d (defsIn w) (r .0)) (eqb-true m (arityOf w d) (s .0)),
-        left-means w good (c .loc) (c .loc) (bodyOf w d) (loaded (c .vals) m a₀ a₁ a₂ a₃) (f .loc),
+        refs-mean w (namesAt w (c .place)) (c .vals) (argsAt w (c .place) m) (s .1) (vals-enough c f),
+        body-means w good d m (c .place) (c .vals) (ltb-true d (defsIn w) (r .0)) (eqb-true m (arityOf w d) (s .0)),
+        left-means w good (c .loc) (c .loc) (bodyOf w d) (loaded w (c .place) (c .vals) m) (f .loc),
       )
   becomes-means moves c Stop o f = refl
   becomes-means moves c (Go t v p) o f =
@@ -182,7 +182,7 @@ module _ (w : List ℕ) (good : scriptOk w ≡ true) where
       )
   becomes-means moves c (Out h t v p q) o f = refl
   becomes-means moves c (In h t k p q) o f = refl
-  becomes-means moves c (Call d m a₀ a₁ a₂ a₃) o f = refl
+  becomes-means moves c (Call d m) o f = refl
 
   -- ── two components ──
   abbrev asMet : Answer Met → Name → Name → Answer Fired
@@ -227,11 +227,11 @@ module _ (w : List ℕ) (good : scriptOk w ≡ true) where
   meet-means c e Stop h o o′ f f′ = refl
   meet-means c e (Go t v p) h o o′ f f′ = refl
   meet-means c e (In d t k p q) h o o′ f f′ = refl
-  meet-means c e (Call d n a₀ a₁ a₂ a₃) h o o′ f f′ = refl
+  meet-means c e (Call d n) h o o′ f f′ = refl
   meet-means c e (Out d t v p q) Stop o o′ f f′ = refl
   meet-means c e (Out d t v p q) (Go t′ v′ p′) o o′ f f′ = refl
   meet-means c e (Out d t v p q) (Out d′ t′ v′ p′ q′) o o′ f f′ = refl
-  meet-means c e (Out d t v p q) (Call d′ n a₀ a₁ a₂ a₃) o o′ f f′ = refl
+  meet-means c e (Out d t v p q) (Call d′ n) o o′ f f′ = refl
   meet-means c e (Out d t v p q) (In d′ t′ k p′ q′) o o′ f f′ =
       let r = out-fine w (c .place) d t v p q o in
       let s = in-fine w (e .place) d′ t′ k p′ q′ o′ in
@@ -258,25 +258,33 @@ module _ (w : List ℕ) (good : scriptOk w ≡ true) where
           )
 
   -- ── an action with its components ──
-  pub alone-means : (k : Kind) (c : Comp) → CompFine w c → mapA (firedOf w) (aloneAt w k c) ≡ fire (defsOf w) (alone k (means w c))
-  unfolding aloneAt
-  alone-means k c f = go (ltb (c .mark) 64) refl
+  fits-alone-means : (k : Kind) (c : Comp) → CompFine w c → mapA (firedOf w) (fitsAlone w k c) ≡ fits (contextOf w) (alone k (means w c))
+  unfolding fitsAlone
+  fits-alone-means k c f = go (ltb (c .mark) 64) refl
     where
-      go : (b : Bool) → ltb (c .mark) 64 ≡ b → mapA (firedOf w) (cond b (refused 9) (becomesAt w k c (headAt w (c .place)))) ≡ fire (defsOf w) (alone k (means w c))
-      go true e = unfold fire in rw (marked-is w c e)
-      go false e = unfold fire partAt in rw (unmarked-is w c e) (becomes-means k c (headAt w (c .place)) (part-fine w good (c .place) (f .place) .head) f)
+      go : (b : Bool) → ltb (c .mark) 64 ≡ b → mapA (firedOf w) (cond b (refused 9) (becomesAt w k c (headAt w (c .place)))) ≡ fits (contextOf w) (alone k (means w c))
+      go true e = unfold fits in rw (marked-is w c e)
+      go false e = unfold fits partAt in rw (unmarked-is w c e) (becomes-means k c (headAt w (c .place)) (part-fine w good (c .place) (f .place) .head) f)
 
-  pub together-means : (c e : Comp) → CompFine w c → CompFine w e → mapA (firedOf w) (togetherAt w c e) ≡ fire (defsOf w) (together (means w c) (means w e))
-  unfolding togetherAt
-  together-means c e f g = go (ltb (c .mark) 64) refl (ltb (e .mark) 64) refl
+  pub alone-means : (k : Kind) (c : Comp) → CompFine w c → mapA (firedOf w) (aloneAt w k c) ≡ fire (contextOf w) (alone k (means w c))
+  unfolding aloneAt fire
+  alone-means = fits-alone-means
+
+  fits-together-means : (c e : Comp) → CompFine w c → CompFine w e → mapA (firedOf w) (fitsTogether w c e) ≡ fits (contextOf w) (together (means w c) (means w e))
+  unfolding fitsTogether
+  fits-together-means c e f g = go (ltb (c .mark) 64) refl (ltb (e .mark) 64) refl
     where
       go : (a : Bool) → ltb (c .mark) 64 ≡ a → (b : Bool) → ltb (e .mark) 64 ≡ b
-          → mapA (firedOf w) (cond (a || b) (refused 9) (meetAt c e (headAt w (c .place)) (headAt w (e .place)))) ≡ fire (defsOf w) (together (means w c) (means w e))
-      go true p b q = unfold fire in rw (marked-is w c p)
-      go false p true q = unfold fire in rw (unmarked-is w c p, marked-is w e q)
+          → mapA (firedOf w) (cond (a || b) (refused 9) (meetAt c e (headAt w (c .place)) (headAt w (e .place)))) ≡ fits (contextOf w) (together (means w c) (means w e))
+      go true p b q = unfold fits in rw (marked-is w c p)
+      go false p true q = unfold fits in rw (unmarked-is w c p, marked-is w e q)
       go false p false q =
-          unfold fire partAt in rw (unmarked-is w c p, unmarked-is w e q)
+          unfold fits partAt in rw (unmarked-is w c p, unmarked-is w e q)
           (meet-means c e (headAt w (c .place)) (headAt w (e .place)) (part-fine w good (c .place) (f .place) .head) (part-fine w good (e .place) (g .place) .head) f g)
+
+  pub together-means : (c e : Comp) → CompFine w c → CompFine w e → mapA (firedOf w) (togetherAt w c e) ≡ fire (contextOf w) (together (means w c) (means w e))
+  unfolding togetherAt fire
+  together-means = fits-together-means
 
 -- ── at positions ──
 pub at-map : {A B : Type 0} (f : A → B) (xs : List A) (p : ℕ) → at (map f xs) p ≡ mapA f (at xs p)
@@ -318,13 +326,13 @@ module _ (w : List ℕ) (good : scriptOk w ≡ true) (cs : List Comp) (fine : ev
   fine-at p c e = comp-fine w c (every-at (compOk w) cs p c fine e)
 
   -- an action on a table is the rules' action on what the table stands for
-  pub act-means : (a : Action) → mapA (actedOf w) (actOn w a cs) ≡ act (defsOf w) a (map (means w) cs)
+  pub act-means : (a : Action) → mapA (actedOf w) (actOn w a cs) ≡ act (contextOf w) a (map (means w) cs)
   unfolding actOn leftBy act firingAt
   act-means (single k p) = rw (at-map (means w) cs p) (go (at cs p) refl)
     where
       go : (x : Answer Comp) → at cs p ≡ x
           → mapA (actedOf w) ((x >>= λ c. aloneAt w k c) >>= λ f. accepted (record { tag = f .tag; comps = setAll (positions (single k p)) (f .after) cs }))
-          ≡ ((mapA (means w) x >>= λ c. accepted (alone k c)) >>= λ d. fire (defsOf w) d >>= λ f. accepted (record { label = f .label; comps = setAll (positions (single k p)) (f .after) (map (means w) cs) }))
+          ≡ ((mapA (means w) x >>= λ c. accepted (alone k c)) >>= λ d. fire (contextOf w) d >>= λ f. accepted (record { label = f .label; comps = setAll (positions (single k p)) (f .after) (map (means w) cs) }))
       go (refused n) e = refl
       go (accepted c) e =
           replaced (positions (single k p)) (aloneAt w k c)
@@ -333,7 +341,7 @@ module _ (w : List ℕ) (good : scriptOk w ≡ true) (cs : List Comp) (fine : ev
     where
       go : (x : Answer Comp) → at cs p ≡ x → (y : Answer Comp) → at cs q ≡ y
           → mapA (actedOf w) ((x >>= λ c. y >>= λ e. togetherAt w c e) >>= λ f. accepted (record { tag = f .tag; comps = setAll (positions (pair p q)) (f .after) cs }))
-          ≡ ((mapA (means w) x >>= λ c. mapA (means w) y >>= λ e. accepted (together c e)) >>= λ d. fire (defsOf w) d >>= λ f. accepted (record { label = f .label; comps = setAll (positions (pair p q)) (f .after) (map (means w) cs) }))
+          ≡ ((mapA (means w) x >>= λ c. mapA (means w) y >>= λ e. accepted (together c e)) >>= λ d. fire (contextOf w) d >>= λ f. accepted (record { label = f .label; comps = setAll (positions (pair p q)) (f .after) (map (means w) cs) }))
       go (refused n) e y h = refl
       go (accepted c) e (refused n) h = refl
       go (accepted c) e (accepted b) h =

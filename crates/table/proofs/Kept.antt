@@ -4,7 +4,7 @@ use Prim.Native.Nat.{ℕ, zero, suc, _-_, _≤_, _<_}
 use native.Mathlib.Omega.{arith}
 use mathlib.Core.List.{List, [], _∷_, flatMap}
 use mathlib.Core.Bool.{Bool, true, false, cond, _&&_, _||_}
-use mathlib.Core.Path.{_≡_, refl, _∙_}
+use mathlib.Core.Path.{_≡_, refl, ap, sym, _∙_}
 use lib.Dec.{eqb, leb, ltb}
 use lib.ListN.{length, getD, set, take, length-append, length-set}
 use borrow.Author.Tests.{ltb-true, leb-true, lt-ltb, le-leb, eqb-true}
@@ -20,12 +20,12 @@ use Rattle.terms.proofs.Names.{and-inv, and-in}
 use Rattle.table.specs.declared.Head.{Head}
 use Rattle.table.specs.declared.Head.the-variants.{Stop, Go, Out, In, Call}
 use Rattle.table.specs.declared.Comp.{Comp}
-use Rattle.table.specs.Words.{partsIn, locsIn, defsIn, arityOf, bodyOf, headAt, nextAt, namesAt}
+use Rattle.table.specs.Words.{partsIn, locsIn, defsIn, arityOf, bodyOf, headAt, nextAt, namesAt, argAt, argWords, argsAt}
 use Rattle.table.specs.Valid.{index, slotOk, refOk, headOk, nextOk, scriptOk, markOk, compOk, timerOk}
-use Rattle.table.specs.Split.{timerIn, fresh, andThen, partsFrom, splitAt, timed, orElse, waited, passed}
-use Rattle.table.specs.Fire.{Left, ActedAt, valueIn, leftAt, argIn, loaded, becomesAt, handed, meetAt, aloneAt, togetherAt, leftBy, actOn, passedAll}
+use Rattle.table.specs.Split.{timerIn, fresh, andThen, partsFrom, splitAt, timed, orElse, waited, passed, expiredAt}
+use Rattle.table.specs.Fire.{Left, ActedAt, valueIn, leftAt, argIn, loaded, becomesAt, handed, meetAt, aloneAt, togetherAt, leftBy, actOn, passedAll, fitsAlone, fitsTogether}
 use Rattle.table.proofs.Tests.{every-getD, every-append, inner, part-fine, def-fine, CompFine, comp-fine, comp-ok}
-use Rattle.table.proofs.Places.{go-fine, out-fine, in-fine}
+use Rattle.table.proofs.Places.{args-at, go-fine, out-fine, in-fine}
 use Rattle.table.proofs.Fires.{scope-length, names-length, every-at}
 
 -- what is accepted passes the test
@@ -61,13 +61,15 @@ refOk-at w ys (suc n) zero (x ∷ xs) e h l = and-inv (refOk w ys x) _ e .0
 refOk-at w ys (suc n) (suc k) (x ∷ xs) e h l = refOk-at w ys n k xs (and-inv (refOk w ys x) _ e .1) (omega arith) (omega arith)
 
 -- the argument k of n, among the values that are put in
-arg-in : (w : List ℕ) (ys : List Name) (vs xs : List ℕ) (n k : ℕ) → every (refOk w ys) (take n xs) ≡ true → n ≤ length xs → length ys ≤ length vs → every (inRange w) vs ≡ true → 0 < locsIn w
-    → inRange w (argIn vs n k (getD xs k 0)) ≡ true
+arg-in : (w : List ℕ) (i : ℕ) (ys : List Name) (vs : List ℕ) (n k : ℕ) → every (refOk w ys) (argsAt w i n) ≡ true → n ≤ 4 → length ys ≤ length vs → every (inRange w) vs ≡ true → 0 < locsIn w
+    → inRange w (argIn w i vs n k) ≡ true
 unfolding argIn
-arg-in w ys vs xs n k e m h f z = go (ltb k n) refl
+arg-in w i ys vs n k e m h f z = go (ltb k n) refl
   where
-    go : (b : Bool) → ltb k n ≡ b → inRange w (cond b (valueIn vs (getD xs k 0)) 0) ≡ true
-    go true q = lt-ltb _ _ (value-in w ys vs (getD xs k 0) (refOk-at w ys n k xs e (ltb-true k n q) m) h f)
+    go : (b : Bool) → ltb k n ≡ b → inRange w (cond b (valueIn vs (argAt w i k)) 0) ≡ true
+    go true q =
+        let b = ltb-true k n q in
+        lt-ltb _ _ (value-in w ys vs (argAt w i k) (ap (refOk w ys) (sym (args-at w i k (omega arith))) ∙ refOk-at w ys n k (argWords w i) e b (omega arith)) h f)
     go false q = lt-ltb 0 (locsIn w) z
 
 -- ── what an action leaves ──
@@ -95,32 +97,32 @@ module _ (w : List ℕ) (good : scriptOk w ≡ true) where
   becomes-kept calls c (Go t v p) o f = refl
   becomes-kept calls c (Out d t v p q) o f = refl
   becomes-kept calls c (In d t k p q) o f = refl
-  becomes-kept calls c (Call d n a₀ a₁ a₂ a₃) o f =
+  becomes-kept calls c (Call d n) o f =
       let r = and-inv (ltb d (defsIn w)) _ o in
       let s = and-inv (eqb n (arityOf w d)) _ (r .1) in
       let g = def-fine w good d (ltb-true d (defsIn w) (r .0)) in
-      let arg : (k : ℕ) → inRange w (argIn (c .vals) n k (getD (a₀ ∷ a₁ ∷ a₂ ∷ a₃ ∷ []) k 0)) ≡ true
-      = λ k. arg-in w (namesAt w (c .place)) (c .vals) (a₀ ∷ a₁ ∷ a₂ ∷ a₃ ∷ []) n k (s .1) (omega (arith, g .few, eqb-true n (arityOf w d) (s .0))) (enough c f) (f .vals) (omega (arith, f .loc)) in
+      let arg : (k : ℕ) → inRange w (argIn w (c .place) (c .vals) n k) ≡ true
+      = λ k. arg-in w (c .place) (namesAt w (c .place)) (c .vals) n k (s .1) (omega (arith, g .few, eqb-true n (arityOf w d) (s .0))) (enough c f) (f .vals) (omega (arith, f .loc)) in
       let z : inRange w 0 ≡ true = lt-ltb 0 (locsIn w) (omega (arith, f .loc)) in
-      and-in _ _ (left-ok w (c .loc) (c .loc) (bodyOf w d) (loaded (c .vals) n a₀ a₁ a₂ a₃) (f .loc) (f .loc) (g .body) refl (rw (arg 0, arg 1, arg 2, arg 3, z))) refl
+      and-in _ _ (left-ok w (c .loc) (c .loc) (bodyOf w d) (loaded w (c .place) (c .vals) n) (f .loc) (f .loc) (g .body) refl (rw (arg 0, arg 1, arg 2, arg 3, z))) refl
   becomes-kept moves c Stop o f = refl
   becomes-kept moves c (Go t v p) o f =
       let g = go-fine w (c .place) t v p o in
       and-in _ _ (left-ok w (c .loc) (valueIn (c .vals) v) p (c .vals) (f .loc) (value-in w (namesAt w (c .place)) (c .vals) v (g .value) (enough c f) (f .vals)) (omega (arith, g .first .lesser, f .place)) (f .slots) (f .vals)) refl
   becomes-kept moves c (Out d t v p q) o f = refl
   becomes-kept moves c (In d t k p q) o f = refl
-  becomes-kept moves c (Call d n a₀ a₁ a₂ a₃) o f = refl
+  becomes-kept moves c (Call d n) o f = refl
 
   meet-kept : (c e : Comp) (g h : Head) → headOk w (c .place) g ≡ true → headOk w (e .place) h ≡ true → CompFine w c → CompFine w e → okA (goodLeft w) (meetAt c e g h) ≡ true
   unfolding meetAt
   meet-kept c e Stop h o o′ f f′ = refl
   meet-kept c e (Go t v p) h o o′ f f′ = refl
   meet-kept c e (In d t k p q) h o o′ f f′ = refl
-  meet-kept c e (Call d n a₀ a₁ a₂ a₃) h o o′ f f′ = refl
+  meet-kept c e (Call d n) h o o′ f f′ = refl
   meet-kept c e (Out d t v p q) Stop o o′ f f′ = refl
   meet-kept c e (Out d t v p q) (Go t′ v′ p′) o o′ f f′ = refl
   meet-kept c e (Out d t v p q) (Out d′ t′ v′ p′ q′) o o′ f f′ = refl
-  meet-kept c e (Out d t v p q) (Call d′ n a₀ a₁ a₂ a₃) o o′ f f′ = refl
+  meet-kept c e (Out d t v p q) (Call d′ n) o o′ f f′ = refl
   meet-kept c e (Out d t v p q) (In d′ t′ k p′ q′) o o′ f f′ = tests (eqb d d′ && eqb (c .loc) (e .loc))
     where
       tests : (b : Bool) → okA (goodLeft w) (cond b (accepted (handed c e d (valueIn (c .vals) v) p k p′)) (refused 11)) ≡ true
@@ -134,7 +136,7 @@ module _ (w : List ℕ) (good : scriptOk w ≡ true) where
           (and-in _ _ (left-ok w (c .loc) (c .loc) p′ (set (e .vals) k (valueIn (c .vals) v)) (f .loc) (f .loc) (omega (arith, s .first .lesser, f′ .place)) (length-set (e .vals) k (valueIn (c .vals) v) ∙ f′ .slots) (every-set (inRange w) (e .vals) k (valueIn (c .vals) v) (f′ .vals) (lt-ltb _ _ b))) refl)
 
   pub alone-kept : (k : Kind) (c : Comp) → CompFine w c → okA (goodLeft w) (aloneAt w k c) ≡ true
-  unfolding aloneAt
+  unfolding aloneAt fitsAlone
   alone-kept k c f = go (ltb (c .mark) 64)
     where
       go : (b : Bool) → okA (goodLeft w) (cond b (refused 9) (becomesAt w k c (headAt w (c .place)))) ≡ true
@@ -142,7 +144,7 @@ module _ (w : List ℕ) (good : scriptOk w ≡ true) where
       go false = becomes-kept k c (headAt w (c .place)) (part-fine w good (c .place) (f .place) .head) f
 
   pub together-kept : (c e : Comp) → CompFine w c → CompFine w e → okA (goodLeft w) (togetherAt w c e) ≡ true
-  unfolding togetherAt
+  unfolding togetherAt fitsTogether
   together-kept c e f g = go (ltb (c .mark) 64 || ltb (e .mark) 64)
     where
       go : (b : Bool) → okA (goodLeft w) (cond b (refused 9) (meetAt c e (headAt w (c .place)) (headAt w (e .place)))) ≡ true
@@ -189,7 +191,7 @@ fresh-timer w i Stop e = refl
 fresh-timer w i (Go t v p) e = unfold timerOk in go-fine w i t v p e .timer
 fresh-timer w i (Out c t v p q) e = unfold timerOk in out-fine w i c t v p q e .timer
 fresh-timer w i (In c t k p q) e = unfold timerOk in in-fine w i c t k p q e .timer
-fresh-timer w i (Call d n a₀ a₁ a₂ a₃) e = refl
+fresh-timer w i (Call d n) e = refl
 
 less-ok : (t : ℕ) → timerOk t ≡ true → timerOk (lessRaw t) ≡ true
 unfolding timerOk lessRaw
@@ -229,7 +231,7 @@ module _ (w : List ℕ) (good : scriptOk w ≡ true) where
 
   else-kept : (c : Comp) (q : ℕ) → CompFine w c → q < c .place → every (compOk w) (orElse w c q) ≡ true
   unfolding orElse
-  else-kept c q f h = go (eqb (c .timer) 0)
+  else-kept c q f h = go (expiredAt c)
     where
       go : (b : Bool) → every (compOk w) (cond b (splitAt w (c .loc) (c .vals) q) (timed c (lessRaw (c .timer)) ∷ [])) ≡ true
       go true = split-kept (c .loc) (c .vals) (f .loc) (f .slots) (f .vals) q (omega (arith, f .place))
@@ -241,7 +243,7 @@ module _ (w : List ℕ) (good : scriptOk w ≡ true) where
   wait-kept c (Go t v p) f e = timed-kept c (lessRaw (c .timer)) f (less-ok (c .timer) (f .timer))
   wait-kept c (Out d t v p q) f e = else-kept c q f (out-fine w (c .place) d t v p q e .second .lesser)
   wait-kept c (In d t k p q) f e = else-kept c q f (in-fine w (c .place) d t k p q e .second .lesser)
-  wait-kept c (Call d n a₀ a₁ a₂ a₃) f e = one-kept c f
+  wait-kept c (Call d n) f e = one-kept c f
 
   pass-kept : (l : ℕ) (c : Comp) → CompFine w c → every (compOk w) (passed w l c) ≡ true
   unfolding passed
@@ -270,7 +272,7 @@ split-some w l vs i = omega arith
 
 else-some : (w : List ℕ) (c : Comp) (q : ℕ) → 0 < length (orElse w c q)
 unfolding orElse
-else-some w c q = cond-some (eqb (c .timer) 0) _ _ (split-some w (c .loc) (c .vals) q) (omega arith)
+else-some w c q = cond-some (expiredAt c) _ _ (split-some w (c .loc) (c .vals) q) (omega arith)
 
 wait-some : (w : List ℕ) (c : Comp) (h : Head) → 0 < length (waited w c h)
 unfolding waited
@@ -278,7 +280,7 @@ wait-some w c Stop = omega arith
 wait-some w c (Go t v p) = omega arith
 wait-some w c (Out d t v p q) = else-some w c q
 wait-some w c (In d t k p q) = else-some w c q
-wait-some w c (Call d n a₀ a₁ a₂ a₃) = omega arith
+wait-some w c (Call d n) = omega arith
 
 pub pass-some : (w : List ℕ) (l : ℕ) (c : Comp) → 0 < length (passed w l c)
 unfolding passed

@@ -9,15 +9,9 @@ pub mod Kept
 pub mod Tags
 pub mod Names
 pub mod WordsHead
-pub mod NamesForm
 pub mod ValidBool
 pub mod ValidLists
 pub mod InUse
 pub mod Stores
-pub mod ValidScopes
-pub mod ValidParts
-pub mod ValidLeaves
-pub mod ValidRoots
-pub mod NamesRows
+pub mod Rows
 pub mod ValidDefs
-pub mod ValidWhole

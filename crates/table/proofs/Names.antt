@@ -1,13 +1,13 @@
 -- A name's letters determine the words that hold it: words below 2^32 with the same letters are the same.
 -- By induction on the bytes: the first byte and the stripped rest can be read off a stripped list, since what is cut off is zeros.
-use Prim.Native.Nat.{ℕ, _/_, _%_, _<_}
+use Prim.Native.Nat.{ℕ, _/_, _%_, _≤_, _<_}
 use native.Mathlib.Omega.{arith}
 use mathlib.Core.List.{List, [], _∷_}
 use mathlib.Core.Bool.{Bool, true, false, cond}
 use mathlib.Core.Path.{_≡_, refl, ap, sym, _∙_}
-use lib.Dec.{eqb}
+use lib.Dec.{eqb, leb}
 use lib.ListN.{length, getD, drop}
-use borrow.Author.Tests.{eq-eqb, ne-eqb, eqb-true, eqb-false}
+use borrow.Author.Tests.{eq-eqb, ne-eqb, eqb-true, eqb-false, le-leb}
 use Rattle.terms.specs.Names.{Name, sameName}
 use Rattle.terms.proofs.Names.{eqb-eq, name-eq}
 use Rattle.table.specs.declared.Key.{Key}
@@ -130,3 +130,25 @@ name-sym [] [] = refl
 name-sym [] (b ∷ v) = refl
 name-sym (a ∷ u) [] = refl
 name-sym (a ∷ u) (b ∷ v) = rw (eqb-sym a b, name-sym u v)
+
+-- ── what strip keeps, and at most 16 letters ──
+pub strip-more : (b : ℕ) (l : List ℕ) → (strip l ≡ [] → ⊥) → strip (b ∷ l) ≡ b ∷ strip l
+unfolding strip
+strip-more b l = go (strip l)
+  where
+    go : (r : List ℕ) → (r ≡ [] → ⊥) → cond (isZero r b) [] (b ∷ r) ≡ b ∷ r
+    go [] h = absurd (h refl)
+    go (c ∷ r) h = refl
+
+strip-length : (l : List ℕ) → length (strip l) ≤ length l
+unfolding strip
+strip-length [] = omega arith
+strip-length (b ∷ l) = go (isZero (strip l) b) (strip-length l)
+  where
+    go : (t : Bool) → length (strip l) ≤ length l → length (cond t [] (b ∷ strip l)) ≤ length (b ∷ l)
+    go true h = omega arith
+    go false h = omega arith
+
+pub short-enough : (k : Key) → leb (length (keyName k)) 16 ≡ true
+unfolding letters
+short-enough k = le-leb (length (keyName k)) 16 (strip-length _)

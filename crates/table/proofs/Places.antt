@@ -6,15 +6,24 @@ use mathlib.Core.List.{List}
 use mathlib.Core.Bool.{true}
 use mathlib.Core.Path.{_≡_, refl}
 use lib.Dec.{ltb, eqb}
+use lib.ListN.{getD}
 use Rattle.terms.specs.Terms.{Part, Process}
 use Rattle.terms.proofs.Names.{and-inv}
 use Rattle.terms.specs.Letters.{isSmall}
 use Rattle.table.specs.declared.Head.{Head}
 use Rattle.table.specs.declared.Head.the-variants.{Stop, Go, Out, In, Call}
-use Rattle.table.specs.Words.{partsIn, chansIn, headAt, nextAt, boundAt, scopeAt, namesAt}
+use Rattle.table.specs.Words.{partsIn, chansIn, headAt, argAt, argWords, nextAt, scopeAt, namesAt, boundAt}
 use Rattle.table.specs.Meaning.{partOf, joined, deep, processAt, partAt}
 use Rattle.table.specs.Valid.{index, timerOk, refOk, innerOk, entered, headOk, nextOk, scriptOk}
 use Rattle.table.proofs.Tests.{Inner, inner, part-fine}
+
+-- ── the arguments of a call, by number ──
+pub args-at : (w : List ℕ) (i k : ℕ) → k < 4 → getD (argWords w i) k 0 ≡ argAt w i k
+args-at w i zero h = refl
+args-at w i (suc zero) h = refl
+args-at w i (suc (suc zero)) h = refl
+args-at w i (suc (suc (suc zero))) h = refl
+args-at w i (suc (suc (suc (suc k)))) h = absurd (omega arith)
 
 -- ── the inner processes of a head ──
 pub record GoFine (w : List ℕ) (i t v p : ℕ) : Type 0 where
@@ -64,13 +73,13 @@ in-fine w i c t k p q e =
     record { channel = z .0; timer = a .0; form = b .0; slot = s .0; first = inner w i p _ (d .0); second = inner w i q _ (d .1) }
 
 -- ── what a process is, at any depth ──
-part-agree : (w : List ℕ) (f g : ℕ → Process) (i : ℕ) (h : Head) → headOk w i h ≡ true → ((j : ℕ) → j < i → f j ≡ g j) → partOf w f (namesAt w i) (boundAt w i) h ≡ partOf w g (namesAt w i) (boundAt w i) h
+part-agree : (w : List ℕ) (f g : ℕ → Process) (i : ℕ) (h : Head) → headOk w i h ≡ true → ((j : ℕ) → j < i → f j ≡ g j) → partOf w f i h ≡ partOf w g i h
 unfolding partOf
 part-agree w f g i Stop o e = refl
 part-agree w f g i (Go t v p) o e = rw (e p (go-fine w i t v p o .first .lesser))
 part-agree w f g i (Out c t v p q) o e = let r = out-fine w i c t v p q o in rw (e p (r .first .lesser), e q (r .second .lesser))
 part-agree w f g i (In c t k p q) o e = let r = in-fine w i c t k p q o in rw (e p (r .first .lesser), e q (r .second .lesser))
-part-agree w f g i (Call d n a₀ a₁ a₂ a₃) o e = refl
+part-agree w f g i (Call d n) o e = refl
 
 joined-agree : (w : List ℕ) (f g : ℕ → Process) (i : ℕ) (a b : Part) (n : ℕ) → nextOk w i n ≡ true → a ≡ b → ((j : ℕ) → j < i → f j ≡ g j) → joined f a n ≡ joined g b n
 unfolding joined nextOk

@@ -23,7 +23,7 @@ module _ (w : List ℕ) where
   P j = processAt w j
 
   abbrev partIs : ℕ → Head → Part
-  partIs i h = partOf w P (namesAt w i) (boundAt w i) h
+  partIs i h = partOf w P i h
 
   part-size : (i : ℕ) (h : Head) → stacked w i h ≡ true → headOk w i h ≡ true → ((j : ℕ) → j < i → sizeP (P j) + lowAt w j ≡ suc j) → size (partIs i h) + floor w i h ≡ suc i
   unfolding stacked floor size partOf
@@ -37,7 +37,7 @@ module _ (w : List ℕ) where
       let a = and-inv (eqb (suc p) i) _ e in
       let r = in-fine w i c t y p q o in
       omega (arith, k p (r .first .lesser), k q (r .second .lesser), eqb-true (suc p) i (a .0), eqb-true (suc q) (lowAt w p) (a .1))
-  part-size i (Call d n a₀ a₁ a₂ a₃) e o k = omega arith
+  part-size i (Call d n) e o k = omega arith
 
   join-size : (i f : ℕ) (a : Part) (n : ℕ) → size a + f ≡ suc i → lowOk w (lowAt w i) f n ≡ true → nextOk w i n ≡ true → ((j : ℕ) → j < i → sizeP (P j) + lowAt w j ≡ suc j) → sizeP (joined P a n) + lowAt w i ≡ suc i
   unfolding sizeP joined lowOk nextOk

@@ -16,7 +16,7 @@ use Rattle.terms.specs.Terms.Component.{comp}
 use Rattle.terms.specs.Substitution.{Env, sub, subP}
 use Rattle.terms.specs.Rules.{wait, split, pass}
 use Rattle.terms.specs.Clock.{ticksOf, lessRaw}
-use Rattle.terms.proofs.Clock.{expired-is, less-raw}
+use Rattle.terms.proofs.Clock.{less-raw}
 use Rattle.terms.specs.Letters.{isLocation}
 use Rattle.table.specs.declared.Head.{Head}
 use Rattle.table.specs.declared.Head.the-variants.{Stop, Go, Out, In, Call}
@@ -24,19 +24,19 @@ use Rattle.table.specs.declared.Comp.{Comp}
 use Rattle.table.specs.Words.{partsIn, locsIn, locName, headAt, nextAt, boundAt, scopeAt, namesAt}
 use Rattle.table.specs.Meaning.{partOf, joined, processAt, partAt, withTimer, envAt, markOf, processOf, means}
 use Rattle.table.specs.Valid.{headOk, nextOk, scriptOk, markOk}
-use Rattle.table.specs.Split.{timerIn, fresh, andThen, partsFrom, splitAt, timed, orElse, waited, passed}
+use Rattle.table.specs.Split.{timerIn, fresh, andThen, partsFrom, splitAt, timed, orElse, waited, passed, expiredAt}
 use Rattle.table.proofs.Tests.{Inner, inner, part-fine, script-fine, CompFine, held-once}
 use Rattle.table.proofs.Places.{out-fine, in-fine, process-is}
 
 -- ── timers ──
 -- a part's own timer put for its timer changes nothing
-own-timer : (w : List ℕ) (f : ℕ → Process) (ys : List Name) (y : Name) (h : Head) (e : Env) → withTimer (ticksOf (timerIn h)) (sub (partOf w f ys y h) e) ≡ sub (partOf w f ys y h) e
+own-timer : (w : List ℕ) (f : ℕ → Process) (i : ℕ) (h : Head) (e : Env) → withTimer (ticksOf (timerIn h)) (sub (partOf w f i h) e) ≡ sub (partOf w f i h) e
 unfolding withTimer timerIn sub partOf
-own-timer w f ys y Stop e = refl
-own-timer w f ys y (Go t v p) e = refl
-own-timer w f ys y (Out c t v p q) e = refl
-own-timer w f ys y (In c t k p q) e = refl
-own-timer w f ys y (Call d n a₀ a₁ a₂ a₃) e = refl
+own-timer w f i Stop e = refl
+own-timer w f i (Go t v p) e = refl
+own-timer w f i (Out c t v p q) e = refl
+own-timer w f i (In c t k p q) e = refl
+own-timer w f i (Call d n) e = refl
 
 -- ── the mark ──
 pub unmarked-is : (w : List ℕ) (c : Comp) → ltb (c .mark) 64 ≡ false
@@ -72,7 +72,7 @@ module _ (w : List ℕ) (good : scriptOk w ≡ true) where
   unfolding fresh partAt
   fresh-means l i vs =
       unmarked-is w (fresh w l vs i) refl
-      ∙ ap (λ a. comp (locName w l) none (one a)) (own-timer w (processAt w) (namesAt w i) (boundAt w i) (headAt w i) (envAt w i vs))
+      ∙ ap (λ a. comp (locName w l) none (one a)) (own-timer w (processAt w) i (headAt w i) (envAt w i vs))
 
   rest-means : (l i : ℕ) (vs : List ℕ) (f : ℕ → List Comp) (n : ℕ) → nextOk w i n ≡ true
       → ((j : ℕ) → j < i → map (means w) (f j) ≡ split (locName w l) (subP (processAt w j) (envAt w j vs)))
@@ -110,8 +110,8 @@ module _ (w : List ℕ) (good : scriptOk w ≡ true) where
       → ((u : Timer) → withTimer u (sub (partAt w (c .place)) (envAt w (c .place) (c .vals))) ≡ a u)
       → map (means w) (orElse w c q)
       ≡ split (locName w (c .loc)) (cond (expired (ticksOf (c .timer))) (subP (processAt w q) (envAt w (c .place) (c .vals))) (one (a (less (ticksOf (c .timer))))))
-  unfolding orElse
-  else-means c q a b u r h = rw (expired-is (c .timer)) (go (eqb (c .timer) 0))
+  unfolding orElse expiredAt
+  else-means c q a b u r h = go (expiredAt c)
     where
       go : (z : Bool) → map (means w) (cond z (splitAt w (c .loc) (c .vals) q) (timed c (lessRaw (c .timer)) ∷ []))
           ≡ split (locName w (c .loc)) (cond z (subP (processAt w q) (envAt w (c .place) (c .vals))) (one (a (less (ticksOf (c .timer))))))
@@ -120,13 +120,13 @@ module _ (w : List ℕ) (good : scriptOk w ≡ true) where
 
   wait-means : (c : Comp) (h : Head) → headAt w (c .place) ≡ h → headOk w (c .place) h ≡ true → c .place < partsIn w → ltb (c .mark) 64 ≡ false
       → map (means w) (waited w c h)
-      ≡ split (locName w (c .loc)) (wait (withTimer (ticksOf (c .timer)) (sub (partOf w (processAt w) (namesAt w (c .place)) (boundAt w (c .place)) h) (envAt w (c .place) (c .vals)))))
+      ≡ split (locName w (c .loc)) (wait (withTimer (ticksOf (c .timer)) (sub (partOf w (processAt w) (c .place) h) (envAt w (c .place) (c .vals)))))
   unfolding waited wait withTimer sub partOf split partAt
   wait-means c Stop e o b u = rw (unmarked-is w c u, e)
   wait-means c (Go t v p) e o b u = rw (timed-means c (lessRaw (c .timer)) u, less-raw (c .timer), e)
   wait-means c (Out d t v p q) e o b u = else-means c q (λ z. withTimer z (sub (partAt w (c .place)) (envAt w (c .place) (c .vals)))) b u (out-fine w (c .place) d t v p q o .second) (λ z. refl) ∙ rw e
   wait-means c (In d t k p q) e o b u = else-means c q (λ z. withTimer z (sub (partAt w (c .place)) (envAt w (c .place) (c .vals)))) b u (in-fine w (c .place) d t k p q o .second) (λ z. refl) ∙ rw e
-  wait-means c (Call d n a₀ a₁ a₂ a₃) e o b u = rw (unmarked-is w c u, e)
+  wait-means c (Call d n) e o b u = rw (unmarked-is w c u, e)
 
   -- ── the tick, of one component ──
   pub passed-means : (l : ℕ) (c : Comp) → l < locsIn w → CompFine w c → map (means w) (passed w l c) ≡ pass (λ m. sameName m (locName w l)) (locName w l) (means w c)

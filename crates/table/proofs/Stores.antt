@@ -12,7 +12,7 @@ use lib.Seq.{sets, getD-set-same, getD-set-other}
 use Rattle.terms.specs.Rules as R
 use Rattle.table.specs.declared.Comp.{Comp}
 use Rattle.table.specs.declared.State.{State}
-use Rattle.table.specs.Words.{compSize, stateWords, word}
+use Rattle.table.specs.Words.{compSize, compUsed, stateWords, word}
 use Rattle.table.specs.Meaning.{listFrom, compIn, wordsIn, PastKept, compsOf}
 
 pub set-out : (l : List ℕ) (i j a : ℕ) → (j ≡ i → ⊥) → word (set l i a) j ≡ word l j
@@ -57,17 +57,17 @@ module _ (c : List ℕ) (p : ℕ) (x : Comp) where
   abbrev after : List ℕ
   after = sets c (p * compSize) (wordsIn x)
 
-  module _ (k : ℕ) (d : k ≡ p → ⊥) where
-    same : (j : ℕ) → j < 12 → word after (k * compSize + j) ≡ word c (k * compSize + j)
-    same j h = go (ltb k p) refl
-      where
-        -- the position lies behind
-        behind : (ltb k p ≡ false) → p < k
-        behind e = let n : p ≤ k = ltb-false k p e in let m : k ≡ p → ⊥ = d in omega arith
+  -- word j of the position k, which lies behind or is a spare one
+  beside : (k j : ℕ) → j < compSize → (p ≤ k → p * compSize + compUsed ≤ k * compSize + j) → word after (k * compSize + j) ≡ word c (k * compSize + j)
+  beside k j h far = go (ltb k p) refl
+    where
+      go : (b : Bool) → ltb k p ≡ b → word after (k * compSize + j) ≡ word c (k * compSize + j)
+      go true e = let l : k < p = ltb-true k p e in sets-under (wordsIn x) c (p * compSize) (k * compSize + j) (omega arith)
+      go false e = sets-past (wordsIn x) c (p * compSize) (k * compSize + j) (far (ltb-false k p e))
 
-        go : (b : Bool) → ltb k p ≡ b → word after (k * compSize + j) ≡ word c (k * compSize + j)
-        go true e = let l : k < p = ltb-true k p e in sets-under (wordsIn x) c (p * compSize) (k * compSize + j) (omega arith)
-        go false e = let g : p < k = behind e in sets-past (wordsIn x) c (p * compSize) (k * compSize + j) (omega arith)
+  module _ (k : ℕ) (d : k ≡ p → ⊥) where
+    same : (j : ℕ) → j < compUsed → word after (k * compSize + j) ≡ word c (k * compSize + j)
+    same j h = beside k j (omega arith) (λ b. let m : k ≡ p → ⊥ = d in omega arith)
 
     first : word after (k * compSize) ≡ word c (k * compSize)
     first = let e : k * compSize ≡ k * compSize + 0 = omega arith in ap (word after) e ∙ same 0 (omega arith) ∙ ap (word c) (sym e)
@@ -78,8 +78,8 @@ module _ (c : List ℕ) (p : ℕ) (x : Comp) where
         rw
         (first, same 1 (omega arith), same 2 (omega arith), same 3 (omega arith), same 4 (omega arith), same 5 (omega arith), same 6 (omega arith), same 7 (omega arith), same 8 (omega arith), same 9 (omega arith), same 10 (omega arith), same 11 (omega arith))
 
-  module _ (room : p * compSize + 12 ≤ length c) where
-    stored : (j : ℕ) → j < 12 → word after (p * compSize + j) ≡ getD (wordsIn x) j 0
+  module _ (room : p * compSize + compUsed ≤ length c) where
+    stored : (j : ℕ) → j < compUsed → word after (p * compSize + j) ≡ getD (wordsIn x) j 0
     stored j h = sets-in (wordsIn x) c (p * compSize) j (omega arith) room
 
     head : word after (p * compSize) ≡ x .loc
@@ -104,15 +104,18 @@ module _ (c : List ℕ) (p : ℕ) (x : Comp) where
         (head, stored 1 (omega arith), stored 2 (omega arith), stored 3 (omega arith), stored 4 (omega arith), stored 5 (omega arith), stored 6 (omega arith), stored 7 (omega arith), stored 8 (omega arith), stored 9 (omega arith), stored 10 (omega arith), stored 11 (omega arith))
         (ap (λ v. record { loc = x .loc; mark = x .mark; place = x .place; timer = x .timer; vals = v }) (eight (x .vals) e))
 
--- ── past the components in use ──
+-- ── words of no component in use ──
 pub past-put : (c : List ℕ) (k p : ℕ) (x : Comp) → p < k → PastKept k c (sets c (p * compSize) (wordsIn x))
-past-put c k p x h = record { words = λ o b. sets-past (wordsIn x) c (p * compSize) o (omega arith) }
+past-put c k p x h = record { words = λ o b. sets-past (wordsIn x) c (p * compSize) o (omega arith); spare = λ i j l m. beside c p x i j m (λ b. omega arith) }
 
 pub past-none : (k : ℕ) (c : List ℕ) → PastKept k c c
-past-none k c = record { words = λ o b. refl }
+past-none k c = record { words = λ o b. refl; spare = λ i j l m. refl }
 
 pub past-then : {j k : ℕ} {a b c : List ℕ} → j ≤ k → PastKept j a b → PastKept k b c → PastKept k a c
-past-then h p q = record { words = λ o b. q .words o b ∙ p .words o (omega arith) }
+past-then h p q = record { words = λ o b. q .words o b ∙ p .words o (omega arith); spare = λ i j l m. q .spare i j l m ∙ p .spare i j l m }
+
+pub past-to : {j k : ℕ} {a b : List ℕ} → j ≤ k → PastKept j a b → PastKept k a b
+past-to h p = past-then h p (past-none _ _)
 
 -- ── a list by numbers, of which one is another ──
 pub listFrom-same : {A : Type 0} (k n : ℕ) (f g : ℕ → A) → ((j : ℕ) → k ≤ j → g j ≡ f j) → listFrom k n g ≡ listFrom k n f

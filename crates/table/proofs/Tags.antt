@@ -22,7 +22,7 @@ use Rattle.table.specs.declared.Comp.{Comp}
 use Rattle.table.specs.Words.{locsIn, chansIn, defsIn, locName, chanName, defName, headAt, namesAt}
 use Rattle.table.specs.Meaning.{listFrom}
 use Rattle.table.specs.Valid.{index, sortOk, headOk, scriptOk, compOk}
-use Rattle.table.specs.Fire.{Tag, callTag, moveTag, sendTag, labelOf, tagIn, tagHeld, Left, ActedAt, valueIn, becomesAt, handed, meetAt, aloneAt, togetherAt, leftBy, actOn}
+use Rattle.table.specs.Fire.{Tag, callTag, moveTag, sendTag, labelOf, tagIn, tagHeld, Left, ActedAt, valueIn, becomesAt, handed, meetAt, aloneAt, togetherAt, leftBy, actOn, fitsAlone, fitsTogether}
 use Rattle.table.proofs.Tests.{part-fine, script-fine, CompFine, comp-fine, held-once}
 use Rattle.table.proofs.Places.{go-fine, out-fine}
 use Rattle.table.proofs.Fires.{every-at}
@@ -79,23 +79,23 @@ module _ (w : List ℕ) (good : scriptOk w ≡ true) where
   becomes-tagged calls c (Go t v p) o f = tt
   becomes-tagged calls c (Out d t v p q) o f = tt
   becomes-tagged calls c (In d t k p q) o f = tt
-  becomes-tagged calls c (Call d n a₀ a₁ a₂ a₃) o f = unfold headOk in call-tag d (c .loc) (ltb-true d (defsIn w) (and-inv (ltb d (defsIn w)) _ o .0)) (f .loc)
+  becomes-tagged calls c (Call d n) o f = unfold headOk in call-tag d (c .loc) (ltb-true d (defsIn w) (and-inv (ltb d (defsIn w)) _ o .0)) (f .loc)
   becomes-tagged moves c Stop o f = tt
   becomes-tagged moves c (Go t v p) o f = move-tag (valueIn (c .vals) v) (c .loc) (value-in w (namesAt w (c .place)) (c .vals) v (go-fine w (c .place) t v p o .value) (enough w good c f) (f .vals)) (f .loc)
   becomes-tagged moves c (Out d t v p q) o f = tt
   becomes-tagged moves c (In d t k p q) o f = tt
-  becomes-tagged moves c (Call d n a₀ a₁ a₂ a₃) o f = tt
+  becomes-tagged moves c (Call d n) o f = tt
 
   meet-tagged : (c e : Comp) (g h : Head) → headOk w (c .place) g ≡ true → CompFine w c → tagged w (meetAt c e g h)
   unfolding meetAt handed
   meet-tagged c e Stop h o f = tt
   meet-tagged c e (Go t v p) h o f = tt
   meet-tagged c e (In d t k p q) h o f = tt
-  meet-tagged c e (Call d n a₀ a₁ a₂ a₃) h o f = tt
+  meet-tagged c e (Call d n) h o f = tt
   meet-tagged c e (Out d t v p q) Stop o f = tt
   meet-tagged c e (Out d t v p q) (Go t′ v′ p′) o f = tt
   meet-tagged c e (Out d t v p q) (Out d′ t′ v′ p′ q′) o f = tt
-  meet-tagged c e (Out d t v p q) (Call d′ n a₀ a₁ a₂ a₃) o f = tt
+  meet-tagged c e (Out d t v p q) (Call d′ n) o f = tt
   meet-tagged c e (Out d t v p q) (In d′ t′ k p′ q′) o f = tests (eqb d d′ && eqb (c .loc) (e .loc))
     where
       tests : (b : Bool) → tagged w (cond b (accepted (handed c e d (valueIn (c .vals) v) p k p′)) (refused 11))
@@ -105,7 +105,7 @@ module _ (w : List ℕ) (good : scriptOk w ≡ true) where
           send-tag d (valueIn (c .vals) v) (c .loc) (ltb-true d (chansIn w) (r .channel)) (value-in w (namesAt w (c .place)) (c .vals) v (r .value) (enough w good c f) (f .vals)) (f .loc)
 
   alone-tagged : (k : Kind) (c : Comp) → CompFine w c → tagged w (aloneAt w k c)
-  unfolding aloneAt
+  unfolding aloneAt fitsAlone
   alone-tagged k c f = go (ltb (c .mark) 64)
     where
       go : (b : Bool) → tagged w (cond b (refused 9) (becomesAt w k c (headAt w (c .place))))
@@ -113,7 +113,7 @@ module _ (w : List ℕ) (good : scriptOk w ≡ true) where
       go false = becomes-tagged k c (headAt w (c .place)) (part-fine w good (c .place) (f .place) .head) f
 
   together-tagged : (c e : Comp) → CompFine w c → tagged w (togetherAt w c e)
-  unfolding togetherAt
+  unfolding togetherAt fitsTogether
   together-tagged c e f = go (ltb (c .mark) 64 || ltb (e .mark) 64)
     where
       go : (b : Bool) → tagged w (cond b (refused 9) (meetAt c e (headAt w (c .place)) (headAt w (e .place))))

@@ -15,7 +15,7 @@ use Rattle.terms.proofs.Names.{and-inv, and-in, name-eq, name-refl}
 use Rattle.terms.specs.Letters.{isLocation, isSmall, isIdentifier, member, distinct}
 use Rattle.table.specs.declared.Comp.{Comp}
 use Rattle.table.specs.declared.State.{State}
-use Rattle.table.specs.Words.{partsIn, locsIn, chansIn, defsIn, locName, chanName, arityOf, bodyOf, defName, paramsAt, paramsOf, field, headAt, nextAt, scopeAt}
+use Rattle.table.specs.Words.{partsIn, locsIn, chansIn, defsIn, locName, chanName, arityOf, bodyOf, defName, paramsAt, paramsOf, field, headAt, nextAt, scopeAt, kindField}
 use Rattle.table.specs.Meaning.{listFrom, compsOf}
 use Rattle.table.specs.Valid.{below, alike, timerOk, innerOk, headOk, nextOk, scopeOk, treeOk, partOk, defOk, sortOk, scriptOk, markOk, compOk, stateOk}
 
@@ -66,7 +66,7 @@ pub record PartFine (w : List ℕ) (i : ℕ) : Type 0 where
 part-parts : (w : List ℕ) (i : ℕ) → partOk w i ≡ true → PartFine w i
 unfolding partOk
 part-parts w i e =
-    let a = and-inv (leb (field w i 0) 4) _ e in
+    let a = and-inv (leb (field w i kindField) 4) _ e in
     let b = and-inv (scopeOk w i) _ (a .1) in
     let c = and-inv (headOk w i (headAt w i)) _ (b .1) in
     let d = and-inv (nextOk w i (nextAt w i)) _ (c .1) in

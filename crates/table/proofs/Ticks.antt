@@ -20,16 +20,15 @@ use Rattle.terms.specs.Rules.Kind.{calls, moves}
 use Rattle.terms.specs.Rules.Firing.{alone, together}
 use Rattle.terms.specs.Clock.{ticksOf}
 use Rattle.terms.proofs.Names.{and-inv}
-use Rattle.terms.proofs.Clock.{due-is}
 use Rattle.terms.proofs.Forced.{presses, forced-is}
 use Rattle.table.specs.declared.Head.{Head}
 use Rattle.table.specs.declared.Head.the-variants.{Stop, Go, Out, In, Call}
 use Rattle.table.specs.declared.Comp.{Comp}
 use Rattle.table.specs.Words.{locsIn, locName, headAt, boundAt, namesAt}
-use Rattle.table.specs.Meaning.{partOf, processAt, partAt, defsOf, withTimer, envAt, means}
+use Rattle.table.specs.Meaning.{partOf, processAt, partAt, contextOf, withTimer, envAt, means}
 use Rattle.table.specs.Valid.{scriptOk, compOk}
-use Rattle.table.specs.Split.{passed}
-use Rattle.table.specs.Fire.{Left, becomesAt, handed, meetAt, aloneAt, togetherAt, readyAt, hears, pressesAt, forcedAt, passedAll, valueIn}
+use Rattle.table.specs.Split.{dueAt, passed}
+use Rattle.table.specs.Fire.{Left, becomesAt, handed, meetAt, aloneAt, togetherAt, readyAt, sentOn, hears, mustAct, heardAt, pressesAt, forcedAt, passedAll, valueIn, fitsAlone, fitsTogether}
 use Rattle.table.proofs.Tests.{CompFine, comp-fine}
 use Rattle.table.proofs.Splits.{unmarked-is, marked-is, loc-eqb, passed-means}
 use Rattle.table.proofs.Fires.{mapA, firedOf, alone-means, together-means, map-append}
@@ -72,51 +71,51 @@ meets Stop h = false
 meets (Go t v p) h = false
 meets (Out d t v p q) h = hears d h
 meets (In d t k p q) h = false
-meets (Call d n a₀ a₁ a₂ a₃) h = false
+meets (Call d n) h = false
 
 meets-if : (c e : Comp) (g h : Head) → eqb (c .loc) (e .loc) ≡ true → ok (meetAt c e g h) ≡ meets g h
 unfolding meets hears meetAt
 meets-if c e Stop h q = refl
 meets-if c e (Go t v p) h q = refl
 meets-if c e (In d t k p r) h q = refl
-meets-if c e (Call d n a₀ a₁ a₂ a₃) h q = refl
+meets-if c e (Call d n) h q = refl
 meets-if c e (Out d t v p r) Stop q = refl
 meets-if c e (Out d t v p r) (Go t₂ v₂ p₂) q = refl
 meets-if c e (Out d t v p r) (Out d₂ t₂ v₂ p₂ q₂) q = refl
-meets-if c e (Out d t v p r) (Call d₂ n a₀ a₁ a₂ a₃) q = refl
+meets-if c e (Out d t v p r) (Call d₂ n) q = refl
 meets-if c e (Out d t v p r) (In d₂ t₂ k p₂ q₂) q = rw q (go (eqb d d₂))
   where
     go : (b : Bool) → ok {A = Left} (cond (b && true) (accepted (handed c e d (valueIn (c .vals) v) p k p₂)) (refused 11)) ≡ b
     go true = refl
     go false = refl
 
-unfoldable pub isDue : ℕ → Head → Bool
-isDue t Stop = false
-isDue t (Go u v p) = eqb t 0
-isDue t (Out d u v p q) = false
-isDue t (In d u k p q) = false
-isDue t (Call d n a₀ a₁ a₂ a₃) = false
+unfoldable pub isDue : Comp → Head → Bool
+isDue c Stop = false
+isDue c (Go u v p) = dueAt c
+isDue c (Out d u v p q) = false
+isDue c (In d u k p q) = false
+isDue c (Call d n) = false
 
-due-means : (w : List ℕ) (l : Name) (m : Mark) (t : ℕ) (f : ℕ → Process) (ys : List Name) (y : Name) (h : Head) (e : Env) → dueGo (comp l m (one (withTimer (ticksOf t) (sub (partOf w f ys y h) e)))) ≡ isDue t h
-unfolding dueGo isDue withTimer sub partOf
-due-means w l m t f ys y Stop e = refl
-due-means w l m t f ys y (Go u v p) e = due-is t
-due-means w l m t f ys y (Out d u v p q) e = refl
-due-means w l m t f ys y (In d u k p q) e = refl
-due-means w l m t f ys y (Call d n a₀ a₁ a₂ a₃) e = refl
+due-means : (w : List ℕ) (l : Name) (m : Mark) (c : Comp) (f : ℕ → Process) (h : Head) (e : Env) → dueGo (comp l m (one (withTimer (ticksOf (c .timer)) (sub (partOf w f (c .place) h) e)))) ≡ isDue c h
+unfolding dueGo isDue dueAt withTimer sub partOf
+due-means w l m c f Stop e = refl
+due-means w l m c f (Go u v p) e = refl
+due-means w l m c f (Out d u v p q) e = refl
+due-means w l m c f (In d u k p q) e = refl
+due-means w l m c f (Call d n) e = refl
 
 presses-by : (w : List ℕ) (l : ℕ) (cs : List Comp) (c : Comp) (h : Head)
-    → ((ok (becomesAt w calls c h) || (isDue (c .timer) h && ok (becomesAt w moves c h))) || some (λ e. readyAt l e && meets h (headAt w (e .place))) cs) ≡ pressesAt w l cs (c .timer) h
-unfolding isDue meets becomesAt pressesAt
+    → ((ok (becomesAt w calls c h) || (isDue c h && ok (becomesAt w moves c h))) || some (λ e. readyAt l e && meets h (headAt w (e .place))) cs) ≡ mustAct (heardAt w l cs (sentOn h)) c h
+unfolding isDue meets becomesAt mustAct heardAt sentOn
 presses-by w l cs c Stop = some-none (readyAt l) cs
-presses-by w l cs c (Go u v p) = rw (some-none (readyAt l) cs) (go (eqb (c .timer) 0))
+presses-by w l cs c (Go u v p) = rw (some-none (readyAt l) cs) (go (dueAt c))
   where
     go : (b : Bool) → ((b && true) || false) ≡ b
     go true = refl
     go false = refl
 presses-by w l cs c (Out d u v p q) = refl
 presses-by w l cs c (In d u k p q) = some-none (readyAt l) cs
-presses-by w l cs c (Call d n a₀ a₁ a₂ a₃) = refl
+presses-by w l cs c (Call d n) = refl
 
 module _ (w : List ℕ) (good : scriptOk w ≡ true) where
   pub ready-means : (l : ℕ) (c : Comp) → l < locsIn w → CompFine w c → ready (locName w l) (means w c) ≡ readyAt l c
@@ -127,10 +126,10 @@ module _ (w : List ℕ) (good : scriptOk w ≡ true) where
       go true e = unfold ready in rw (marked-is w c e)
       go false e = unfold ready in rw (unmarked-is w c e) (loc-eqb w good (c .loc) l (f .loc) h)
 
-  pub alone-ok : (k : Kind) (c : Comp) → CompFine w c → ok (fire (defsOf w) (alone k (means w c))) ≡ ok (aloneAt w k c)
+  pub alone-ok : (k : Kind) (c : Comp) → CompFine w c → ok (fire (contextOf w) (alone k (means w c))) ≡ ok (aloneAt w k c)
   alone-ok k c f = sym (ap ok (alone-means w good k c f)) ∙ ok-mapA (firedOf w) (aloneAt w k c)
 
-  pub together-ok : (c e : Comp) → CompFine w c → CompFine w e → ok (fire (defsOf w) (together (means w c) (means w e))) ≡ ok (togetherAt w c e)
+  pub together-ok : (c e : Comp) → CompFine w c → CompFine w e → ok (fire (contextOf w) (together (means w c) (means w e))) ≡ ok (togetherAt w c e)
   together-ok c e f g = sym (ap ok (together-means w good c e f g)) ∙ ok-mapA (firedOf w) (togetherAt w c e)
 
   -- a component ready at l: its mark and its location
@@ -148,47 +147,47 @@ module _ (w : List ℕ) (good : scriptOk w ≡ true) where
 
   -- the partner e of a component c that is ready at l
   pub partner-means : (l : ℕ) (c e : Comp) → l < locsIn w → CompFine w c → CompFine w e → Ready l c
-      → (ready (locName w l) (means w e) && ok (fire (defsOf w) (together (means w c) (means w e)))) ≡ (readyAt l e && meets (headAt w (c .place)) (headAt w (e .place)))
+      → (ready (locName w l) (means w e) && ok (fire (contextOf w) (together (means w c) (means w e)))) ≡ (readyAt l e && meets (headAt w (c .place)) (headAt w (e .place)))
   partner-means l c e h f g r = rw (ready-means l e h g, together-ok c e f g) (go (readyAt l e) refl)
     where
       go : (b : Bool) → readyAt l e ≡ b → (b && ok (togetherAt w c e)) ≡ (b && meets (headAt w (c .place)) (headAt w (e .place)))
       go false q = refl
       go true q =
           let s = is-ready l e q in
-          unfold togetherAt in rw (r .free, s .free) (meets-if c e (headAt w (c .place)) (headAt w (e .place)) (eq-eqb (c .loc) (e .loc) (r .here ∙ sym (s .here))))
+          unfold togetherAt fitsTogether in rw (r .free, s .free) (meets-if c e (headAt w (c .place)) (headAt w (e .place)) (eq-eqb (c .loc) (e .loc) (r .here ∙ sym (s .here))))
 
-  pub due-here : (c : Comp) → ltb (c .mark) 64 ≡ false → dueGo (means w c) ≡ isDue (c .timer) (headAt w (c .place))
+  pub due-here : (c : Comp) → ltb (c .mark) 64 ≡ false → dueGo (means w c) ≡ isDue c (headAt w (c .place))
   unfolding partAt
   due-here c e =
       ap dueGo (unmarked-is w c e)
-      ∙ due-means w (locName w (c .loc)) none (c .timer) (processAt w) (namesAt w (c .place)) (boundAt w (c .place)) (headAt w (c .place)) (envAt w (c .place) (c .vals))
+      ∙ due-means w (locName w (c .loc)) none c (processAt w) (headAt w (c .place)) (envAt w (c .place) (c .vals))
 
   urgent-here : (c : Comp) → CompFine w c → ltb (c .mark) 64 ≡ false
-      → urgent (defsOf w) (means w c) ≡ (ok (becomesAt w calls c (headAt w (c .place))) || (isDue (c .timer) (headAt w (c .place)) && ok (becomesAt w moves c (headAt w (c .place)))))
-  unfolding urgent aloneAt
+      → urgent (contextOf w) (means w c) ≡ (ok (becomesAt w calls c (headAt w (c .place))) || (isDue c (headAt w (c .place)) && ok (becomesAt w moves c (headAt w (c .place)))))
+  unfolding urgent aloneAt fitsAlone
   urgent-here c f e = rw (alone-ok calls c f, alone-ok moves c f, e, due-here c e)
 
   module _ (l : ℕ) (h : l < locsIn w) (cs : List Comp) (fine : every (compOk w) cs ≡ true) where
-    press-means : (c : Comp) → CompFine w c → presses (defsOf w) (locName w l) (map (means w) cs) (means w c) ≡ (readyAt l c && pressesAt w l cs (c .timer) (headAt w (c .place)))
-    unfolding presses
+    press-means : (c : Comp) → CompFine w c → presses (contextOf w) (locName w l) (map (means w) cs) (means w c) ≡ pressesAt w l cs c
+    unfolding presses pressesAt
     press-means c f = rw (ready-means l c h f) (go (readyAt l c) refl)
       where
-        partners : Ready l c → some (λ e. ready (locName w l) e && ok (fire (defsOf w) (together (means w c) e))) (map (means w) cs) ≡ some (λ e. readyAt l e && meets (headAt w (c .place)) (headAt w (e .place))) cs
+        partners : Ready l c → some (λ e. ready (locName w l) e && ok (fire (contextOf w) (together (means w c) e))) (map (means w) cs) ≡ some (λ e. readyAt l e && meets (headAt w (c .place)) (headAt w (e .place))) cs
         partners r =
-            some-map (λ e. ready (locName w l) e && ok (fire (defsOf w) (together (means w c) e))) (means w) cs
+            some-map (λ e. ready (locName w l) e && ok (fire (contextOf w) (together (means w c) e))) (means w) cs
             ∙ some-same _ _ (compOk w) cs fine (λ e g. partner-means l c e h f (comp-fine w e g) r)
 
         go : (b : Bool) → readyAt l c ≡ b
-            → (b && (urgent (defsOf w) (means w c) || some (λ e. ready (locName w l) e && ok (fire (defsOf w) (together (means w c) e))) (map (means w) cs)))
-            ≡ (b && pressesAt w l cs (c .timer) (headAt w (c .place)))
+            → (b && (urgent (contextOf w) (means w c) || some (λ e. ready (locName w l) e && ok (fire (contextOf w) (together (means w c) e))) (map (means w) cs)))
+            ≡ (b && mustAct (heardAt w l cs (sentOn (headAt w (c .place)))) c (headAt w (c .place)))
         go false q = refl
         go true q = let r = is-ready l c q in rw (urgent-here c f (r .free), partners r) (presses-by w l cs c (headAt w (c .place)))
 
-    pub forced-means : forced (defsOf w) (locName w l) (map (means w) cs) ≡ forcedAt w l cs
+    pub forced-means : forced (contextOf w) (locName w l) (map (means w) cs) ≡ forcedAt w l cs
     unfolding forcedAt
     forced-means =
-        forced-is (defsOf w) (locName w l) (map (means w) cs)
-        ∙ some-map (presses (defsOf w) (locName w l) (map (means w) cs)) (means w) cs
+        forced-is (contextOf w) (locName w l) (map (means w) cs)
+        ∙ some-map (presses (contextOf w) (locName w l) (map (means w) cs)) (means w) cs
         ∙ some-same _ _ (compOk w) cs fine (λ c f. press-means c (comp-fine w c f))
 
     pub passed-all : map (means w) (passedAll w l cs) ≡ flatMap (pass (λ m. sameName m (locName w l)) (locName w l)) (map (means w) cs)
@@ -196,6 +195,6 @@ module _ (w : List ℕ) (good : scriptOk w ≡ true) where
     passed-all = map-flatMap (means w) (passed w l) (pass (λ m. sameName m (locName w l)) (locName w l)) (compOk w) cs fine (λ c f. passed-means w good l c h (comp-fine w c f))
 
     -- the tick at l on what the components stand for
-    pub tick-means : tick (defsOf w) (locName w l) (map (means w) cs) ≡ cond (forcedAt w l cs) (refused 12) (accepted (map (means w) (passedAll w l cs)))
+    pub tick-means : tick (contextOf w) (locName w l) (map (means w) cs) ≡ cond (forcedAt w l cs) (refused 12) (accepted (map (means w) (passedAll w l cs)))
     unfolding tick tickWith
     tick-means = rw (forced-means, passed-all)

@@ -23,8 +23,16 @@ use Rattle.table.specs.Words.{strip, letters, nameAt, locName, chanName,
 use Rattle.table.specs.Meaning.{valueOf, valuesOf, partOf, joined, deep, processAt, partAt, listFrom, defOf, defsOf, withTimer, envAt, markOf, processOf, means, compIn, wordsIn, compsOf, netOf, networkOf}
 use Rattle.table.specs.Valid.{below, alike, index, timerOk, slotOk, refOk, innerOk, entered, headOk, nextOk, scopeOk, stacked, floor, lowOk, treeOk, partOk, defOk, sortOk, scriptOk, markOk, compOk, stateOk, valid}
 
+unfoldable pub words : Unit {0}
+unfolding strip letters nameAt locName chanName arityOf bodyOf defName paramsAt paramsOf headAt nextAt lowAt ownAt boundAt scopeAt namesAt
+words = tt
+
+unfoldable pub meaning : Unit {0}
+unfolding rules ticksOf valueOf valuesOf partOf joined deep processAt partAt listFrom defOf defsOf withTimer envAt markOf processOf means compIn flatMap compsOf netOf networkOf
+meaning = tt
+
 unfoldable pub tables : Unit {0}
-unfolding rules classOf member some isName isLocation isSmall isIdentifier ticksOf strip letters nameAt locName chanName arityOf bodyOf defName paramsAt paramsOf headAt nextAt lowAt ownAt boundAt scopeAt namesAt valueOf valuesOf partOf joined deep processAt partAt listFrom defOf defsOf withTimer envAt markOf processOf means compIn flatMap compsOf netOf networkOf below alike distinct index timerOk slotOk refOk innerOk entered headOk nextOk scopeOk stacked floor lowOk treeOk partOk defOk sortOk scriptOk markOk compOk stateOk valid
+unfolding words meaning classOf member some isName isLocation isSmall isIdentifier below alike distinct index timerOk slotOk refOk innerOk entered headOk nextOk scopeOk stacked floor lowOk treeOk partOk defOk sortOk scriptOk markOk compOk stateOk valid
 tables = tt
 
 abbrev zeros : ℕ → List ℕ
@@ -59,7 +67,7 @@ abbrev at : ℕ → ℕ → ℕ → ℕ → Comp
 at l m i t = record { loc = l; mark = m; place = i; timer = t; vals = zeros 8 }
 
 abbrev state : List Comp → State
-state cs = record { c = flatMap wordsIn cs; n = length cs }
+state cs = record { c = flatMap (λ x. wordsIn x ++ zeros 4) cs; n = length cs }
 
 stands-for : networkOf script (state (at 0 64 1 0 ∷ at 1 0 1 0 ∷ at 0 64 3 7 ∷ []))
     ≡ record {

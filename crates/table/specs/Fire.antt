@@ -16,10 +16,10 @@ use Rattle.terms.specs.Rules.Action.{single, pair}
 use Rattle.table.specs.declared.Head.{Head}
 use Rattle.table.specs.declared.Head.the-variants.{Stop, Go, Out, In, Call}
 use Rattle.table.specs.declared.Comp.{Comp}
-use Rattle.table.specs.Words.{locsIn, chansIn, defsIn, locName, chanName, defName, bodyOf, headAt}
+use Rattle.table.specs.Words.{locsIn, chansIn, defsIn, locName, chanName, defName, bodyOf, headAt, argAt}
 use Rattle.table.specs.Meaning.{listFrom}
 use Rattle.table.specs.Valid.{index}
-use Rattle.table.specs.Split.{passed}
+use Rattle.table.specs.Split.{passed, dueAt}
 
 -- a label in numbers: kind 1, the definition a is called; kind 2, the location a is moved to; kind 3, the value b is sent on the channel a.
 -- It fires at the location `spot`; b is 0 for kinds 1 and 2.
@@ -67,12 +67,12 @@ valueIn vs v = cond (ltb v 64) v (getD vs (v - 64) 0)
 unfoldable pub leftAt : ℕ → ℕ → ℕ → List ℕ → Comp
 leftAt l k i vs = record { loc = k; mark = l; place = i; timer = 0; vals = vs }
 
--- the arguments in the first slots
-unfoldable pub argIn : List ℕ → ℕ → ℕ → ℕ → ℕ
-argIn vs n k v = cond (ltb k n) (valueIn vs v) 0
+-- the n arguments of the call at the place i in the first slots
+unfoldable pub argIn : List ℕ → ℕ → List ℕ → ℕ → ℕ → ℕ
+argIn w i vs n k = cond (ltb k n) (valueIn vs (argAt w i k)) 0
 
-unfoldable pub loaded : List ℕ → ℕ → ℕ → ℕ → ℕ → ℕ → List ℕ
-loaded vs n a₀ a₁ a₂ a₃ = argIn vs n 0 a₀ ∷ argIn vs n 1 a₁ ∷ argIn vs n 2 a₂ ∷ argIn vs n 3 a₃ ∷ 0 ∷ 0 ∷ 0 ∷ 0 ∷ []
+unfoldable pub loaded : List ℕ → ℕ → List ℕ → ℕ → List ℕ
+loaded w i vs n = argIn w i vs n 0 ∷ argIn w i vs n 1 ∷ argIn w i vs n 2 ∷ argIn w i vs n 3 ∷ 0 ∷ 0 ∷ 0 ∷ 0 ∷ []
 
 pub record Left : Type 0 where
   pub tag : Tag
@@ -83,14 +83,14 @@ becomesAt w calls c Stop = refused 10
 becomesAt w calls c (Go t v p) = refused 10
 becomesAt w calls c (Out h t v p q) = refused 10
 becomesAt w calls c (In h t k p q) = refused 10
-becomesAt w calls c (Call d n a₀ a₁ a₂ a₃) =
-    accepted (record { tag = callTag d (c .loc); after = leftAt (c .loc) (c .loc) (bodyOf w d) (loaded (c .vals) n a₀ a₁ a₂ a₃) ∷ [] })
+becomesAt w calls c (Call d n) =
+    accepted (record { tag = callTag d (c .loc); after = leftAt (c .loc) (c .loc) (bodyOf w d) (loaded w (c .place) (c .vals) n) ∷ [] })
 becomesAt w moves c Stop = refused 10
 becomesAt w moves c (Go t v p) =
     accepted (record { tag = moveTag (valueIn (c .vals) v) (c .loc); after = leftAt (c .loc) (valueIn (c .vals) v) p (c .vals) ∷ [] })
 becomesAt w moves c (Out h t v p q) = refused 10
 becomesAt w moves c (In h t k p q) = refused 10
-becomesAt w moves c (Call d n a₀ a₁ a₂ a₃) = refused 10
+becomesAt w moves c (Call d n) = refused 10
 
 -- an output and an input that meet
 unfoldable pub handed : Comp → Comp → ℕ → ℕ → ℕ → ℕ → ℕ → Left
@@ -101,20 +101,27 @@ unfoldable pub meetAt : Comp → Comp → Head → Head → Answer Left
 meetAt c e Stop g = refused 10
 meetAt c e (Go t v p) g = refused 10
 meetAt c e (In h t k p q) g = refused 10
-meetAt c e (Call d n a₀ a₁ a₂ a₃) g = refused 10
+meetAt c e (Call d n) g = refused 10
 meetAt c e (Out h t v p q) Stop = refused 10
 meetAt c e (Out h t v p q) (Go t′ v′ p′) = refused 10
 meetAt c e (Out h t v p q) (Out h′ t′ v′ p′ q′) = refused 10
-meetAt c e (Out h t v p q) (Call d n a₀ a₁ a₂ a₃) = refused 10
+meetAt c e (Out h t v p q) (Call d n) = refused 10
 meetAt c e (Out h t v p q) (In h′ t′ k p′ q′) =
     cond (eqb h h′ && eqb (c .loc) (e .loc)) (accepted (handed c e h (valueIn (c .vals) v) p k p′)) (refused 11)
 
--- questions 9 to 11
+-- questions 9 to 11: what fits
+unfoldable pub fitsAlone : List ℕ → Kind → Comp → Answer Left
+fitsAlone w k c = cond (ltb (c .mark) 64) (refused 9) (becomesAt w k c (headAt w (c .place)))
+
+unfoldable pub fitsTogether : List ℕ → Comp → Comp → Answer Left
+fitsTogether w c e = cond (ltb (c .mark) 64 || ltb (e .mark) 64) (refused 9) (meetAt c e (headAt w (c .place)) (headAt w (e .place)))
+
+-- This is `may fire` on the table: what fits may fire.
 unfoldable pub aloneAt : List ℕ → Kind → Comp → Answer Left
-aloneAt w k c = cond (ltb (c .mark) 64) (refused 9) (becomesAt w k c (headAt w (c .place)))
+aloneAt w k c = fitsAlone w k c
 
 unfoldable pub togetherAt : List ℕ → Comp → Comp → Answer Left
-togetherAt w c e = cond (ltb (c .mark) 64 || ltb (e .mark) 64) (refused 9) (meetAt c e (headAt w (c .place)) (headAt w (e .place)))
+togetherAt w c e = fitsTogether w c e
 
 -- ── an action at positions ──
 unfoldable pub leftBy : List ℕ → Action → List Comp → Answer Left
@@ -132,24 +139,41 @@ actOn w a cs = leftBy w a cs >>= λ f. accepted (record { tag = f .tag; comps = 
 unfoldable pub readyAt : ℕ → Comp → Bool
 readyAt l c = not (ltb (c .mark) 64) && eqb (c .loc) l
 
+-- the channel of an output, and of an input; 64 for none
+unfoldable pub sentOn : Head → ℕ
+sentOn Stop = 64
+sentOn (Go t v p) = 64
+sentOn (Out h t v p q) = h
+sentOn (In h t k p q) = 64
+sentOn (Call d n) = 64
+
 -- an input on the channel h
 unfoldable pub hears : ℕ → Head → Bool
 hears h Stop = false
 hears h (Go t v p) = false
 hears h (Out h′ t v p q) = false
 hears h (In h′ t k p q) = eqb h h′
-hears h (Call d n a₀ a₁ a₂ a₃) = false
+hears h (Call d n) = false
 
--- of a component ready at l with this timer and head: a call, a `go` at 0, or an output that some component ready at l hears
-unfoldable pub pressesAt : List ℕ → ℕ → List Comp → ℕ → Head → Bool
-pressesAt w l cs t Stop = false
-pressesAt w l cs t (Go u v p) = eqb t 0
-pressesAt w l cs t (Out h u v p q) = some (λ e. readyAt l e && hears h (headAt w (e .place))) cs
-pressesAt w l cs t (In h u k p q) = false
-pressesAt w l cs t (Call d n a₀ a₁ a₂ a₃) = true
+-- This is the one definition of `must act` on the table: a ready component with the head h acts before a tick if it is a call, a `go` that is due, or an
+-- output that is heard. The forced test, the report and the step go by it.
+unfoldable pub mustAct : Bool → Comp → Head → Bool
+mustAct heard c Stop = false
+mustAct heard c (Go t v p) = dueAt c
+mustAct heard c (Out h t v p q) = heard
+mustAct heard c (In h t k p q) = false
+mustAct heard c (Call d n) = true
+
+-- some component ready at l hears the channel h
+unfoldable pub heardAt : List ℕ → ℕ → List Comp → ℕ → Bool
+heardAt w l cs h = some (λ e. readyAt l e && hears h (headAt w (e .place))) cs
+
+-- a component of cs that is ready at l and must act
+unfoldable pub pressesAt : List ℕ → ℕ → List Comp → Comp → Bool
+pressesAt w l cs c = readyAt l c && mustAct (heardAt w l cs (sentOn (headAt w (c .place)))) c (headAt w (c .place))
 
 unfoldable pub forcedAt : List ℕ → ℕ → List Comp → Bool
-forcedAt w l cs = some (λ c. readyAt l c && pressesAt w l cs (c .timer) (headAt w (c .place))) cs
+forcedAt w l cs = some (pressesAt w l cs) cs
 
 -- what the tick at l leaves, where it is allowed
 unfoldable pub passedAll : List ℕ → ℕ → List Comp → List Comp

@@ -1,12 +1,12 @@
 -- What a table stands for: a network in letters, values put in. Document 01, *The term and the network*.
-use Prim.Native.Nat.{ℕ, zero, suc, _+_, _-_, _*_, _≤_}
+use Prim.Native.Nat.{ℕ, zero, suc, _+_, _-_, _*_, _≤_, _<_}
 use mathlib.Core.List.{List, [], _∷_, map}
 use mathlib.Core.Bool.{cond}
 use mathlib.Core.Path.{_≡_}
 use lib.Dec.{ltb}
 use lib.ListN.{getD, take}
 use Rattle.terms.specs.Names.{Name}
-use Rattle.terms.specs.Terms.{Timer, Value, Part, Process, Mark, Component, Def, Network}
+use Rattle.terms.specs.Terms.{Timer, Value, Part, Process, Mark, Component, Def, Network, Context}
 use Rattle.terms.specs.Terms.Value.{loc, var}
 use Rattle.terms.specs.Terms.Part.{stop, go, out, inp, call}
 use Rattle.terms.specs.Terms.Process.{one, _∥_}
@@ -19,7 +19,7 @@ use Rattle.table.specs.declared.Head.{Head}
 use Rattle.table.specs.declared.Head.the-variants.{Stop, Go, Out, In, Call}
 use Rattle.table.specs.declared.Comp.{Comp}
 use Rattle.table.specs.declared.State.{State}
-use Rattle.table.specs.Words.{compSize, word, defsIn, locName, chanName, defName, bodyOf, paramsOf, headAt, nextAt, boundAt, namesAt}
+use Rattle.table.specs.Words.{compSize, compUsed, word, defsIn, locName, chanName, defName, bodyOf, paramsOf, headAt, nextAt, boundAt, namesAt, argsAt}
 
 -- ── terms ──
 -- what a value's word stands for where the names ys are in scope
@@ -29,13 +29,13 @@ valueOf w ys v = cond (ltb v 64) (loc (locName w v)) (var (getD ys (v - 64) []))
 unfoldable pub valuesOf : List ℕ → List Name → List ℕ → List Value
 valuesOf w ys vs = map (valueOf w ys) vs
 
--- the part of a head in scope ys that binds y, where f gives the process at a place
-unfoldable pub partOf : List ℕ → (ℕ → Process) → List Name → Name → Head → Part
-partOf w f ys y Stop = stop
-partOf w f ys y (Go t v p) = go (ticksOf t) (valueOf w ys v) (f p)
-partOf w f ys y (Out c t v p q) = out (chanName w c) (ticksOf t) (valueOf w ys v) (f p) (f q)
-partOf w f ys y (In c t k p q) = inp (chanName w c) (ticksOf t) y (f p) (f q)
-partOf w f ys y (Call d n a₀ a₁ a₂ a₃) = call (defName w d) (valuesOf w ys (take n (a₀ ∷ a₁ ∷ a₂ ∷ a₃ ∷ [])))
+-- the part at the place i with the head h, where f gives the process at a place
+unfoldable pub partOf : List ℕ → (ℕ → Process) → ℕ → Head → Part
+partOf w f i Stop = stop
+partOf w f i (Go t v p) = go (ticksOf t) (valueOf w (namesAt w i) v) (f p)
+partOf w f i (Out c t v p q) = out (chanName w c) (ticksOf t) (valueOf w (namesAt w i) v) (f p) (f q)
+partOf w f i (In c t k p q) = inp (chanName w c) (ticksOf t) (boundAt w i) (f p) (f q)
+partOf w f i (Call d n) = call (defName w d) (valuesOf w (namesAt w i) (argsAt w i n))
 
 unfoldable pub joined : (ℕ → Process) → Part → ℕ → Process
 joined f a zero = one a
@@ -44,7 +44,7 @@ joined f a (suc j) = a ∥ f j
 -- at most n links deep
 unfoldable pub deep : List ℕ → ℕ → ℕ → Process
 deep w zero i = one stop
-deep w (suc n) i = joined (deep w n) (partOf w (deep w n) (namesAt w i) (boundAt w i) (headAt w i)) (nextAt w i)
+deep w (suc n) i = joined (deep w n) (partOf w (deep w n) i (headAt w i)) (nextAt w i)
 
 -- the process at a place: every link goes to a lesser place, so no more than its number are followed
 unfoldable pub processAt : List ℕ → ℕ → Process
@@ -52,7 +52,7 @@ processAt w i = deep w (suc i) i
 
 -- the one part at a place
 unfoldable pub partAt : List ℕ → ℕ → Part
-partAt w i = partOf w (processAt w) (namesAt w i) (boundAt w i) (headAt w i)
+partAt w i = partOf w (processAt w) i (headAt w i)
 
 -- ── definitions, in table order ──
 -- f of k, of k and one, ..., n of them
@@ -65,6 +65,10 @@ defOf w d = define (defName w d) (paramsOf w d) (processAt w (bodyOf w d))
 
 unfoldable pub defsOf : List ℕ → List Def
 defsOf w = listFrom 0 (defsIn w) (defOf w)
+
+-- what the rules take of a script
+unfoldable pub contextOf : List ℕ → Context
+contextOf w = record { defs = defsOf w }
 
 -- ── components ──
 -- A component has a location, a mark (64 for none), a place, its own timer, and a location for each slot.
@@ -113,9 +117,10 @@ wordsIn x =
     x .loc ∷ x .mark ∷ x .place ∷ x .timer ∷ word (x .vals) 0 ∷ word (x .vals) 1 ∷ word (x .vals) 2 ∷ word (x .vals) 3 ∷ word (x .vals) 4 ∷ word (x .vals) 5
     ∷ word (x .vals) 6 ∷ word (x .vals) 7 ∷ []
 
--- past the first k components every word of b is that of a
+-- every word of b that is none of the first k components' own is that of a: those past them, and the spare words of every position
 pub record PastKept (k : ℕ) (a b : List ℕ) : Type 0 where
   pub words : (o : ℕ) → k * compSize ≤ o → word b o ≡ word a o
+  pub spare : (i j : ℕ) → compUsed ≤ j → j < compSize → word b (i * compSize + j) ≡ word a (i * compSize + j)
 
 -- the components in use
 unfoldable pub compsOf : State → List Comp

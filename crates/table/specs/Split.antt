@@ -2,9 +2,10 @@
 -- Serves inner contracts only.
 use Prim.Native.Nat.{ℕ, zero, suc}
 use mathlib.Core.List.{List, [], _∷_}
-use mathlib.Core.Bool.{cond}
+use mathlib.Core.Bool.{Bool, cond}
 use lib.Dec.{eqb, ltb}
-use Rattle.terms.specs.Clock.{lessRaw}
+use Rattle.terms.specs.Terms.{expired, due}
+use Rattle.terms.specs.Clock.{ticksOf, lessRaw}
 use Rattle.table.specs.declared.Head.{Head}
 use Rattle.table.specs.declared.Head.the-variants.{Stop, Go, Out, In, Call}
 use Rattle.table.specs.declared.Comp.{Comp}
@@ -16,7 +17,7 @@ timerIn Stop = 0
 timerIn (Go t v p) = t
 timerIn (Out c t v p q) = t
 timerIn (In c t k p q) = t
-timerIn (Call d n a₀ a₁ a₂ a₃) = 0
+timerIn (Call d n) = 0
 
 -- the part at a place as a component of its own, unmarked, with the timer that it is written with
 unfoldable pub fresh : List ℕ → ℕ → List ℕ → ℕ → Comp
@@ -37,9 +38,16 @@ splitAt w l vs i = partsFrom w l vs (suc i) i
 unfoldable pub timed : Comp → ℕ → Comp
 timed c t = record { loc = c .loc; mark = c .mark; place = c .place; timer = t; vals = c .vals }
 
+-- The tests of a component's timer are those of the timer that it stands for: a ready `in` or `out` that takes its Q, a ready `go` that must move.
+unfoldable pub expiredAt : Comp → Bool
+expiredAt c = expired (ticksOf (c .timer))
+
+unfoldable pub dueAt : Comp → Bool
+dueAt c = due (ticksOf (c .timer))
+
 -- an `in` or `out` with its Q at q
 unfoldable pub orElse : List ℕ → Comp → ℕ → List Comp
-orElse w c q = cond (eqb (c .timer) 0) (splitAt w (c .loc) (c .vals) q) (timed c (lessRaw (c .timer)) ∷ [])
+orElse w c q = cond (expiredAt c) (splitAt w (c .loc) (c .vals) q) (timed c (lessRaw (c .timer)) ∷ [])
 
 -- a component that is ready where the tick is
 unfoldable pub waited : List ℕ → Comp → Head → List Comp
@@ -47,7 +55,7 @@ waited w c Stop = c ∷ []
 waited w c (Go t v p) = timed c (lessRaw (c .timer)) ∷ []
 waited w c (Out d t v p q) = orElse w c q
 waited w c (In d t k p q) = orElse w c q
-waited w c (Call d n a₀ a₁ a₂ a₃) = c ∷ []
+waited w c (Call d n) = c ∷ []
 
 -- a component in the tick at l
 unfoldable pub passed : List ℕ → ℕ → Comp → List Comp

@@ -12,7 +12,7 @@ use Rattle.table.specs.declared.Head.{Head}
 use Rattle.table.specs.declared.Head.the-variants.{Stop, Go, Out, In, Call}
 use Rattle.table.specs.declared.Comp.{Comp}
 use Rattle.table.specs.declared.State.{State}
-use Rattle.table.specs.Words.{lastName, partsIn, locsIn, chansIn, defsIn, locName, chanName, arityOf, bodyOf, defName, paramsAt, paramsOf, field, headAt, nextAt, lowAt, ownAt, boundAt, scopeAt, namesAt}
+use Rattle.table.specs.Words.{lastName, partsIn, locsIn, chansIn, defsIn, locName, chanName, arityOf, bodyOf, defName, paramsAt, paramsOf, field, headAt, argsAt, nextAt, lowAt, ownAt, boundAt, scopeAt, namesAt, countField, kindField}
 use Rattle.table.specs.Meaning.{listFrom, compsOf}
 
 -- of each number below n
@@ -64,8 +64,8 @@ headOk w i (In c t k p q) =
     ltb c (chansIn w) && (timerOk t && (isSmall (boundAt w i) && (eqb (index (namesAt w i) (boundAt w i)) k
     && (innerOk w i p (entered w i k) && innerOk w i q (scopeAt w i)))))
 -- a held definition with its number of arguments
-headOk w i (Call d n a₀ a₁ a₂ a₃) =
-    ltb d (defsIn w) && (eqb n (arityOf w d) && every (refOk w (namesAt w i)) (take n (a₀ ∷ a₁ ∷ a₂ ∷ a₃ ∷ [])))
+headOk w i (Call d n) =
+    ltb d (defsIn w) && (eqb n (arityOf w d) && every (refOk w (namesAt w i)) (argsAt w i n))
 
 unfoldable pub nextOk : List ℕ → ℕ → ℕ → Bool
 nextOk w i zero = true
@@ -73,7 +73,7 @@ nextOk w i (suc j) = innerOk w i j (scopeAt w i)
 
 -- at most 8 variables in scope, with names that stand in the script, each of the form of a variable, all different
 unfoldable pub scopeOk : List ℕ → ℕ → Bool
-scopeOk w i = leb (field w i 8) 8 && (every (λ o. ltb o lastName) (scopeAt w i) && sortOk isSmall (namesAt w i))
+scopeOk w i = leb (field w i countField) 8 && (every (λ o. ltb o lastName) (scopeAt w i) && sortOk isSmall (namesAt w i))
 
 -- The range of a place: P lies directly below its part, Q directly below P's last part, the next part directly below these, and `low` is the least
 -- place of them all. So nothing is shared, and no term is larger than its table.
@@ -82,7 +82,7 @@ stacked w i Stop = true
 stacked w i (Go t v p) = eqb (suc p) i
 stacked w i (Out c t v p q) = eqb (suc p) i && eqb (suc q) (lowAt w p)
 stacked w i (In c t k p q) = eqb (suc p) i && eqb (suc q) (lowAt w p)
-stacked w i (Call d n a₀ a₁ a₂ a₃) = true
+stacked w i (Call d n) = true
 
 -- the least place of the part at i
 unfoldable pub floor : List ℕ → ℕ → Head → ℕ
@@ -90,7 +90,7 @@ floor w i Stop = i
 floor w i (Go t v p) = lowAt w p
 floor w i (Out c t v p q) = lowAt w q
 floor w i (In c t k p q) = lowAt w q
-floor w i (Call d n a₀ a₁ a₂ a₃) = i
+floor w i (Call d n) = i
 
 unfoldable pub lowOk : List ℕ → ℕ → ℕ → ℕ → Bool
 lowOk w low f zero = eqb low f
@@ -100,7 +100,7 @@ unfoldable pub treeOk : List ℕ → ℕ → Bool
 treeOk w i = stacked w i (headAt w i) && lowOk w (lowAt w i) (floor w i (headAt w i)) (nextAt w i)
 
 unfoldable pub partOk : List ℕ → ℕ → Bool
-partOk w i = leb (field w i 0) 4 && (scopeOk w i && (headOk w i (headAt w i) && (nextOk w i (nextAt w i) && treeOk w i)))
+partOk w i = leb (field w i kindField) 4 && (scopeOk w i && (headOk w i (headAt w i) && (nextOk w i (nextAt w i) && treeOk w i)))
 
 -- ── definitions: different parameters, at most 4, which are what is in scope in the body ──
 unfoldable pub defOk : List ℕ → ℕ → Bool

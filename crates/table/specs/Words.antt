@@ -11,7 +11,7 @@
 -- 6 place of the next part of its process and one, or 0; 7 the least place of the process from here on; 8 how many variables are in scope;
 -- 9 .. 16 where their names stand; 17 .. 20 a call's arguments, or the name that an input binds; three words not used.
 -- A value below 64 is a location; 64 and more is a variable, by its slot: its index in the scope.
-use Prim.Native.Nat.{ℕ, _+_, _*_, _/_, _%_}
+use Prim.Native.Nat.{ℕ, _+_, _-_, _*_, _/_, _%_}
 use mathlib.Core.List.{List, [], _∷_, map}
 use mathlib.Core.Bool.{Bool, false, cond}
 use lib.Dec.{eqb, leb}
@@ -21,12 +21,12 @@ use Rattle.table.specs.declared.Head.{Head}
 use Rattle.table.specs.declared.Head.the-variants.{Stop, Go, Out, In, Call}
 
 -- ── the layout's numbers ──
--- how many words a script and the components of a state have
+-- how many words a script has, those behind the last row of a part being spare, and a state: 256 components and 16 spare words
 abbrev pub scriptWords : ℕ
-scriptWords = 99_592
+scriptWords = 99_984
 
 abbrev pub stateWords : ℕ
-stateWords = 3_072
+stateWords = 4_112
 
 -- where the names of locations and of channels begin, and the parts
 abbrev pub locsAt : ℕ
@@ -38,20 +38,87 @@ chansAt = 1_032
 abbrev pub partsAt : ℕ
 partsAt = 1_288
 
+-- where the rows of parts end
+abbrev pub partsEnd : ℕ
+partsEnd = 99_592
+
 -- where the name that the input at place 0 binds stands
 abbrev pub ownsAt : ℕ
 ownsAt = 1_305
 
--- how many words the row of a part or of a definition has, and a component
+-- how many words the row of a part or of a definition has, and a component, of which those from compUsed on are spare
 abbrev pub rowSize : ℕ
 rowSize = 24
 
 abbrev pub compSize : ℕ
-compSize = 12
+compSize = 16
 
--- a name stands before this word
+abbrev pub compUsed : ℕ
+compUsed = 12
+
+-- where in the row of definition 0 its number of parameters, the place of its body, its identifier and its four parameters stand
+abbrev pub defsAt : ℕ
+defsAt = 8
+
+abbrev pub bodiesAt : ℕ
+bodiesAt = 9
+
+abbrev pub idsAt : ℕ
+idsAt = 10
+
+abbrev pub firstParam : ℕ
+firstParam = 14
+
+abbrev pub secondParam : ℕ
+secondParam = 18
+
+abbrev pub thirdParam : ℕ
+thirdParam = 22
+
+abbrev pub fourthParam : ℕ
+fourthParam = 26
+
+-- how many words a name has
+abbrev pub nameSize : ℕ
+nameSize = 4
+
+-- the words of a part's row, as the head of this file lists them: those of the scope begin at slotField, those of a call's arguments or of a bound name at argField
+abbrev pub kindField : ℕ
+kindField = 0
+
+abbrev pub nameField : ℕ
+nameField = 1
+
+abbrev pub timerField : ℕ
+timerField = 2
+
+abbrev pub valueField : ℕ
+valueField = 3
+
+abbrev pub firstField : ℕ
+firstField = 4
+
+abbrev pub secondField : ℕ
+secondField = 5
+
+abbrev pub nextField : ℕ
+nextField = 6
+
+abbrev pub lowField : ℕ
+lowField = 7
+
+abbrev pub countField : ℕ
+countField = 8
+
+abbrev pub slotField : ℕ
+slotField = 9
+
+abbrev pub argField : ℕ
+argField = 17
+
+-- a name stands before this word: its four words are before the end of the rows of parts
 abbrev pub lastName : ℕ
-lastName = 99_589
+lastName = partsEnd - 3
 
 abbrev pub word : List ℕ → ℕ → ℕ
 word w i = getD w i 0
@@ -89,24 +156,24 @@ unfoldable pub nameAt : List ℕ → ℕ → Name
 nameAt w o = letters (word w o) (word w (o + 1)) (word w (o + 2)) (word w (o + 3))
 
 unfoldable pub locName : List ℕ → ℕ → Name
-locName w l = nameAt w (locsAt + l * 4)
+locName w l = nameAt w (locsAt + l * nameSize)
 
 unfoldable pub chanName : List ℕ → ℕ → Name
-chanName w c = nameAt w (chansAt + c * 4)
+chanName w c = nameAt w (chansAt + c * nameSize)
 
 -- ── definitions ──
 unfoldable pub arityOf : List ℕ → ℕ → ℕ
-arityOf w d = word w (8 + d * rowSize)
+arityOf w d = word w (defsAt + d * rowSize)
 
 unfoldable pub bodyOf : List ℕ → ℕ → ℕ
-bodyOf w d = word w (9 + d * rowSize)
+bodyOf w d = word w (bodiesAt + d * rowSize)
 
 unfoldable pub defName : List ℕ → ℕ → Name
-defName w d = nameAt w (10 + d * rowSize)
+defName w d = nameAt w (idsAt + d * rowSize)
 
 -- where the parameters' names stand
 unfoldable pub paramsAt : List ℕ → ℕ → List ℕ
-paramsAt w d = take (arityOf w d) ((14 + d * rowSize) ∷ (18 + d * rowSize) ∷ (22 + d * rowSize) ∷ (26 + d * rowSize) ∷ [])
+paramsAt w d = take (arityOf w d) ((firstParam + d * rowSize) ∷ (secondParam + d * rowSize) ∷ (thirdParam + d * rowSize) ∷ (fourthParam + d * rowSize) ∷ [])
 
 unfoldable pub paramsOf : List ℕ → ℕ → List Name
 paramsOf w d = map (nameAt w) (paramsAt w d)
@@ -115,21 +182,31 @@ paramsOf w d = map (nameAt w) (paramsAt w d)
 abbrev pub field : List ℕ → ℕ → ℕ → ℕ
 field w i k = word w (partsAt + i * rowSize + k)
 
--- a part without its inner processes: these are places
+-- a part without its inner processes, which are places, and without a call's arguments, which stand in its row
 unfoldable pub headAt : List ℕ → ℕ → Head
 headAt w i =
-    cond (eqb (field w i 0) 1) (Go (field w i 2) (field w i 3) (field w i 4))
-    (cond (eqb (field w i 0) 2) (Out (field w i 1) (field w i 2) (field w i 3) (field w i 4) (field w i 5))
-    (cond (eqb (field w i 0) 3) (In (field w i 1) (field w i 2) (field w i 3) (field w i 4) (field w i 5))
-    (cond (eqb (field w i 0) 4) (Call (field w i 1) (field w i 3) (field w i 17) (field w i 18) (field w i 19) (field w i 20))
+    cond (eqb (field w i kindField) 1) (Go (field w i timerField) (field w i valueField) (field w i firstField))
+    (cond (eqb (field w i kindField) 2) (Out (field w i nameField) (field w i timerField) (field w i valueField) (field w i firstField) (field w i secondField))
+    (cond (eqb (field w i kindField) 3) (In (field w i nameField) (field w i timerField) (field w i valueField) (field w i firstField) (field w i secondField))
+    (cond (eqb (field w i kindField) 4) (Call (field w i nameField) (field w i valueField))
     Stop)))
+
+-- the arguments of the call at a place: argument k, the four words for them, the first n
+abbrev pub argAt : List ℕ → ℕ → ℕ → ℕ
+argAt w i k = field w i (argField + k)
+
+abbrev pub argWords : List ℕ → ℕ → List ℕ
+argWords w i = argAt w i 0 ∷ argAt w i 1 ∷ argAt w i 2 ∷ argAt w i 3 ∷ []
+
+abbrev pub argsAt : List ℕ → ℕ → ℕ → List ℕ
+argsAt w i n = take n (argWords w i)
 
 -- the next part of the process: 0, or its place and one
 unfoldable pub nextAt : List ℕ → ℕ → ℕ
-nextAt w i = field w i 6
+nextAt w i = field w i nextField
 
 unfoldable pub lowAt : List ℕ → ℕ → ℕ
-lowAt w i = field w i 7
+lowAt w i = field w i lowField
 
 -- where the name that an input binds stands
 unfoldable pub ownAt : ℕ → ℕ
@@ -145,7 +222,7 @@ atMost8 n = cond (leb n 8) n 8
 -- where the names in scope stand, in order, and the names
 unfoldable pub scopeAt : List ℕ → ℕ → List ℕ
 scopeAt w i =
-    take (atMost8 (field w i 8))
+    take (atMost8 (field w i countField))
     (field w i 9 ∷ field w i 10 ∷ field w i 11 ∷ field w i 12 ∷ field w i 13 ∷ field w i 14 ∷ field w i 15 ∷ field w i 16 ∷ [])
 
 unfoldable pub namesAt : List ℕ → ℕ → List Name

@@ -38,7 +38,7 @@ pub fn comp_at(c: &Words, i: usize) -> Comp
     }
 }
 
-// x at position i.
+// x at position i. The spare words there stay as they are.
 pub fn put_comp(c: &mut Words, i: usize, x: Comp)
     requires { ⌜ i < 256 ⌝ }
     ensures { λ _. ⌜ now (c .exit) ≡ sets (now (c .entry)) (i * compSize) (wordsIn x) ⌝ }

@@ -1,4 +1,4 @@
-// Layer 1, the table: what a network is in memory, what it stands for, and question 17.
+// Layer 1, the table: what a network is in memory, what it stands for, and what question 17 asks. Its code is in table_valid.
 //
 //   specs/Words     the words of a script
 //   specs/Meaning   the network that a script and a state stand for
@@ -10,8 +10,6 @@
 //   specs/Examples  small tables, computed
 //   comps           reading and writing a component
 //   words           reading a script's words, names, heads
-//   forms           the form of a name of each sort
-//   valid           question 17, answered
 //
 //   proofs/Tests        what the tests of question 17 give
 //   proofs/Places       the process at a place is its part and the process at its next
@@ -25,27 +23,19 @@
 //   proofs/InUse        the components in use, by position
 //   proofs/Stores       words after a run of stores
 //   proofs/Names        a name's letters determine its words
-//   proofs/NamesForm    the form of a name by its words
-//   proofs/NamesRows    names at equal distances
 //   proofs/WordsHead    the head of a part by its kind
 //   proofs/ValidBool    tests and conjunctions
 //   proofs/ValidLists   what a loop over a list has shown
-//   proofs/ValidScopes  scopes as the words of a part have them
-//   proofs/ValidParts   the tests of a part by its kind
-//   proofs/ValidLeaves  a part with no scope and nothing after it
-//   proofs/ValidRoots   the names in scopes, from the first row of a process to all of them
+//   proofs/Rows         names and scopes as the words of rows have them
 //   proofs/ValidDefs    the parameters of a definition
-//   proofs/ValidWhole   the tests of a script and of a state
 pub mod comps;
-mod forms;
-pub mod valid;
 pub mod words;
 
-// How many words a script and the components of a state have, and where in a script the names of locations and channels, the parts, and the name that the
-// input at place 0 binds begin (specs/Words).
-pub const SCRIPT_WORDS: usize = 99592;
+// How many words a script and a state have, and where in a script the names of locations and channels, the parts, and the name that the input at place 0
+// binds begin (specs/Words).
+pub const SCRIPT_WORDS: usize = 99984;
 
-pub const STATE_WORDS: usize = 3072;
+pub const STATE_WORDS: usize = 4112;
 
 pub const LOCATIONS: usize = 776;
 
@@ -53,20 +43,67 @@ pub const CHANNELS: usize = 1032;
 
 pub const PARTS: usize = 1288;
 
+// Where the rows of parts end. The words behind are spare.
+pub const PARTS_END: usize = 99592;
+
 pub const OWNS: usize = 1305;
+
+// Where in the row of definition 0 its number of parameters, the place of its body, its identifier and its four parameters stand.
+pub const DEFINITIONS: usize = 8;
+
+pub const BODIES: usize = 9;
+
+pub const IDENTIFIERS: usize = 10;
+
+pub const FIRST_PARAM: usize = 14;
+
+pub const SECOND_PARAM: usize = 18;
+
+pub const THIRD_PARAM: usize = 22;
+
+pub const FOURTH_PARAM: usize = 26;
+
+// How many words a name has.
+pub const NAME_SIZE: usize = 4;
+
+// A name stands before this word.
+pub const LAST_NAME: u32 = 99589;
+
+// The words of a part's row (specs/Words).
+pub const KIND_FIELD: usize = 0;
+
+pub const NAME_FIELD: usize = 1;
+
+pub const TIMER_FIELD: usize = 2;
+
+pub const VALUE_FIELD: usize = 3;
+
+pub const FIRST_FIELD: usize = 4;
+
+pub const SECOND_FIELD: usize = 5;
+
+pub const NEXT_FIELD: usize = 6;
+
+pub const LOW_FIELD: usize = 7;
+
+pub const COUNT_FIELD: usize = 8;
+
+pub const SLOT_FIELD: usize = 9;
+
+pub const ARG_FIELD: usize = 17;
 
 // How many words the row of a part or of a definition has, and a component.
 pub const ROW_SIZE: usize = 24;
 
-pub const COMP_SIZE: usize = 12;
+pub const COMP_SIZE: usize = 16;
 
 // The words of a script, written by reading and then only lent.
 pub type Script = [u32; SCRIPT_WORDS];
 
-// The words of a state's components.
+// The words of a state: its components, then 16 spare words.
 pub type Words = [u32; STATE_WORDS];
 
-// A part without its inner processes: these are places.
+// A part without its inner processes, which are places, and without a call's arguments, which are read from its row.
 pub enum Head {
     Stop,
     // timer, value, P
@@ -75,8 +112,8 @@ pub enum Head {
     Out(u32, u32, u32, u32, u32),
     // channel, timer, slot, P, Q
     In(u32, u32, u32, u32, u32),
-    // definition, number of arguments, arguments
-    Call(u32, u32, u32, u32, u32, u32),
+    // definition, number of arguments
+    Call(u32, u32),
 }
 
 // A component: location, mark (64 for none), place, timer, and a location for each slot.
@@ -88,7 +125,7 @@ pub struct Comp {
     pub vals: [u32; 8],
 }
 
-// The components, twelve words for each in the order of its fields; the first n of 256 are in use.
+// The components, sixteen words for each: twelve in the order of its fields, then four spare ones; the first n of 256 are in use.
 #[repr(C)]
 pub struct State {
     pub c: Words,
@@ -101,11 +138,4 @@ pub struct Key {
     pub b: u32,
     pub c: u32,
     pub d: u32,
-}
-
-// The sorts of names, by the form of their first letter; a variable's is that of a channel.
-pub enum Sort {
-    Location,
-    Small,
-    Identifier,
 }

@@ -3,13 +3,24 @@ ghost use mathlib.Core.Path.{_≡_};
 ghost use Prim.Native.Nat.{_+_, _*_, _<_};
 ghost use lib.ListN.{getD};
 ghost use Rattle.terms.specs.Names.{sameName};
-ghost use Rattle.table.specs.Words.{rowSize, partsAt, headAt, nextAt, lowAt, arityOf, bodyOf, nameAt};
+ghost use Rattle.table.specs.Words.{rowSize, partsAt, headAt, argAt, nextAt, lowAt, arityOf, bodyOf, nameAt};
 ghost use Rattle.table.specs.Tests.{keyName};
+use super::ARG_FIELD;
+use super::BODIES;
+use super::DEFINITIONS;
+use super::FIRST_FIELD;
 use super::Head;
+use super::KIND_FIELD;
 use super::Key;
+use super::LOW_FIELD;
+use super::NAME_FIELD;
+use super::NEXT_FIELD;
 use super::PARTS;
 use super::ROW_SIZE;
+use super::SECOND_FIELD;
 use super::Script;
+use super::TIMER_FIELD;
+use super::VALUE_FIELD;
 
 // A word as an index.
 pub fn wide(x: u32) -> usize
@@ -37,7 +48,7 @@ fn word_in(s: &[u32], i: usize) -> u32
 
 // Field k of the part at i.
 pub fn field(w: &Script, i: usize, k: usize) -> u32
-    requires { ⌜ (i < 4096) × (k < 24) ⌝ }
+    requires { ⌜ (i < 4096) × (k < rowSize) ⌝ }
     ensures { λ r. ⌜ r ≡ getD (now (w .entry)) (partsAt + i * rowSize + k) 0 ⌝ }
 {
     w[PARTS + i * ROW_SIZE + k]
@@ -47,61 +58,66 @@ pub fn head_at(w: &Script, i: usize) -> Head
     requires { ⌜ i < 4096 ⌝ }
     ensures { λ r. ⌜ r ≡ headAt (now (w .entry)) i ⌝ }
 {
-    let k = field(w, i, 0);
+    let k = field(w, i, KIND_FIELD);
     match k {
-        1 => Head::Go(field(w, i, 2), field(w, i, 3), field(w, i, 4)),
+        1 => Head::Go(
+            field(w, i, TIMER_FIELD),
+            field(w, i, VALUE_FIELD),
+            field(w, i, FIRST_FIELD),
+        ),
         2 => Head::Out(
-            field(w, i, 1),
-            field(w, i, 2),
-            field(w, i, 3),
-            field(w, i, 4),
-            field(w, i, 5),
+            field(w, i, NAME_FIELD),
+            field(w, i, TIMER_FIELD),
+            field(w, i, VALUE_FIELD),
+            field(w, i, FIRST_FIELD),
+            field(w, i, SECOND_FIELD),
         ),
         3 => Head::In(
-            field(w, i, 1),
-            field(w, i, 2),
-            field(w, i, 3),
-            field(w, i, 4),
-            field(w, i, 5),
+            field(w, i, NAME_FIELD),
+            field(w, i, TIMER_FIELD),
+            field(w, i, VALUE_FIELD),
+            field(w, i, FIRST_FIELD),
+            field(w, i, SECOND_FIELD),
         ),
-        4 => Head::Call(
-            field(w, i, 1),
-            field(w, i, 3),
-            field(w, i, 17),
-            field(w, i, 18),
-            field(w, i, 19),
-            field(w, i, 20),
-        ),
+        4 => Head::Call(field(w, i, NAME_FIELD), field(w, i, VALUE_FIELD)),
         _ => Head::Stop,
     }
+}
+
+// Argument k of the call at i.
+pub fn arg_at(w: &Script, i: usize, k: usize) -> u32
+    requires { ⌜ (i < 4096) × (k < 4) ⌝ }
+    ensures { λ r. ⌜ r ≡ argAt (now (w .entry)) i k ⌝ }
+{
+    field(w, i, ARG_FIELD + k)
 }
 
 pub fn next_at(w: &Script, i: usize) -> u32
     requires { ⌜ i < 4096 ⌝ }
     ensures { λ r. ⌜ r ≡ nextAt (now (w .entry)) i ⌝ }
 {
-    field(w, i, 6)
+    field(w, i, NEXT_FIELD)
 }
 
-pub(crate) fn low_at(w: &Script, i: usize) -> u32
+pub fn low_at(w: &Script, i: usize) -> u32
     requires { ⌜ i < 4096 ⌝ }
     ensures { λ r. ⌜ r ≡ lowAt (now (w .entry)) i ⌝ }
 {
-    field(w, i, 7)
+    field(w, i, LOW_FIELD)
 }
 
 pub fn arity_of(w: &Script, d: usize) -> u32
     requires { ⌜ d < 32 ⌝ }
     ensures { λ r. ⌜ r ≡ arityOf (now (w .entry)) d ⌝ }
 {
-    w[8 + d * ROW_SIZE]
+    w[DEFINITIONS + d * ROW_SIZE]
 }
 
 pub fn body_of(w: &Script, d: usize) -> u32
     requires { ⌜ d < 32 ⌝ }
     ensures { λ r. ⌜ r ≡ bodyOf (now (w .entry)) d ⌝ }
 {
-    w[9 + d * ROW_SIZE]
+    w[BODIES + d * ROW_SIZE]
 }
 
 // The words of the name that stands at o.

@@ -8,14 +8,14 @@ use mathlib.Core.Path.{_≡_}
 use lib.Dec.{eqb}
 use lib.ListN.{length}
 use Rattle.terms.specs.Names.{Name, sameName}
-use Rattle.terms.specs.Terms.{Value, Part, Component, Def}
+use Rattle.terms.specs.Terms.{Value, Part, Component, Def, Context}
 use Rattle.terms.specs.Terms.Value.{loc, var}
 use Rattle.terms.specs.Terms.Part.{stop, go, out, inp, call}
 use Rattle.terms.specs.Terms.Process.{one, _∥_}
 use Rattle.terms.specs.Terms.Mark.{none, by}
 use Rattle.terms.specs.Terms.Component.{comp}
 use Rattle.terms.specs.Terms.Def.{define}
-use Rattle.terms.specs.Rules.{Answer, Kind, Firing, Action, _>>=_, at, locations, filled, body, becomes, meet, fire, firingAt, act, forced, tickWith, tick}
+use Rattle.terms.specs.Rules.{Answer, Kind, Firing, Action, _>>=_, at, locations, filled, body, becomes, meet, fits, fire, firingAt, act, forced, tickWith, tick}
 use Rattle.terms.specs.Rules.Answer.{refused, accepted}
 use Rattle.terms.specs.Rules.Kind.{calls, moves}
 use Rattle.terms.specs.Rules.Firing.{alone, together}
@@ -55,13 +55,13 @@ unfolding body filled
 body-numbered [] i ls = some-number 9
 body-numbered (define j us p ∷ ds) i ls = cond-numbered (sameName i j) _ _ (cond-numbered (eqb (length us) (length ls)) _ _ tt (some-number 9)) (body-numbered ds i ls)
 
-becomes-numbered : (d : List Def) (k : Kind) (l : Name) (a : Part) → numbered (becomes d k l a)
+becomes-numbered : (d : Context) (k : Kind) (l : Name) (a : Part) → numbered (becomes d k l a)
 unfolding becomes
 becomes-numbered d calls l stop = some-number 9
 becomes-numbered d calls l (go t v p) = some-number 9
 becomes-numbered d calls l (out c t v p q) = some-number 9
 becomes-numbered d calls l (inp c t y p q) = some-number 9
-becomes-numbered d calls l (call i vs) = bind-numbered (locations vs) _ (locations-numbered vs) (λ ls. bind-numbered (body d i ls) _ (body-numbered d i ls) (λ p. tt))
+becomes-numbered d calls l (call i vs) = bind-numbered (locations vs) _ (locations-numbered vs) (λ ls. bind-numbered (body (d .defs) i ls) _ (body-numbered (d .defs) i ls) (λ p. tt))
 becomes-numbered d moves l stop = some-number 9
 becomes-numbered d moves l (go t (loc v) p) = tt
 becomes-numbered d moves l (go t (var y) p) = some-number 9
@@ -82,26 +82,30 @@ meet-numbered (out c t v p q) (call i vs) = some-number 9
 meet-numbered (out c t (var x) p q) (inp c′ t′ y p′ q′) = some-number 9
 meet-numbered (out c t (loc v) p q) (inp c′ t′ y p′ q′) = cond-numbered (sameName c c′) _ _ tt (some-number 10)
 
-fire-numbered : (d : List Def) (x : Firing) → numbered (fire d x)
+fits-numbered : (d : Context) (x : Firing) → numbered (fits d x)
+unfolding fits
+fits-numbered d (alone k (comp l (by m) p)) = some-number 8
+fits-numbered d (alone k (comp l none (a ∥ p))) = some-number 9
+fits-numbered d (alone k (comp l none (one a))) = bind-numbered (becomes d k l a) _ (becomes-numbered d k l a) (λ b. tt)
+fits-numbered d (together (comp l (by m) p) e) = some-number 8
+fits-numbered d (together (comp l none p) (comp k (by m) q)) = some-number 8
+fits-numbered d (together (comp l none (a ∥ p)) (comp k none q)) = some-number 9
+fits-numbered d (together (comp l none (one a)) (comp k none (b ∥ q))) = some-number 9
+fits-numbered d (together (comp l none (one a)) (comp k none (one b))) = bind-numbered (meet a b) _ (meet-numbered a b) (λ m. cond-numbered (sameName l k) _ _ tt (some-number 10))
+
+fire-numbered : (d : Context) (x : Firing) → numbered (fire d x)
 unfolding fire
-fire-numbered d (alone k (comp l (by m) p)) = some-number 8
-fire-numbered d (alone k (comp l none (a ∥ p))) = some-number 9
-fire-numbered d (alone k (comp l none (one a))) = bind-numbered (becomes d k l a) _ (becomes-numbered d k l a) (λ b. tt)
-fire-numbered d (together (comp l (by m) p) e) = some-number 8
-fire-numbered d (together (comp l none p) (comp k (by m) q)) = some-number 8
-fire-numbered d (together (comp l none (a ∥ p)) (comp k none q)) = some-number 9
-fire-numbered d (together (comp l none (one a)) (comp k none (b ∥ q))) = some-number 9
-fire-numbered d (together (comp l none (one a)) (comp k none (one b))) = bind-numbered (meet a b) _ (meet-numbered a b) (λ m. cond-numbered (sameName l k) _ _ tt (some-number 10))
+fire-numbered d x = fits-numbered d x
 
 firing-numbered : (a : Action) (net : List Component) → numbered (firingAt a net)
 unfolding firingAt
 firing-numbered (single k p) net = bind-numbered (at net p) _ (at-numbered net p) (λ c. tt)
 firing-numbered (pair p q) net = bind-numbered (at net p) _ (at-numbered net p) (λ c. bind-numbered (at net q) _ (at-numbered net q) (λ e. tt))
 
-pub act-numbered : (d : List Def) (a : Action) (net : List Component) → numbered (act d a net)
+pub act-numbered : (d : Context) (a : Action) (net : List Component) → numbered (act d a net)
 unfolding act
 act-numbered d a net = bind-numbered (firingAt a net) _ (firing-numbered a net) (λ x. bind-numbered (fire d x) _ (fire-numbered d x) (λ f. tt))
 
-pub tick-numbered : (d : List Def) (l : Name) (net : List Component) → numbered (tick d l net)
+pub tick-numbered : (d : Context) (l : Name) (net : List Component) → numbered (tick d l net)
 unfolding tick tickWith
 tick-numbered d l net = cond-numbered (forced d l net) _ _ (some-number 11) tt

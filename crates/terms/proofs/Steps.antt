@@ -10,13 +10,13 @@ use lib.Dec.{ltb}
 use lib.ListN.{length}
 use borrow.Author.Tests.{ltb-true, ltb-false}
 use Rattle.terms.specs.Names.{Name, sameName}
-use Rattle.terms.specs.Terms.{Part, Process, Component, Def, firesAt}
+use Rattle.terms.specs.Terms.{Part, Process, Component, Context, firesAt}
 use Rattle.terms.specs.Terms.Part.{stop, go, out, inp, call}
 use Rattle.terms.specs.Terms.Process.{one, _∥_}
 use Rattle.terms.specs.Terms.Value.{loc, var}
 use Rattle.terms.specs.Terms.Mark.{none, by}
 use Rattle.terms.specs.Terms.Component.{comp}
-use Rattle.terms.specs.Rules.{Answer, Kind, Firing, Fired, Action, Acted, ok, _>>=_, at, set, setAll, seek, some, locations, body, becomes, meet, fire, positions, firingAt, act, ready, dueGo, urgent, forced, tickWith, tick, pass}
+use Rattle.terms.specs.Rules.{Answer, Kind, Firing, Fired, Action, Acted, ok, _>>=_, at, set, setAll, seek, some, locations, body, becomes, meet, fits, fire, positions, firingAt, act, ready, dueGo, urgent, forced, tickWith, tick, pass}
 use Rattle.terms.specs.Rules.Answer.{refused, accepted}
 use Rattle.terms.specs.Rules.Kind.{calls, moves}
 use Rattle.terms.specs.Rules.Firing.{alone, together}
@@ -24,13 +24,13 @@ use Rattle.terms.specs.Rules.Action.{single, pair}
 use Rattle.terms.specs.Runs.{here, placeOf}
 use Rattle.terms.specs.Step.{Done, Swept, actAt, actAll, wholeStep, choice, idle, tookPlace, taken, followed, visit, sweep, fires, step}
 use Rattle.terms.proofs.Names.{and-inv, name-refl}
-use Rattle.terms.proofs.Answers.{clash, took, bind-inv, cond-inv}
+use Rattle.terms.proofs.Answers.{clash, took, bind-inv, cond-inv, fire-fits, unfit}
 use Rattle.terms.proofs.Mixed.{Shape, shape-of, act-ok}
 use Rattle.terms.proofs.Mixed.Shape.{one-shape, two-shape}
 use Rattle.terms.proofs.Forced.{presses, forced-is, ok-inv, ready-place, some-at, some-find}
 
 -- ── where an action fires ──
-place-label : (d : List Def) (k : Kind) (l : Name) (a : Part) (b : _) → becomes d k l a ≡ accepted b → firesAt (b .label) ≡ l
+place-label : (d : Context) (k : Kind) (l : Name) (a : Part) (b : _) → becomes d k l a ≡ accepted b → firesAt (b .label) ≡ l
 unfolding becomes firesAt
 place-label d calls l stop b e = clash e
 place-label d calls l (go t v p) b e = clash e
@@ -38,7 +38,7 @@ place-label d calls l (out c t v p q) b e = clash e
 place-label d calls l (inp c t y p q) b e = clash e
 place-label d calls l (call i vs) b e =
     let r = bind-inv (locations vs) _ b e in
-    let s = bind-inv (body d i (r .0)) _ b (r .2) in
+    let s = bind-inv (body (d .defs) i (r .0)) _ b (r .2) in
     rw (← took (s .2))
 place-label d moves l stop b e = clash e
 place-label d moves l (go t (loc v) p) b e = rw (← took e)
@@ -48,21 +48,24 @@ place-label d moves l (inp c t y p q) b e = clash e
 place-label d moves l (call i vs) b e = clash e
 
 -- the label names the location where the firing's components stand
-pub fires-here : (d : List Def) (x : Firing) (f : Fired) → fire d x ≡ accepted f → firesAt (f .label) ≡ here x
-unfolding fire here placeOf
-fires-here d (alone k (comp l (by m) p)) f e = clash e
-fires-here d (alone k (comp l none (a ∥ p))) f e = clash e
-fires-here d (alone k (comp l none (one a))) f e =
+fits-here : (d : Context) (x : Firing) (f : Fired) → fits d x ≡ accepted f → firesAt (f .label) ≡ here x
+unfolding fits here placeOf
+fits-here d (alone k (comp l (by m) p)) f e = clash e
+fits-here d (alone k (comp l none (a ∥ p))) f e = clash e
+fits-here d (alone k (comp l none (one a))) f e =
     let r = bind-inv (becomes d k l a) _ f e in
     rw (← took (r .2)) (place-label d k l a (r .0) (r .1))
-fires-here d (together (comp l (by m) p) e) f h = clash h
-fires-here d (together (comp l none p) (comp k (by m) q)) f e = clash e
-fires-here d (together (comp l none (a ∥ p)) (comp k none q)) f e = clash e
-fires-here d (together (comp l none (one a)) (comp k none (b ∥ q))) f e = clash e
-fires-here d (together (comp l none (one a)) (comp k none (one b))) f e =
+fits-here d (together (comp l (by m) p) e) f h = clash h
+fits-here d (together (comp l none p) (comp k (by m) q)) f e = clash e
+fits-here d (together (comp l none (a ∥ p)) (comp k none q)) f e = clash e
+fits-here d (together (comp l none (one a)) (comp k none (b ∥ q))) f e = clash e
+fits-here d (together (comp l none (one a)) (comp k none (one b))) f e =
     let r = bind-inv (meet a b) _ f e in
     let c = cond-inv (sameName l k) _ f 11 (r .2) in
     unfold firesAt in rw (← c .1)
+
+pub fires-here : (d : Context) (x : Firing) (f : Fired) → fire d x ≡ accepted f → firesAt (f .label) ≡ here x
+fires-here d x f e = fits-here d x f (fire-fits d x f e)
 
 -- ── an action only takes ready components away ──
 -- at each position there stands what stood there, or a marked component
@@ -102,7 +105,7 @@ fewer-all (single k p) net (two-shape n) = fewer-set net p _ _ _
 fewer-all (pair p q) net one-shape = fewer-set net p _ _ _
 fewer-all (pair p q) net (two-shape n) = fewer-trans net _ _ (fewer-set net p _ _ _) (fewer-set _ q _ _ _)
 
-pub act-fewer : (d : List Def) (a : Action) (net : List Component) (r : Acted) → act d a net ≡ accepted r → Fewer net (r .comps)
+pub act-fewer : (d : Context) (a : Action) (net : List Component) (r : Acted) → act d a net ≡ accepted r → Fewer net (r .comps)
 unfolding act
 act-fewer d a net r e =
     let u = bind-inv (firingAt a net) _ r e in
@@ -118,20 +121,20 @@ true-or-false true = inl refl
 true-or-false false = inr refl
 
 -- no component up to the position n presses, the ready ones seen in net
-abbrev pub Quiet : List Def → Name → ℕ → List Component → Type 0
+abbrev pub Quiet : Context → Name → ℕ → List Component → Type 0
 Quiet d l n net = (p : ℕ) (c : Component) → p < n → at net p ≡ accepted c → presses d l net c ≡ false
 
-abbrev partner : List Def → Name → Component → Component → Bool
+abbrev partner : Context → Name → Component → Component → Bool
 partner d l c e = ready l e && ok (fire d (together c e))
 
-partner-fewer : (d : List Def) (l : Name) (net net′ : List Component) (c : Component) → Fewer net net′ → some (partner d l c) net′ ≡ true → some (partner d l c) net ≡ true
+partner-fewer : (d : Context) (l : Name) (net net′ : List Component) (c : Component) → Fewer net net′ → some (partner d l c) net′ ≡ true → some (partner d l c) net ≡ true
 partner-fewer d l net net′ c f s = let r = some-find (partner d l c) net′ s in there (r .0) (r .1) (r .3) (f (r .0) (r .1) (r .2))
   where
     there : (p : ℕ) (x : Component) → partner d l c x ≡ true → (at net p ≡ accepted x) ⊎ ((l : Name) → ready l x ≡ false) → some (partner d l c) net ≡ true
     there p x t (inl h) = some-at (partner d l c) net p x h t
     there p x t (inr h) = absurd (not-both _ (and-inv (ready l x) _ t .0) (h l))
 
-presses-fewer : (d : List Def) (l : Name) (net net′ : List Component) (c : Component) → Fewer net net′ → presses d l net c ≡ false → presses d l net′ c ≡ false
+presses-fewer : (d : Context) (l : Name) (net net′ : List Component) (c : Component) → Fewer net net′ → presses d l net c ≡ false → presses d l net′ c ≡ false
 unfolding presses
 presses-fewer d l net net′ c f e = go (ready l c) (urgent d c) e (true-or-false (some (partner d l c) net′))
   where
@@ -141,11 +144,11 @@ presses-fewer d l net net′ c f e = go (ready l c) (urgent d c) e (true-or-fals
     go true false e (inl s) = absurd (not-both _ (partner-fewer d l net net′ c f s) e)
     go true false e (inr s) = s
 
-presses-ready : (d : List Def) (l : Name) (net : List Component) (c : Component) → ready l c ≡ false → presses d l net c ≡ false
+presses-ready : (d : Context) (l : Name) (net : List Component) (c : Component) → ready l c ≡ false → presses d l net c ≡ false
 unfolding presses
 presses-ready d l net c e = rw e
 
-quiet-fewer : (d : List Def) (l : Name) (n : ℕ) (net net′ : List Component) → Fewer net net′ → Quiet d l n net → Quiet d l n net′
+quiet-fewer : (d : Context) (l : Name) (n : ℕ) (net net′ : List Component) → Fewer net net′ → Quiet d l n net → Quiet d l n net′
 quiet-fewer d l n net net′ f q p c h e = go (f p c e)
   where
     go : (at net p ≡ accepted c) ⊎ ((l : Name) → ready l c ≡ false) → presses d l net′ c ≡ false
@@ -177,7 +180,7 @@ seek-some {A} f (x ∷ xs) p e = go (f x) refl (seek f xs) refl p e (seek-some f
     go false q (accepted m) h (suc p) e k = let z : _≡_ {A = ℕ} (suc m) (suc p) = took e in let w : m ≡ p = omega arith in k p (h ∙ ap accepted w)
 
 -- an action that the step chooses at c, which stands at p: what it is
-pub data Chosen (d : List Def) (l : Name) (p : ℕ) (c : Component) (net : List Component) : Answer Action → Type 0 where
+pub data Chosen (d : Context) (l : Name) (p : ℕ) (c : Component) (net : List Component) : Answer Action → Type 0 where
   called-there : {f : Fired} → ready l c ≡ true → fire d (alone calls c) ≡ accepted f → Chosen d l p c net (accepted (single calls p))
   due-there : ready l c ≡ true → dueGo c ≡ true → Chosen d l p c net (accepted (single moves p))
   sent-there : {q : ℕ} {e : Component} {f : Fired} → ready l c ≡ true → at net q ≡ accepted e → fire d (together c e) ≡ accepted f → Chosen d l p c net (accepted (pair p q))
@@ -188,11 +191,11 @@ and-none true = refl
 and-none false = refl
 
 -- no call, no move with timer 0 and no partner
-quiet : (d : List Def) (l : Name) (c : Component) (net : List Component) → ok (fire d (alone calls c)) ≡ false → (dueGo c && ok (fire d (alone moves c))) ≡ false → some (partner d l c) net ≡ false → presses d l net c ≡ false
+quiet : (d : Context) (l : Name) (c : Component) (net : List Component) → ok (fire d (alone calls c)) ≡ false → (dueGo c && ok (fire d (alone moves c))) ≡ false → some (partner d l c) net ≡ false → presses d l net c ≡ false
 unfolding presses urgent
 quiet d l c net k u s = rw (k, u, s) (and-none (ready l c))
 
-chosen : (d : List Def) (l : Name) (p : ℕ) (c : Component) (net : List Component) → Chosen d l p c net (choice d l p c net)
+chosen : (d : Context) (l : Name) (p : ℕ) (c : Component) (net : List Component) → Chosen d l p c net (choice d l p c net)
 unfolding choice
 chosen d l p c net = go (ready l c) refl (fire d (alone calls c)) refl (dueGo c) refl (seek (partner d l c) net) refl
   where
@@ -208,20 +211,23 @@ chosen d l p c net = go (ready l c) refl (fire d (alone calls c)) refl (dueGo c)
     go true r (refused m) ek false eu (refused n) es = nothing-there (quiet d l c net (ap ok ek) (rw eu) (seek-none (partner d l c) net n es))
 
 -- a `go` is no call, and no output
-due-only : (d : List Def) (l : Name) (c : Component) (net : List Component) → dueGo c ≡ true → ok (fire d (alone moves c)) ≡ false → presses d l net c ≡ false
-unfolding dueGo fire becomes meet some
+due-only : (d : Context) (l : Name) (c : Component) (net : List Component) → dueGo c ≡ true → ok (fire d (alone moves c)) ≡ false → presses d l net c ≡ false
+unfolding dueGo fits becomes meet some
 due-only d l (comp h (by m) p) net e f = unfold ready in presses-ready d l net (comp h (by m) p) refl
 due-only d l (comp h none (a ∥ p)) net e f = absurd (false≢true e)
 due-only d l (comp h none (one stop)) net e f = absurd (false≢true e)
 due-only d l (comp h none (one (out c t v p q))) net e f = absurd (false≢true e)
 due-only d l (comp h none (one (inp c t y p q))) net e f = absurd (false≢true e)
 due-only d l (comp h none (one (call i vs))) net e f = absurd (false≢true e)
-due-only d l (comp h none (one (go t v p))) net e f = quiet d l _ net refl (rw (e, f)) (lonely net)
+due-only d l (comp h none (one (go t v p))) net e f = quiet d l _ net (unfit d _ refl) (rw (e, f)) (lonely net)
   where
+    alone : (x : Component) → ok (fits d (together (comp h none (one (go t v p))) x)) ≡ false → partner d l (comp h none (one (go t v p))) x ≡ false
+    alone x e = rw (unfit d _ e) (and-none (ready l x))
+
     nobody : (x : Component) → partner d l (comp h none (one (go t v p))) x ≡ false
-    nobody (comp k (by m) q) = and-none (ready l (comp k (by m) q))
-    nobody (comp k none (a ∥ q)) = and-none (ready l (comp k none (a ∥ q)))
-    nobody (comp k none (one a)) = and-none (ready l (comp k none (one a)))
+    nobody (comp k (by m) q) = alone _ refl
+    nobody (comp k none (a ∥ q)) = alone _ refl
+    nobody (comp k none (one a)) = alone _ refl
 
     lonely : (net : List Component) → some (partner d l (comp h none (one (go t v p)))) net ≡ false
     lonely [] = refl
@@ -268,18 +274,18 @@ lead-marked (pair p q) net (two-shape {l = h} {p = y} {q = z} n) c e = go (at-se
     go (inr f) = never-ready _ _ _ c f
 
 -- what one position leaves: its actions fire at l, nothing becomes ready, and the position itself no longer presses
-pub record Passed (d : List Def) (l : Name) (p : ℕ) (net : List Component) (r : Swept) : Type 0 where
+pub record Passed (d : Context) (l : Name) (p : ℕ) (net : List Component) (r : Swept) : Type 0 where
   pub acts : actAll d l (r .actions) net ≡ accepted (record { labels = r .labels; comps = r .comps })
   pub fewer : Fewer net (r .comps)
   pub size : length (r .comps) ≡ length net
   pub rests : (c : Component) → at (r .comps) p ≡ accepted c → presses d l (r .comps) c ≡ false
 
-idle-passed : (d : List Def) (l : Name) (p : ℕ) (net : List Component) (c : Component) → at net p ≡ accepted c → presses d l net c ≡ false → Passed d l p net (idle net)
+idle-passed : (d : Context) (l : Name) (p : ℕ) (net : List Component) (c : Component) → at net p ≡ accepted c → presses d l net c ≡ false → Passed d l p net (idle net)
 unfolding idle actAll
 idle-passed d l p net c e q =
     record { acts = refl; fewer = fewer-refl net; size = refl; rests = λ x f. let h : c ≡ x = took (sym e ∙ f) in rw (← h) q }
 
-acted-passed : (d : List Def) (l : Name) (a : Action) (net : List Component) (x : Firing) (f : Fired) → firingAt a net ≡ accepted x → fire d x ≡ accepted f → here x ≡ l
+acted-passed : (d : Context) (l : Name) (a : Action) (net : List Component) (x : Firing) (f : Fired) → firingAt a net ≡ accepted x → fire d x ≡ accepted f → here x ≡ l
     → Passed d l (lead a) net (taken d (accepted a) net)
 unfolding taken tookPlace actAll actAt
 acted-passed d l a net x f e h q =
@@ -294,7 +300,7 @@ acted-passed d l a net x f e h q =
       rests = λ c g. presses-ready d l n c (lead-marked a net (shape-of d x f h) c g l);
     })
 
-place-ready : (d : List Def) (l : Name) (p : ℕ) (net : List Component) (c : Component) → at net p ≡ accepted c → {s : Answer Action} → Chosen d l p c net s → Passed d l p net (taken d s net)
+place-ready : (d : Context) (l : Name) (p : ℕ) (net : List Component) (c : Component) → at net p ≡ accepted c → {s : Answer Action} → Chosen d l p c net s → Passed d l p net (taken d s net)
 unfolding firingAt here
 place-ready d l p net c e (called-there {f = f} r k) = acted-passed d l (single calls p) net (alone calls c) f (rw e) k (ready-place l c r)
 place-ready d l p net c e (sent-there {q = q} {e = b} {f = f} r g k) = acted-passed d l (pair p q) net (together c b) f (rw (e, g)) k (ready-place l c r)
@@ -306,7 +312,7 @@ place-ready d l p net c e (due-there r u) = go (fire d (alone moves c)) refl
     go (refused n) k = unfold taken tookPlace act in rw (e, k) (idle-passed d l p net c e (due-only d l c net u (ap ok k)))
 
 -- ── the sweep ──
-actAll-then : (d : List Def) (l : Name) (xs ys : List Action) (net : List Component) (r s : Done) → actAll d l xs net ≡ accepted r → actAll d l ys (r .comps) ≡ accepted s
+actAll-then : (d : Context) (l : Name) (xs ys : List Action) (net : List Component) (r s : Done) → actAll d l xs net ≡ accepted r → actAll d l ys (r .comps) ≡ accepted s
     → actAll d l (xs ++ ys) net ≡ accepted (record { labels = r .labels ++ s .labels; comps = s .comps })
 unfolding actAll
 actAll-then d l [] ys net r s e h =
@@ -319,7 +325,7 @@ actAll-then d l (x ∷ xs) ys net r s e h =
     rw (u .1, v) (ap {B = Answer Done} (λ z. accepted (record { labels = z .labels ++ s .labels; comps = s .comps })) q)
 
 -- what the positions up to n leave
-record Sweeps (d : List Def) (l : Name) (n : ℕ) (net : List Component) (r : Swept) : Type 0 where
+record Sweeps (d : Context) (l : Name) (n : ℕ) (net : List Component) (r : Swept) : Type 0 where
   acts : actAll d l (r .actions) net ≡ accepted (record { labels = r .labels; comps = r .comps })
   size : length (r .comps) ≡ length net
   quiet : Quiet d l n (r .comps)
@@ -330,14 +336,14 @@ at-below [] p h = absurd (omega arith)
 at-below (x ∷ xs) zero h = (x, refl)
 at-below (x ∷ xs) (suc p) h = at-below xs p (omega arith)
 
-quiet-more : (d : List Def) (l : Name) (p : ℕ) (net : List Component) → Quiet d l p net → ((c : Component) → at net p ≡ accepted c → presses d l net c ≡ false) → Quiet d l (suc p) net
+quiet-more : (d : Context) (l : Name) (p : ℕ) (net : List Component) → Quiet d l p net → ((c : Component) → at net p ≡ accepted c → presses d l net c ≡ false) → Quiet d l (suc p) net
 quiet-more d l p net q r i c h e = go (ltb i p) refl
   where
     go : (b : Bool) → ltb i p ≡ b → presses d l net c ≡ false
     go true t = q i c (ltb-true i p t) e
     go false t = let m : i ≡ p = omega (arith, ltb-false i p t) in r c (ap (at net) (sym m) ∙ e)
 
-sweep-ok : (d : List Def) (l : Name) (n p : ℕ) (net : List Component) → p + n ≡ length net → Quiet d l p net → Sweeps d l (p + n) net (sweep d l p n net)
+sweep-ok : (d : Context) (l : Name) (n p : ℕ) (net : List Component) → p + n ≡ length net → Quiet d l p net → Sweeps d l (p + n) net (sweep d l p n net)
 unfolding sweep idle actAll visit followed
 sweep-ok d l zero p net h q = record { acts = refl; size = refl; quiet = λ i c k e. q i c (omega arith) e }
 sweep-ok d l (suc n) p net h q =
@@ -351,7 +357,7 @@ sweep-ok d l (suc n) p net h q =
       quiet = λ i c k e. s .quiet i c (omega arith) e;
     }
 
-swept : (d : List Def) (l : Name) (net : List Component) → Sweeps d l (length net) net (fires d l net)
+swept : (d : Context) (l : Name) (net : List Component) → Sweeps d l (length net) net (fires d l net)
 unfolding fires
 swept d l net =
     let s = sweep-ok d l (length net) 0 net (omega arith) (λ i c k e. absurd (omega arith)) in
@@ -365,7 +371,7 @@ at-length (y ∷ xs) (suc p) x e = omega (arith, at-length xs p x e)
 
 -- ── the laws ──
 -- after the step's actions the tick at l is allowed
-pub step-free : (d : List Def) (l : Name) (net : List Component) → forced d l (fires d l net .comps) ≡ false
+pub step-free : (d : Context) (l : Name) (net : List Component) → forced d l (fires d l net .comps) ≡ false
 step-free d l net = forced-is d l n ∙ go (true-or-false (some (presses d l n) n))
   where
     n : List Component
@@ -380,18 +386,18 @@ step-free d l net = forced-is d l n ∙ go (true-or-false (some (presses d l n) 
         absurd (not-both _ (r .3) (s .quiet (r .0) (r .1) (omega (arith, at-length _ (r .0) (r .1) (r .2), s .size)) (r .2)))
 
 -- the step never meets question 12
-pub step-accepted : (d : List Def) (l : Name) (net : List Component)
+pub step-accepted : (d : Context) (l : Name) (net : List Component)
     → step d l net ≡ accepted (record { actions = fires d l net .actions; labels = fires d l net .labels; comps = flatMap (pass (λ m. sameName m l) l) (fires d l net .comps) })
 unfolding step tick tickWith
 step-accepted d l net = rw (step-free d l net)
 
 -- and it is a whole step: its actions, each firing at l, then the tick at l
-fires-whole : (d : List Def) (l : Name) (net : List Component)
+fires-whole : (d : Context) (l : Name) (net : List Component)
     → wholeStep d l (fires d l net .actions) net ≡ accepted (record { labels = fires d l net .labels; comps = flatMap (pass (λ m. sameName m l) l) (fires d l net .comps) })
 unfolding wholeStep tick tickWith
 fires-whole d l net = rw (swept d l net .acts, step-free d l net)
 
-pub step-whole : (d : List Def) (l : Name) (net : List Component) (s : Swept) → step d l net ≡ accepted s
+pub step-whole : (d : Context) (l : Name) (net : List Component) (s : Swept) → step d l net ≡ accepted s
     → wholeStep d l (s .actions) net ≡ accepted (record { labels = s .labels; comps = s .comps })
 step-whole d l net s e =
     subst (λ s. wholeStep d l (s .actions) net ≡ accepted (record { labels = s .labels; comps = s .comps })) (took (sym (step-accepted d l net) ∙ e)) (fires-whole d l net)

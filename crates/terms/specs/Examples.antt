@@ -6,7 +6,7 @@ use mathlib.Core.Bool.{true, false}
 use mathlib.Core.Path.{_≡_, refl}
 use lib.ListN.{length, replicate}
 use Rattle.terms.specs.Names.{Name, bytes}
-use Rattle.terms.specs.Terms.{Value, Part, Process, Component, Def, Label}
+use Rattle.terms.specs.Terms.{Value, Part, Process, Component, Context, Label}
 use Rattle.terms.specs.Terms.Timer.{ticks, inf}
 use Rattle.terms.specs.Terms.Value.{loc, var}
 use Rattle.terms.specs.Terms.Part.{stop, go, out, inp, call}
@@ -46,6 +46,10 @@ infix 10 _$_
 abbrev _$_ : Name → Part → Component
 l $ a = comp l none (one a)
 
+-- no definitions
+abbrev bare : Context
+bare = record { defs = [] }
+
 -- an accepted action, an accepted tick
 abbrev acts : Action → Fed
 acts a = fed (acting a) true
@@ -57,32 +61,32 @@ ticked l = fed (ticking l) true
 abbrev net1 : List Component
 net1 = (A $ out c (ticks 0) (loc B) halt halt) ∷ (A $ inp c (ticks 0) x (one (go (ticks 3) (var x) halt)) halt) ∷ []
 
-example1 : tick [] A net1 ≡ refused 12
+example1 : tick bare A net1 ≡ refused 12
 unfolding rules
 example1 = refl
 
-example2 : straightRun [] (acts (pair 0 1) ∷ ticked A ∷ []) net1 ≡ accepted ((A $ stop) ∷ (A $ go (ticks 3) (loc B) halt) ∷ [])
+example2 : straightRun bare (acts (pair 0 1) ∷ ticked A ∷ []) net1 ≡ accepted ((A $ stop) ∷ (A $ go (ticks 3) (loc B) halt) ∷ [])
 unfolding rules
 example2 = refl
 
 -- ── 3 to 6: timers ──
-example3 : tick [] A ((A $ out c (ticks 0) (loc B) halt (one (go (ticks 1) (loc B) halt))) ∷ []) ≡ accepted ((A $ go (ticks 1) (loc B) halt) ∷ [])
+example3 : tick bare A ((A $ out c (ticks 0) (loc B) halt (one (go (ticks 1) (loc B) halt))) ∷ []) ≡ accepted ((A $ go (ticks 1) (loc B) halt) ∷ [])
 unfolding rules
 example3 = refl
 
-example4 : tick [] A ((A $ out c (ticks 1) (loc B) halt halt) ∷ []) ≡ accepted ((A $ out c (ticks 0) (loc B) halt halt) ∷ [])
+example4 : tick bare A ((A $ out c (ticks 1) (loc B) halt halt) ∷ []) ≡ accepted ((A $ out c (ticks 0) (loc B) halt halt) ∷ [])
 unfolding rules
 example4 = refl
 
-example5 : tick [] A ((A $ go (ticks 1) (loc B) halt) ∷ []) ≡ accepted ((A $ go (ticks 0) (loc B) halt) ∷ [])
+example5 : tick bare A ((A $ go (ticks 1) (loc B) halt) ∷ []) ≡ accepted ((A $ go (ticks 0) (loc B) halt) ∷ [])
 unfolding rules
 example5 = refl
 
-example5-again : straightRun [] (ticked A ∷ ticked A ∷ []) ((A $ go (ticks 1) (loc B) halt) ∷ []) ≡ refused 12
+example5-again : straightRun bare (ticked A ∷ ticked A ∷ []) ((A $ go (ticks 1) (loc B) halt) ∷ []) ≡ refused 12
 unfolding rules
 example5-again = refl
 
-example6 : tick [] A ((A $ go inf (loc B) halt) ∷ []) ≡ accepted ((A $ go inf (loc B) halt) ∷ [])
+example6 : tick bare A ((A $ go inf (loc B) halt) ∷ []) ≡ accepted ((A $ go inf (loc B) halt) ∷ [])
 unfolding rules
 example6 = refl
 
@@ -96,27 +100,27 @@ net7 = (A $ go (ticks 0) (loc B) (one sender)) ∷ (B $ inp c (ticks 1) x halt h
 abbrev moved7 : List Component
 moved7 = comp B (by A) (one sender) ∷ (B $ inp c (ticks 0) x halt halt) ∷ []
 
-example7 : straightRun [] (acts (single moves 0) ∷ ticked B ∷ []) net7 ≡ accepted moved7
+example7 : straightRun bare (acts (single moves 0) ∷ ticked B ∷ []) net7 ≡ accepted moved7
 unfolding rules
 example7 = refl
 
 abbrev M : List Component
 M = (B $ sender) ∷ (B $ inp c (ticks 0) x halt halt) ∷ []
 
-example8-marked : act [] (pair 0 1) moved7 ≡ refused 9
+example8-marked : act bare (pair 0 1) moved7 ≡ refused 9
 unfolding rules
 example8-marked = refl
 
-example8-tick : tick [] A moved7 ≡ accepted M
+example8-tick : tick bare A moved7 ≡ accepted M
 unfolding rules
 example8-tick = refl
 
-example8-meets : ok (act [] (pair 0 1) M) ≡ true
+example8-meets : ok (act bare (pair 0 1) M) ≡ true
 unfolding rules
 example8-meets = refl
 
 abbrev twoSteps : Name → Name → List Component → Answer (List Component)
-twoSteps k l net = step [] k net >>= λ r. step [] l (r .comps) >>= λ s. accepted (s .comps)
+twoSteps k l net = step bare k net >>= λ r. step bare l (r .comps) >>= λ s. accepted (s .comps)
 
 example8-B-A : twoSteps B A net7 ≡ accepted M
 unfolding rules
@@ -131,35 +135,35 @@ example8-A-B = refl
 abbrev inner : Value → Part
 inner v = inp c (ticks 0) x (one (go (ticks 0) (var x) halt)) (one (go (ticks 0) v halt))
 
-example9 : act [] (pair 0 1) ((A $ out c (ticks 0) (loc B) halt halt) ∷ (A $ inp c (ticks 0) x (one (inner (var x))) halt) ∷ [])
+example9 : act bare (pair 0 1) ((A $ out c (ticks 0) (loc B) halt halt) ∷ (A $ inp c (ticks 0) x (one (inner (var x))) halt) ∷ [])
     ≡ accepted (record { label = sent c B A; comps = comp A (by A) halt ∷ comp A (by A) (one (inner (loc B))) ∷ [] })
 unfolding rules
 example9 = refl
 
 -- ── 10: the step takes the lowest output ──
-example10 : step [] A ((A $ out c (ticks 1) (loc B) halt halt) ∷ (A $ out c (ticks 1) (loc A) halt halt) ∷ (A $ inp c (ticks 1) x (one (go (ticks 0) (var x) halt)) halt) ∷ [])
+example10 : step bare A ((A $ out c (ticks 1) (loc B) halt halt) ∷ (A $ out c (ticks 1) (loc A) halt halt) ∷ (A $ inp c (ticks 1) x (one (go (ticks 0) (var x) halt)) halt) ∷ [])
     ≡ accepted (record { actions = pair 0 2 ∷ []; labels = sent c B A ∷ []; comps = (A $ stop) ∷ (A $ out c (ticks 0) (loc A) halt halt) ∷ (A $ go (ticks 0) (loc B) halt) ∷ [] })
 unfolding rules
 example10 = refl
 
 -- ── 11: by the rules the tick gives 257 components; question 13 is the table's ──
-example11 : (tick [] A (comp A (by A) (stop ∥ halt) ∷ replicate 255 (A $ stop)) >>= λ n. accepted (length n)) ≡ accepted 257
+example11 : (tick bare A (comp A (by A) (stop ∥ halt) ∷ replicate 255 (A $ stop)) >>= λ n. accepted (length n)) ≡ accepted 257
 unfolding rules
 example11 = refl
 
 -- ── others ──
 -- the grouped run of example 7, closed by the tick at A: two whole steps, at B with no action and at A with the move
-example7-grouped : groupedRun [] (acts (single moves 0) ∷ ticked B ∷ ticked A ∷ []) net7 ≡ accepted (record { straight = M; grouped = M })
+example7-grouped : groupedRun bare (acts (single moves 0) ∷ ticked B ∷ ticked A ∷ []) net7 ≡ accepted (record { straight = M; grouped = M })
 unfolding rules
 example7-grouped = refl
 
 -- a Q of two parts is split in the tick that gives it, with its timers as written
-splitQ : tick [] A ((A $ out c (ticks 0) (loc B) halt (go (ticks 0) (loc B) halt ∥ halt)) ∷ []) ≡ accepted ((A $ go (ticks 0) (loc B) halt) ∷ (A $ stop) ∷ [])
+splitQ : tick bare A ((A $ out c (ticks 0) (loc B) halt (go (ticks 0) (loc B) halt ∥ halt)) ∷ []) ≡ accepted ((A $ go (ticks 0) (loc B) halt) ∷ (A $ stop) ∷ [])
 unfolding rules
 splitQ = refl
 
 -- what another location has marked is not ticked, split or unmarked, even where it stands
-others-mark : tick [] A (comp A (by B) (sender ∥ halt) ∷ []) ≡ accepted (comp A (by B) (sender ∥ halt) ∷ [])
+others-mark : tick bare A (comp A (by B) (sender ∥ halt) ∷ []) ≡ accepted (comp A (by B) (sender ∥ halt) ∷ [])
 unfolding rules
 others-mark = refl
 
@@ -170,7 +174,7 @@ y = bytes "y"
 abbrev D : Name
 D = bytes "D"
 
-exchange : act (define D (x ∷ y ∷ []) (one (call D (var y ∷ var x ∷ []))) ∷ []) (single calls 0) ((A $ call D (loc A ∷ loc B ∷ [])) ∷ [])
+exchange : act (record { defs = define D (x ∷ y ∷ []) (one (call D (var y ∷ var x ∷ []))) ∷ [] }) (single calls 0) ((A $ call D (loc A ∷ loc B ∷ [])) ∷ [])
     ≡ accepted (record { label = called D A; comps = comp A (by A) (one (call D (loc B ∷ loc A ∷ []))) ∷ [] })
 unfolding rules
 exchange = refl
@@ -179,8 +183,8 @@ exchange = refl
 abbrev Page : Name
 Page = bytes "Page"
 
-abbrev defs : List Def
-defs = define Page (x ∷ []) (one (go (ticks 0) (var x) (one (out c (ticks 1) (var x) halt halt)))) ∷ []
+abbrev pages : Context
+pages = record { defs = define Page (x ∷ []) (one (go (ticks 0) (var x) (one (out c (ticks 1) (var x) halt halt)))) ∷ [] }
 
 abbrev net0 : List Component
 net0 = (A $ call Page (loc B ∷ [])) ∷ (B $ inp c (ticks 2) y (one (go (ticks 0) (var y) halt)) halt) ∷ []
@@ -195,7 +199,7 @@ also ls r = r >>= λ p. accepted (record { lines = ls ∷ p .lines; last = p .la
 
 unfoldable rounds : ℕ → List Component → Answer Printout
 rounds zero net = accepted (record { lines = []; last = net })
-rounds (suc n) net = step defs A net >>= λ a. step defs B (a .comps) >>= λ b. also (a .labels) (also (b .labels) (rounds n (b .comps)))
+rounds (suc n) net = step pages A net >>= λ a. step pages B (a .comps) >>= λ b. also (a .labels) (also (b .labels) (rounds n (b .comps)))
 
 printout : rounds 4 net0
     ≡ accepted (record {

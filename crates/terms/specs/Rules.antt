@@ -6,7 +6,7 @@ use mathlib.Core.Bool.{Bool, true, false, cond, _&&_, _||_}
 use lib.Dec.{eqb}
 use lib.ListN.{length}
 use Rattle.terms.specs.Names.{Name, sameName}
-use Rattle.terms.specs.Terms.{Value, Part, Process, Component, Def, Label, less, expired, due}
+use Rattle.terms.specs.Terms.{Value, Part, Process, Component, Def, Label, less, expired, due, firesAt, Context}
 use Rattle.terms.specs.Terms.Value.{loc, var}
 use Rattle.terms.specs.Terms.Part.{stop, go, out, inp, call}
 use Rattle.terms.specs.Terms.Process.{one, _∥_}
@@ -14,7 +14,7 @@ use Rattle.terms.specs.Terms.Mark.{none, by}
 use Rattle.terms.specs.Terms.Component.{comp}
 use Rattle.terms.specs.Terms.Def.{define}
 use Rattle.terms.specs.Terms.Label.{called, moved, sent}
-use Rattle.terms.specs.Substitution.{just, env, subP}
+use Rattle.terms.specs.Substitution.{just, env, subP, substitution}
 
 -- ── answers ──
 pub data Answer (A : Type 0) : Type 0 where
@@ -103,13 +103,13 @@ body [] i ls = refused 10
 body (define j us p ∷ ds) i ls = cond (sameName i j) (filled us p ls) (body ds i ls)
 
 -- kind 1 is of the form `call`, kind 2 of the form `go`, with any timer (question 10)
-unfoldable pub becomes : List Def → Kind → Name → Part → Answer Became
+unfoldable pub becomes : Context → Kind → Name → Part → Answer Became
 becomes d calls l stop = refused 10
 becomes d calls l (go t v p) = refused 10
 becomes d calls l (out c t v p q) = refused 10
 becomes d calls l (inp c t y p q) = refused 10
 becomes d calls l (call i vs) =
-    locations vs >>= λ ls. body d i ls >>= λ p. accepted (record { label = called i l; place = l; process = p })
+    locations vs >>= λ ls. body (d .defs) i ls >>= λ p. accepted (record { label = called i l; place = l; process = p })
 becomes d moves l stop = refused 10
 becomes d moves l (go t (loc v) p) = accepted (record { label = moved v l; place = v; process = p })
 becomes d moves l (go t (var y) p) = refused 10
@@ -132,20 +132,23 @@ meet (out c t (loc v) p q) (inp c′ t′ y p′ q′) =
     cond (sameName c c′) (accepted (record { channel = c; value = v; sender = p; receiver = subP p′ (just y v) })) (refused 11)
 
 -- Questions 9 to 11, then the components marked with the location where the action fires: for a move the one that it leaves.
--- This is the one definition of `may fire`: the questions, the forced test, the step's choice and the notes all go by it.
-unfoldable pub fire : List Def → Firing → Answer Fired
-fire d (alone k (comp l (by m) p)) = refused 9
-fire d (alone k (comp l none (a ∥ p))) = refused 10
-fire d (alone k (comp l none (one a))) =
+unfoldable pub fits : Context → Firing → Answer Fired
+fits d (alone k (comp l (by m) p)) = refused 9
+fits d (alone k (comp l none (a ∥ p))) = refused 10
+fits d (alone k (comp l none (one a))) =
     becomes d k l a >>= λ b. accepted (record { label = b .label; after = comp (b .place) (by l) (b .process) ∷ [] })
-fire d (together (comp l (by m) p) e) = refused 9
-fire d (together (comp l none p) (comp k (by m) q)) = refused 9
-fire d (together (comp l none (a ∥ p)) (comp k none q)) = refused 10
-fire d (together (comp l none (one a)) (comp k none (b ∥ q))) = refused 10
-fire d (together (comp l none (one a)) (comp k none (one b))) =
+fits d (together (comp l (by m) p) e) = refused 9
+fits d (together (comp l none p) (comp k (by m) q)) = refused 9
+fits d (together (comp l none (a ∥ p)) (comp k none q)) = refused 10
+fits d (together (comp l none (one a)) (comp k none (b ∥ q))) = refused 10
+fits d (together (comp l none (one a)) (comp k none (one b))) =
     meet a b >>= λ m. cond (sameName l k)
     (accepted (record { label = sent (m .channel) (m .value) l; after = comp l (by l) (m .sender) ∷ comp l (by l) (m .receiver) ∷ [] }))
     (refused 11)
+
+-- This is the one definition of `may fire`: the questions, the forced test, the step's choice and the notes all go by it. What fits may fire.
+unfoldable pub fire : Context → Firing → Answer Fired
+fire d x = fits d x
 
 -- ── an action at positions ──
 pub data Action : Type 0 where
@@ -165,7 +168,7 @@ pub record Acted : Type 0 where
   pub comps : List Component
 
 -- questions 8 to 11, then the components replaced at their own positions
-unfoldable pub act : List Def → Action → List Component → Answer Acted
+unfoldable pub act : Context → Action → List Component → Answer Acted
 act d a net = firingAt a net >>= λ x. fire d x >>= λ f. accepted (record { label = f .label; comps = setAll (positions a) (f .after) net })
 
 -- ── when the tick at l is allowed ──
@@ -188,15 +191,15 @@ dueGo (comp h m (one (inp c t y p q))) = false
 dueGo (comp h m (one (call i vs))) = false
 
 -- a call or a move with timer 0 can fire
-unfoldable pub urgent : List Def → Component → Bool
+unfoldable pub urgent : Context → Component → Bool
 urgent d c = ok (fire d (alone calls c)) || (dueGo c && ok (fire d (alone moves c)))
 
 -- of components that are all ready at one location: a call, a communication or a move with timer 0 can fire
-unfoldable pub pressing : List Def → List Component → Bool
+unfoldable pub pressing : Context → List Component → Bool
 pressing d cs = some (λ c. urgent d c || some (λ e. ok (fire d (together c e))) cs) cs
 
 -- the tick at l is not allowed
-unfoldable pub forced : List Def → Name → List Component → Bool
+unfoldable pub forced : Context → Name → List Component → Bool
 forced d l net = pressing d (flatMap (only (ready l)) net)
 
 -- ── the tick at l ──
@@ -220,13 +223,18 @@ pass own l (comp h none (one a)) = cond (sameName h l) (split h (wait a)) (comp 
 pass own l (comp h none (a ∥ p)) = comp h none (a ∥ p) ∷ []
 pass own l (comp h (by m) p) = cond (own m) (split h p) (comp h (by m) p ∷ [])
 
-unfoldable pub tickWith : (Name → Bool) → List Def → Name → List Component → Answer (List Component)
+unfoldable pub tickWith : (Name → Bool) → Context → Name → List Component → Answer (List Component)
 tickWith own d l net = cond (forced d l net) (refused 12) (accepted (flatMap (pass own l) net))
 
 -- the engine's tick at l: marks owned by l vanish, at any location
-unfoldable pub tick : List Def → Name → List Component → Answer (List Component)
+unfoldable pub tick : Context → Name → List Component → Answer (List Component)
 tick d l net = tickWith (λ m. sameName m l) d l net
 
 -- Table 2's tick at l, which erases all marks
-unfoldable pub tickAll : List Def → Name → List Component → Answer (List Component)
+unfoldable pub tickAll : Context → Name → List Component → Answer (List Component)
 tickAll d l net = tickWith (λ m. true) d l net
+
+-- all of the above, for `unfolding ruling`
+unfoldable pub ruling : Unit {0}
+unfolding substitution less expired due firesAt at set setAll seek some only locations filled body becomes meet fits fire positions firingAt act unmarked ready dueGo urgent pressing forced wait split pass tickWith tick tickAll
+ruling = tt

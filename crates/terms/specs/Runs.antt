@@ -3,15 +3,14 @@ use Prim.Native.Nat.{ℕ}
 use mathlib.Core.List.{List, [], _∷_, _++_, flatMap}
 use mathlib.Core.Bool.{Bool, true, false, cond, not, decide}
 use Rattle.terms.specs.Names.{Name, sameName}
-use Rattle.terms.specs.Terms.{Component, Def, Label, less, expired, due, firesAt}
+use Rattle.terms.specs.Terms.{Component, Context, Label}
 use Rattle.terms.specs.Terms.Component.{comp}
-use Rattle.terms.specs.Substitution.{substitution}
-use Rattle.terms.specs.Rules.{Answer, Firing, Action, _>>=_, at, set, setAll, seek, some, only, locations, filled, body, becomes, meet, fire, positions, firingAt, act, unmarked, ready, dueGo, urgent, pressing, forced, wait, split, pass, tickWith, tick, tickAll}
-use Rattle.terms.specs.Step.{actAt, actAll, wholeStep, choice, idle, tookPlace, taken, followed, visit, sweep, fires, step}
+use Rattle.terms.specs.Rules.{Answer, Firing, Action, _>>=_, seek, only, firingAt, act, tick, tickAll, ruling}
+use Rattle.terms.specs.Step.{stepping}
 use Rattle.terms.specs.Rules.Answer.{refused, accepted}
 use Rattle.terms.specs.Rules.Firing.{alone, together}
 use Rattle.terms.specs.Rules.Action.{single, pair}
-use Rattle.terms.specs.Same.{list?, name?, process?, component?, def?, label?, equal, sameLabel, sameDef, every, within, without, reordered, same}
+use Rattle.terms.specs.Same.{equal, sameLabel, sameness}
 
 -- a call of a mixed list: an action, by its kind and positions, or the tick at a location
 pub data Call : Type 0 where
@@ -49,10 +48,10 @@ spot (alone k c) net = first c net >>= λ p. accepted (single k p)
 spot (together c e) net = first c net >>= λ p. first e net >>= λ q. accepted (pair p q)
 
 -- a note fires on the first components equal to its own, with its action's label; the number 0 says that it did not
-unfoldable pub fireNote : List Def → Note → List Component → Answer (List Component)
+unfoldable pub fireNote : Context → Note → List Component → Answer (List Component)
 fireNote d n g = spot (n .firing) g >>= λ a. act d a g >>= λ r. cond (sameLabel (r .label) (n .label)) (accepted (r .comps)) (refused 0)
 
-unfoldable pub fireNotes : List Def → List Note → List Component → Answer (List Component)
+unfoldable pub fireNotes : Context → List Note → List Component → Answer (List Component)
 fireNotes d [] g = accepted g
 fireNotes d (n ∷ ns) g = fireNote d n g >>= λ g′. fireNotes d ns g′
 
@@ -63,7 +62,7 @@ pub record Ends : Type 0 where
 
 -- s the straight network, g the grouped one, ns the notes. The answer is accepted if each firing and tick is one that the rules allow on
 -- its network and each note fires with its action's label.
-unfoldable pub runs : List Def → List Fed → List Component → List Component → List Note → Answer Ends
+unfoldable pub runs : Context → List Fed → List Component → List Component → List Note → Answer Ends
 runs d [] s g ns = fireNotes d ns g >>= λ g′. accepted (record { straight = s; grouped = g′ })
 runs d (fed c false ∷ cs) s g ns = runs d cs s g ns
 runs d (fed (acting a) true ∷ cs) s g ns =
@@ -75,11 +74,11 @@ runs d (fed (ticking l) true ∷ cs) s g ns =
     runs d cs s′ g′ (flatMap (only (λ n. not (isOf l n))) ns)
 
 -- the grouped run of a list of calls from a network just read
-unfoldable pub groupedRun : List Def → List Fed → List Component → Answer Ends
+unfoldable pub groupedRun : Context → List Fed → List Component → Answer Ends
 groupedRun d cs net = runs d cs net net []
 
 -- the straight run by itself
-unfoldable pub straightRun : List Def → List Fed → List Component → Answer (List Component)
+unfoldable pub straightRun : Context → List Fed → List Component → Answer (List Component)
 straightRun d [] s = accepted s
 straightRun d (fed c false ∷ cs) s = straightRun d cs s
 straightRun d (fed (acting a) true ∷ cs) s = act d a s >>= λ r. straightRun d cs (r .comps)
@@ -87,13 +86,13 @@ straightRun d (fed (ticking l) true ∷ cs) s = tick d l s >>= λ s′. straight
 
 -- ── a list of calls of any content ──
 -- what the rules answer to a call
-unfoldable pub answer : List Def → Call → List Component → Answer (List Component)
+unfoldable pub answer : Context → Call → List Component → Answer (List Component)
 answer d (acting a) s = act d a s >>= λ r. accepted (r .comps)
 answer d (ticking l) s = tick d l s
 
 -- A list of calls one after another, each on the components that the call before it returned or, if refused, left. A call is accepted if the
 -- rules accept it and it is not turned down for want of space: `full` says of which calls that is so.
-unfoldable pub judged : List Def → (Call → List Component → Bool) → List Call → List Component → List Fed
+unfoldable pub judged : Context → (Call → List Component → Bool) → List Call → List Component → List Fed
 judged d full [] s = []
 judged d full (c ∷ cs) s =
     elim (answer d c s) [
@@ -102,7 +101,7 @@ judged d full (c ∷ cs) s =
     ]
 
 -- the components at its end
-unfoldable pub lastOf : List Def → (Call → List Component → Bool) → List Call → List Component → List Component
+unfoldable pub lastOf : Context → (Call → List Component → Bool) → List Call → List Component → List Component
 lastOf d full [] s = s
 lastOf d full (c ∷ cs) s =
     elim (answer d c s) [
@@ -112,5 +111,5 @@ lastOf d full (c ∷ cs) s =
 
 -- all definitions of the rules, for `unfolding rules`
 unfoldable pub rules : Unit {0}
-unfolding substitution less expired due firesAt at set setAll seek some only locations filled body becomes meet fire positions firingAt act unmarked ready dueGo urgent pressing forced wait split pass tickWith tick tickAll actAt actAll wholeStep choice idle tookPlace taken followed visit sweep fires step list? name? process? component? def? label? equal sameLabel sameDef every within without reordered same placeOf here isOf first spot fireNote fireNotes runs groupedRun straightRun answer judged lastOf flatMap decide
+unfolding ruling stepping sameness placeOf here isOf first spot fireNote fireNotes runs groupedRun straightRun answer judged lastOf flatMap decide
 rules = tt

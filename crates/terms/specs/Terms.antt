@@ -69,6 +69,13 @@ pub record Network : Type 0 where
   pub defs : List Def
   pub comps : List Component
 
+-- what the rules take beside the components: the definitions
+pub record Context : Type 0 where
+  pub defs : List Def
+
+abbrev pub contextIn : Network → Context
+contextIn m = record { defs = m .defs }
+
 -- `id@l`, `v@l`, `c<v>@l`
 pub data Label : Type 0 where
   called : Name → Name → Label

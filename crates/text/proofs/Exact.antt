@@ -2,7 +2,7 @@
 -- By the inverse of each reader, one after the other along the do-block; what was read is a variable from there on.
 use Prim.Native.Nat.{ℕ, zero, suc, _+_, _*_}
 use native.Mathlib.Omega.{arith}
-use mathlib.Core.List.{List, [], _∷_}
+use mathlib.Core.List.{List, [], _∷_, map}
 use mathlib.Core.Bool.{Bool, true, false, cond, false≢true}
 use mathlib.Core.Logic.{_↔_}
 use mathlib.Core.Path.{_≡_, refl, ap, _∙_, subst}
@@ -10,22 +10,22 @@ use lib.Dec.{eqb}
 use lib.ListN.{length}
 use borrow.Author.Tests.{eqb-true}
 use Rattle.terms.specs.Names.{Name, bytes, sameName}
-use Rattle.terms.specs.Terms.{Part, Process, Def}
-use Rattle.terms.specs.Terms.Timer.{ticks, inf}
 use Rattle.terms.specs.Terms.Value.{loc, var}
-use Rattle.terms.specs.Terms.Part.{stop, go, out, inp, call}
-use Rattle.terms.specs.Terms.Process.{one, _∥_}
-use Rattle.terms.specs.Terms.Def.{define}
 use Rattle.terms.specs.Rules.Answer.{accepted}
 use Rattle.text.specs.Tokens.{Token, lex, number, isTicks, opens, closes, left, right, comma, bar, dot, equals}
 use Rattle.text.specs.Tokens.Token.{word, sign}
-use Rattle.text.specs.Tree.{Located, Tree}
-use Rattle.text.specs.Tree.Located.{at}
-use Rattle.text.specs.Grammar.{Rest, Reader, bind, when, named, the, aWord, next, end, more, joined, bracketed, listOf, aTimer, aValue, Head, headOf, partForm, aPart, moreParts, aProcess, partOf, processOf, aDef, aLocated, aNetwork, netNext, addDef, textForm, textOf, text, _>>_}
+use Rattle.text.specs.Syntax.{Span, Part, Process, Def, Located, Text}
+use Rattle.text.specs.Syntax.Span.{exactly, forever}
+use Rattle.text.specs.Syntax.Part.{stop, go, out, inp, call}
+use Rattle.text.specs.Syntax.Process.{one, _∥_}
+use Rattle.text.specs.Syntax.Def.{define}
+use Rattle.text.specs.Syntax.Located.{at}
+use Rattle.text.specs.Tree.{timerOf, settle, settleP, settleDef, settleAt}
+use Rattle.text.specs.Grammar.{Rest, Reader, bind, when, named, the, aWord, next, end, more, joined, bracketed, listOf, aTimer, aValue, Head, headOf, commForm, partForm, aPart, moreParts, aProcess, partOf, processOf, aDef, aLocated, aNetwork, netNext, addDef, textForm, textOf, text, _>>_}
 use Rattle.text.specs.Grammar.Rest.{ok, bad}
 use Rattle.text.specs.Grammar.Head.{stops, goes, sends, receives, calls, nothing}
 use Rattle.text.specs.Write.{Printer, nameT, timerT, valueT, joinedT, listT, partT, processT, defT, locatedT, networkT, textT, tokens}
-use Rattle.text.specs.WellFormed.{Is, WellTimer, WellValue, Each, WellPart, WellProcess, WellDef, WellLocated, NonEmpty, WellTree}
+use Rattle.text.specs.WellFormed.{Is, WellTimer, WellValue, Each, WellPart, WellProcess, WellDef, WellLocated, NonEmpty, WellText}
 use Rattle.text.specs.Questions.{form, whole}
 use Rattle.terms.proofs.Names.{and-inv}
 use Rattle.terms.specs.Letters.{isLocation, isSmall, isIdentifier}
@@ -83,12 +83,12 @@ same-eq [] (b ∷ v) e = absurd (false≢true e)
 same-eq (a ∷ w) [] e = absurd (false≢true e)
 same-eq (a ∷ w) (b ∷ v) e = let h = and-inv (eqb a b) _ e in cc (eqb-true a b (h .0), same-eq w v (h .1))
 
-pub timer-exact : Exact WellTimer aTimer timerT
+pub timer-exact : Exact (λ t. WellTimer (timerOf t)) aTimer timerT
 unfolding aTimer
 timer-exact ts a us e = then word-exact ts _ e λ w vs g o e. go w vs (sameName w (bytes "inf")) refl g e
   where
-    go : (w : Name) (vs : List Token) (y : Bool) → sameName w (bytes "inf") ≡ y → ts ≡ word w ∷ vs → cond y (λ ts. ok inf ts) (when (isTicks w) (ticks (number w))) vs ≡ ok a us → Took WellTimer timerT ts a us
-    go w vs true h g e = let i : inf ≡ a = cc in let j : vs ≡ us = cc in rw (← i, ← j) (record { was = g ∙ cc (same-eq w (bytes "inf") h); well = tt })
+    go : (w : Name) (vs : List Token) (y : Bool) → sameName w (bytes "inf") ≡ y → ts ≡ word w ∷ vs → cond y (λ ts. ok forever ts) (when (isTicks w) (exactly (number w))) vs ≡ ok a us → Took (λ t. WellTimer (timerOf t)) timerT ts a us
+    go w vs true h g e = let i : forever ≡ a = cc in let j : vs ≡ us = cc in rw (← i, ← j) (record { was = g ∙ cc (same-eq w (bytes "inf") h); well = tt })
     go w vs false h g e = let k = when-inv (isTicks w) _ vs e in let m = ticks-exact w (k .0) in rw (← k .1, ← k .2) (record { was = g ∙ ap (λ x. word x ∷ vs) (m .0); well = m .1 })
 
 pub value-exact : Exact WellValue aValue valueT
@@ -100,6 +100,14 @@ value-exact ts a us e = then word-exact ts _ e λ w vs g o e. go w vs (isLocatio
     go w vs false h g e = let k = when-inv (isSmall w) _ vs e in rw (← k .1, ← k .2) (record { was = g; well = k .0 })
 
 -- ── lists ──
+pub each-map : {A B : Type 0} (W : B → Type 0) (f : A → B) (xs : List A) → Each (λ x. W (f x)) xs → Each W (map f xs)
+each-map W f [] w = tt
+each-map W f (x ∷ xs) w = (w .0, each-map W f xs (w .1))
+
+pub some-map : {A B : Type 0} (f : A → B) (xs : List A) → NonEmpty xs → NonEmpty (map f xs)
+some-map f [] s = s
+some-map f (x ∷ xs) s = tt
+
 manyT : {A : Type 0} → ℕ → Printer A → Printer (List A)
 manyT c pr [] ts = ts
 manyT c pr (a ∷ xs) ts = joinedT c pr a xs ts
@@ -174,8 +182,28 @@ view w = go (sameName w (bytes "stop")) (sameName w (bytes "go")) (sameName w (b
     go false false false false false h i j k l = is-none
 
 -- ── parts and processes ──
-module _ {P : Reader Process} (x : Exact WellProcess P processT) where
-  form-exact : (w : Name) (h : Head) → View w h → (ts : List Token) (a : Part) (us : List Token) → partForm P h w ts ≡ ok a us → Took WellPart partT (word w ∷ ts) a us
+module _ {P : Reader Process} (x : Exact (λ p. WellProcess (settleP p)) P processT) where
+  -- `(c,t,x,P,Q)` behind the word w: out and in alike
+  comm-exact : {A : Type 0} {W : A → Type 0} {r : Reader A} {pr : Printer A} → Exact W r pr → (k : Name → Span → A → Process → Process → Part) (w : Name)
+      → ((c : Name) (t : Span) (b : A) (p q : Process) (us : List Token) → word w ∷ sign opens ∷ word c ∷ sign comma ∷ timerT t (sign comma ∷ pr b (sign comma ∷ processT p (sign comma ∷ processT q (sign closes ∷ us)))) ≡ partT (k c t b p q) us)
+      → ((c : Name) (t : Span) (b : A) (p q : Process) → Is isSmall c × WellTimer (timerOf t) × W b × WellProcess (settleP p) × WellProcess (settleP q) → WellPart (settle (k c t b p q)))
+      → (ts : List Token) (a : Part) (us : List Token) → commForm r k P ts ≡ ok a us → Took (λ a. WellPart (settle a)) partT (word w ∷ ts) a us
+  unfolding signT
+  comm-exact y k w g h ts a us e =
+      then (the-exact opens) ts _ e λ o b e1 _ e.
+      then (name-exact isSmall) b _ e λ m c e2 wm e.
+      then (the-exact comma) c _ e λ o d e3 _ e.
+      then timer-exact d _ e λ t f e4 wt e.
+      then (the-exact comma) f _ e λ o i e5 _ e.
+      then y i _ e λ v j e6 wv e.
+      then (the-exact comma) j _ e λ o l e7 _ e.
+      then x l _ e λ p n e8 wp e.
+      then (the-exact comma) n _ e λ o s e9 _ e.
+      then x s _ e λ q u e10 wq e.
+      then (the-exact closes) u _ e λ o z e11 _ e.
+      took (k m t v p q) z e (cc (g m t v p q z)) (h m t v p q (wm, wt, wv, wp, wq))
+
+  form-exact : (w : Name) (h : Head) → View w h → (ts : List Token) (a : Part) (us : List Token) → partForm P h w ts ≡ ok a us → Took (λ a. WellPart (settle a)) partT (word w ∷ ts) a us
   unfolding partT signT
   form-exact w stops (is-stop i) ts a us e = took stop ts e (cc) tt
   form-exact w goes (is-go i) ts a us e =
@@ -187,48 +215,24 @@ module _ {P : Reader Process} (x : Exact WellProcess P processT) where
       then x g _ e λ p h ep wp e.
       then (the-exact closes) h _ e λ o k ef _ e.
       took (go t v p) k e (cc) (wt, wv, wp)
-  form-exact w sends (is-out i) ts a us e =
-      then (the-exact opens) ts _ e λ o b e1 _ e.
-      then (name-exact isSmall) b _ e λ m c e2 wm e.
-      then (the-exact comma) c _ e λ o d e3 _ e.
-      then timer-exact d _ e λ t f e4 wt e.
-      then (the-exact comma) f _ e λ o g e5 _ e.
-      then value-exact g _ e λ v h e6 wv e.
-      then (the-exact comma) h _ e λ o j e7 _ e.
-      then x j _ e λ p k e8 wp e.
-      then (the-exact comma) k _ e λ o l e9 _ e.
-      then x l _ e λ q n e10 wq e.
-      then (the-exact closes) n _ e λ o z e11 _ e.
-      took (out m t v p q) z e (cc) (wm, wt, wv, wp, wq)
-  form-exact w receives (is-in i) ts a us e =
-      then (the-exact opens) ts _ e λ o b e1 _ e.
-      then (name-exact isSmall) b _ e λ m c e2 wm e.
-      then (the-exact comma) c _ e λ o d e3 _ e.
-      then timer-exact d _ e λ t f e4 wt e.
-      then (the-exact comma) f _ e λ o g e5 _ e.
-      then (name-exact isSmall) g _ e λ v h e6 wv e.
-      then (the-exact comma) h _ e λ o j e7 _ e.
-      then x j _ e λ p k e8 wp e.
-      then (the-exact comma) k _ e λ o l e9 _ e.
-      then x l _ e λ q n e10 wq e.
-      then (the-exact closes) n _ e λ o z e11 _ e.
-      took (inp m t v p q) z e (cc) (wm, wt, wv, wp, wq)
+  form-exact w sends (is-out i) ts a us e = rw i (comm-exact value-exact out (bytes "out") (λ c t v p q zs. refl) (λ c t v p q w. w) ts a us e)
+  form-exact w receives (is-in i) ts a us e = rw i (comm-exact (name-exact isSmall) inp (bytes "in") (λ c t y p q zs. refl) (λ c t y p q w. w) ts a us e)
   form-exact w calls (is-call i) ts a us e =
       then (list-exact value-exact) ts _ e λ vs z g h e.
       took (call w vs) z e (cc) (i, h)
   form-exact w nothing is-none ts a us e = clash e
 
-part-step : {P : Reader Process} → Exact WellProcess P processT → Exact WellPart (aPart P) partT
+part-step : {P : Reader Process} → Exact (λ p. WellProcess (settleP p)) P processT → Exact (λ a. WellPart (settle a)) (aPart P) partT
 part-step x ts a us e =
     then word-exact ts _ e λ w vs g o e.
     let t = form-exact x w (headOf w) (view w) vs a us e in
     record { was = g ∙ t .was; well = t .well }
 
-process-step : {A : Reader Part} {P : Reader Process} → Exact WellPart A partT → Exact WellProcess P processT → Exact WellProcess (aProcess A P) processT
+process-step : {A : Reader Part} {P : Reader Process} → Exact (λ a. WellPart (settle a)) A partT → Exact (λ p. WellProcess (settleP p)) P processT → Exact (λ p. WellProcess (settleP p)) (aProcess A P) processT
 unfolding partT signT
 process-step {P = P} y x ts p us e = then y ts _ e λ a vs g w e. go a vs g w (next bar vs) e
   where
-    go : (a : Part) (vs : List Token) → ts ≡ partT a vs → WellPart a → (y : Bool) → moreParts y a P vs ≡ ok p us → Took WellProcess processT ts p us
+    go : (a : Part) (vs : List Token) → ts ≡ partT a vs → WellPart (settle a) → (y : Bool) → moreParts y a P vs ≡ ok p us → Took (λ p. WellProcess (settleP p)) processT ts p us
     go a vs g w false e = took (one a) vs e g w
     go a vs g w true e =
         then (the-exact bar) vs _ e λ o xs h _ e.
@@ -238,16 +242,16 @@ process-step {P = P} y x ts p us e = then y ts _ e λ a vs g w e. go a vs g w (n
 mutual
   unfolding partOf
 
-  pub part-exact : (f : ℕ) → Exact WellPart (partOf f) partT
+  pub part-exact : (f : ℕ) → Exact (λ a. WellPart (settle a)) (partOf f) partT
   part-exact zero = λ ts a us e. clash e
   part-exact (suc f) = part-step (process-exact f)
 
-  pub process-exact : (f : ℕ) → Exact WellProcess (processOf f) processT
+  pub process-exact : (f : ℕ) → Exact (λ p. WellProcess (settleP p)) (processOf f) processT
   process-exact zero = λ ts a us e. clash e
   process-exact (suc f) = process-step (part-exact f) (process-exact f)
 
 -- ── definitions, located processes, texts ──
-pub def-exact : Exact WellDef aDef defT
+pub def-exact : Exact (λ d. WellDef (settleDef d)) aDef defT
 unfolding aDef signT
 def-exact ts a us e =
     then (name-exact isIdentifier) ts _ e λ i b e1 wi e.
@@ -257,7 +261,7 @@ def-exact ts a us e =
     then (the-exact dot) f _ e λ o g e5 _ e.
     took (define i xs p) g e (cc) (wi, wx, wp)
 
-pub located-exact : Exact WellLocated aLocated locatedT
+pub located-exact : Exact (λ l. WellLocated (settleAt l)) aLocated locatedT
 unfolding aLocated signT
 located-exact ts a us e =
     then (name-exact isLocation) ts _ e λ l b e1 wl e.
@@ -270,52 +274,52 @@ end-inv : (ts : List Token) {B : Type 0} (b : B) {c : B} {us : List Token} → b
 end-inv [] b e = (refl, cc)
 end-inv (t ∷ ts) b e = clash e
 
-network-exact : (ts : List Token) (ls : List Located) (us : List Token) → aNetwork ts ≡ ok ls us → (ts ≡ networkT ls) × Many WellLocated ls
+network-exact : (ts : List Token) (ls : List Located) (us : List Token) → aNetwork ts ≡ ok ls us → (ts ≡ networkT ls) × Each WellLocated (map settleAt ls) × NonEmpty (map settleAt ls)
 unfolding aNetwork signT
 network-exact ts ls us e =
     then (joined-exact located-exact bar (length ts)) ts _ e λ ms a e1 w e.
     then (the-exact dot) a _ e λ o b e2 _ e.
     let h = end-inv b ms e in
     let g : ts ≡ manyT bar locatedT ms (sign dot ∷ []) = e1 ∙ ap (manyT bar locatedT ms) (e2 ∙ ap (λ z. sign dot ∷ z) (h .0)) in
-    subst (λ x. (ts ≡ networkT x) × Many WellLocated x) (h .1) (g ∙ shape ms w, w)
+    subst (λ x. (ts ≡ networkT x) × Each WellLocated (map settleAt x) × NonEmpty (map settleAt x)) (h .1) (g ∙ shape ms w, each-map WellLocated settleAt ms (w .0), some-map settleAt ms (w .1))
   where
-    shape : (ms : List Located) → Many WellLocated ms → manyT bar locatedT ms (sign dot ∷ []) ≡ networkT ms
+    shape : (ms : List Located) → Many (λ l. WellLocated (settleAt l)) ms → manyT bar locatedT ms (sign dot ∷ []) ≡ networkT ms
     shape [] w = absurd (w .1)
     shape (m ∷ ms) w = unfold manyT networkT in refl
 
-text-exact : (f : ℕ) (ts : List Token) (t : Tree) (us : List Token) → textOf f ts ≡ ok t us → (ts ≡ tokens t) × WellTree t
+text-exact : (f : ℕ) (ts : List Token) (t : Text) (us : List Token) → textOf f ts ≡ ok t us → (ts ≡ tokens t) × WellText t
 unfolding textOf textT
 text-exact zero ts t us e = clash e
 text-exact (suc f) ts t us e = go (netNext ts) e (text-exact f)
   where
-    net : (x : Rest (List Located)) → aNetwork ts ≡ x → bind x (λ ls vs. ok (record { defs = []; located = ls }) vs) ≡ ok t us → (ts ≡ tokens t) × WellTree t
+    net : (x : Rest (List Located)) → aNetwork ts ≡ x → bind x (λ ls vs. ok (record { defs = []; located = ls }) vs) ≡ ok t us → (ts ≡ tokens t) × WellText t
     net bad h e = clash e
     net (ok ls vs) h e =
         let k = network-exact ts ls vs h in
         let i : record { defs = []; located = ls } ≡ t = cc in
-        subst (λ x. (ts ≡ tokens x) × WellTree x) i (k .0, record { defs-well = tt; located-well = k .1 .0; some-located = k .1 .1 })
+        subst (λ x. (ts ≡ tokens x) × WellText x) i (k .0, record { defs-well = tt; located-well = k .1; some-located = k .2 })
 
-    add : (d : Def) (vs : List Token) → ts ≡ defT d vs → WellDef d → (x : Rest Tree) → textOf f vs ≡ x → bind x (λ r zs. ok (addDef d r) zs) ≡ ok t us → ((ts : List Token) (t : Tree) (us : List Token) → textOf f ts ≡ ok t us → (ts ≡ tokens t) × WellTree t) → (ts ≡ tokens t) × WellTree t
+    add : (d : Def) (vs : List Token) → ts ≡ defT d vs → WellDef (settleDef d) → (x : Rest Text) → textOf f vs ≡ x → bind x (λ r zs. ok (addDef d r) zs) ≡ ok t us → ((ts : List Token) (t : Text) (us : List Token) → textOf f ts ≡ ok t us → (ts ≡ tokens t) × WellText t) → (ts ≡ tokens t) × WellText t
     add d vs g w bad h e k = clash e
     add d vs g w (ok r zs) h e k =
         let m = k vs r zs h in
         let i : addDef d r ≡ t = cc in
-        subst (λ x. (ts ≡ tokens x) × WellTree x) i (g ∙ ap (defT d) (m .0), record { defs-well = (w, m .1 .defs-well); located-well = m .1 .located-well; some-located = m .1 .some-located })
+        subst (λ x. (ts ≡ tokens x) × WellText x) i (g ∙ ap (defT d) (m .0), record { defs-well = (w, m .1 .defs-well); located-well = m .1 .located-well; some-located = m .1 .some-located })
 
-    go : (y : Bool) → textForm y (textOf f) ts ≡ ok t us → ((ts : List Token) (t : Tree) (us : List Token) → textOf f ts ≡ ok t us → (ts ≡ tokens t) × WellTree t) → (ts ≡ tokens t) × WellTree t
+    go : (y : Bool) → textForm y (textOf f) ts ≡ ok t us → ((ts : List Token) (t : Text) (us : List Token) → textOf f ts ≡ ok t us → (ts ≡ tokens t) × WellText t) → (ts ≡ tokens t) × WellText t
     go true e k = net (aNetwork ts) refl e
     go false e k = then def-exact ts _ e λ d vs g w e. add d vs g w (textOf f vs) refl e k
 
 -- whatever has a form is the tokens of a well-formed tree
-pub form-tokens : (s : List ℕ) (t : Tree) → form s ≡ accepted t → (lex s ≡ tokens t) × WellTree t
+pub form-tokens : (s : List ℕ) (t : Text) → form s ≡ accepted t → (lex s ≡ tokens t) × WellText t
 unfolding form
 form-tokens s t e = go (text (lex s)) refl e
   where
-    go : (x : Rest Tree) → text (lex s) ≡ x → whole x ≡ accepted t → (lex s ≡ tokens t) × WellTree t
-    go (ok r us) h e = let i : r ≡ t = cc in subst (λ x. (lex s ≡ tokens x) × WellTree x) i (text-exact (length (lex s)) (lex s) r us h)
+    go : (x : Rest Text) → text (lex s) ≡ x → whole x ≡ accepted t → (lex s ≡ tokens t) × WellText t
+    go (ok r us) h e = let i : r ≡ t = cc in subst (λ x. (lex s ≡ tokens x) × WellText x) i (text-exact (length (lex s)) (lex s) r us h)
     go bad h e = let z : _≡_ {A = ℕ} 0 1 = cc in absurd (omega arith)
 
 -- question 2 in one line: the text has the form of t exactly if its tokens are those of t, well-formed
-pub form-is : (s : List ℕ) (t : Tree) → (form s ≡ accepted t) ↔ ((lex s ≡ tokens t) × WellTree t)
+pub form-is : (s : List ℕ) (t : Text) → (form s ≡ accepted t) ↔ ((lex s ≡ tokens t) × WellText t)
 unfolding form
 form-is s t = (form-tokens s t, λ h. rw (h .0, tokens-back t (h .1)))

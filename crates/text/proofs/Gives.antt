@@ -15,11 +15,12 @@ use Rattle.terms.specs.Rules.{Answer, _>>=_, split, unmarked}
 use Rattle.terms.specs.Rules.Answer.{refused, accepted}
 use Rattle.terms.specs.Same.{every}
 use Rattle.terms.specs.Letters.{isLocation}
-use Rattle.text.specs.Tree.{Located, Tree, components, networkOf}
+use Rattle.text.specs.Syntax.{Text}
+use Rattle.text.specs.Tree.{Located, Tree, settled, components, networkOf}
 use Rattle.text.specs.Tree.Located.{at}
 use Rattle.text.specs.Write.{write}
 use Rattle.text.specs.WellFormed.{Is, Each, WellProcess, WellLocated, NonEmpty, WellTree, WellComponent, Writable}
-use Rattle.text.specs.Questions.{ask, form, read, short, shallow, fits, definedOnce, callsMet, bound, places, partPlaces, processPlaces, locatedPlaces, componentPlaces, networkPlaces, Sound}
+use Rattle.text.specs.Questions.{ask, form, asked, read, short, shallow, fits, definedOnce, callsMet, bound, places, partPlaces, processPlaces, locatedPlaces, componentPlaces, networkPlaces, Sound}
 use Rattle.text.proofs.Exact.{form-tokens}
 use Rattle.text.proofs.RoundTrip.{limited, only-limits}
 
@@ -84,26 +85,27 @@ ask-inv n true k e g = g refl e
 ask-inv n false k e g = clash e
 
 pub record Given (s : List ℕ) (n : Network) : Type 0 where
-  pub tree : Tree
-  pub formed : form s ≡ accepted tree
-  pub is : networkOf tree ≡ n
+  pub text : Text
+  pub formed : form s ≡ accepted text
+  pub is : networkOf (settled text) ≡ n
   pub writable : Writable n
   pub sound : Sound n
 
 pub read-gives : (s : List ℕ) (n : Network) → read s ≡ accepted n → Given s n
-unfolding read
+unfolding read asked
 read-gives s n e = ask-inv 1 (short s) _ e λ a e. go (form s) refl e
   where
-    go : (x : Answer Tree) → form s ≡ x → (x >>= λ t. ask 3 (shallow t) >>= λ a. ask 4 (fits t) >>= λ a. ask 5 (definedOnce (t .defs)) >>= λ a. ask 6 (callsMet t) >>= λ a. ask 7 (bound t) >>= λ a. accepted (networkOf t)) ≡ accepted n → Given s n
+    go : (x : Answer Text) → form s ≡ x → (x >>= λ y. asked (settled y)) ≡ accepted n → Given s n
     go (refused m) h e = clash e
-    go (accepted t) h e =
+    go (accepted x) h e =
+        let t = settled x in
         ask-inv 3 (shallow t) _ e λ q3 e.
         ask-inv 4 (fits t) _ e λ q4 e.
         ask-inv 5 (definedOnce (t .defs)) _ e λ q5 e.
         ask-inv 6 (callsMet t) _ e λ q6 e.
         ask-inv 7 (bound t) _ e λ q7 e.
         let i : networkOf t ≡ n = cc in
-        record { tree = t; formed = h; is = i; writable = subst Writable i (tree-writable t (form-tokens s t h .1)); sound = subst Sound i (tree-sound t q5 q6 q7) }
+        record { text = x; formed = h; is = i; writable = subst Writable i (tree-writable t (form-tokens s x h .1)); sound = subst Sound i (tree-sound t q5 q6 q7) }
 
 -- what was read can be written and read again, unless a limit is passed
 pub read-again : (s : List ℕ) (n : Network) → read s ≡ accepted n → read (write n) ≡ limited n
@@ -123,6 +125,3 @@ read-unmarked s n e = well-unmarked (n .comps) (read-gives s n e .writable .comp
 pub filled : (cs : List Component) → NonEmpty cs → 0 < length cs
 filled [] h = absurd h
 filled (c ∷ cs) h = omega arith
-
-pub read-nonempty : (s : List ℕ) (n : Network) → read s ≡ accepted n → 0 < length (n .comps)
-read-nonempty s n e = filled (n .comps) (read-gives s n e .writable .some-comps)

@@ -2,29 +2,30 @@
 -- By recursion on the tree, with as much depth and number as the tokens themselves give: every form is longer than what it holds.
 use Prim.Native.Nat.{ℕ, zero, suc, _+_, _*_, _≤_, _<_}
 use native.Mathlib.Omega.{arith}
-use mathlib.Core.List.{List, [], _∷_}
+use mathlib.Core.List.{List, [], _∷_, map}
 use mathlib.Core.Bool.{Bool, true, false, _||_, not, false≢true}
 use mathlib.Core.Path.{_≡_, refl}
 use lib.Dec.{eqb}
 use borrow.Author.Tests.{eq-eqb}
 use lib.ListN.{length}
 use Rattle.terms.specs.Names.{Name, bytes, sameName}
-use Rattle.terms.specs.Terms.{Timer, Value, Part, Process, Def}
-use Rattle.terms.specs.Terms.Timer.{ticks, inf}
+use Rattle.terms.specs.Terms.{Value}
 use Rattle.terms.specs.Terms.Value.{loc, var}
-use Rattle.terms.specs.Terms.Part.{stop, go, out, inp, call}
-use Rattle.terms.specs.Terms.Process.{one, _∥_}
-use Rattle.terms.specs.Terms.Def.{define}
 use Rattle.terms.specs.Characters.Class.{capital, small, digit, bracket, blank, other}
 use Rattle.text.specs.Tokens.{Token, opens, closes, right, comma, bar, dot, equals}
 use Rattle.text.specs.Tokens.Token.{word, sign}
-use Rattle.text.specs.Tree.{Located, Tree}
-use Rattle.text.specs.Tree.Located.{at}
+use Rattle.text.specs.Syntax.{Span, Part, Process, Def, Located, Text}
+use Rattle.text.specs.Syntax.Span.{exactly, forever}
+use Rattle.text.specs.Syntax.Part.{stop, go, out, inp, call}
+use Rattle.text.specs.Syntax.Process.{one, _∥_}
+use Rattle.text.specs.Syntax.Def.{define}
+use Rattle.text.specs.Syntax.Located.{at}
+use Rattle.text.specs.Tree.{timerOf, settle, settleP, settleDef, settleAt}
 use Rattle.text.specs.Grammar.{Reader, named, the, next, joined, sepBy, listOf, aTimer, aValue, headOf, partOf, processOf, process, aDef, aLocated, aNetwork, netNext, textOf, text}
 use Rattle.text.specs.Grammar.Rest.{ok}
 use Rattle.text.specs.Grammar.Head.{calls}
 use Rattle.text.specs.Write.{Printer, nameT, timerT, valueT, joinedT, listT, partT, processT, defT, locatedT, networkT, textT, tokens}
-use Rattle.text.specs.WellFormed.{Is, WellTimer, WellValue, Each, WellPart, WellProcess, WellDef, WellLocated, NonEmpty, WellTree}
+use Rattle.text.specs.WellFormed.{Is, WellTimer, WellValue, Each, WellPart, WellProcess, WellDef, WellLocated, NonEmpty, WellText}
 use Rattle.terms.specs.Characters.{Class, classOf, isCapital, isLower}
 use Rattle.terms.specs.Rules.{some}
 use Rattle.terms.specs.Letters.{member, isLocation, isSmall, isIdentifier, reserved, firstIs}
@@ -70,10 +71,10 @@ identifier-calls w e =
     rw (a .0, b .0, d .0, c .0, e)
 
 -- ── timers and values ──
-timer-back : (t : Timer) (ts : List Token) → WellTimer t → aTimer (timerT t ts) ≡ ok t ts
+timer-back : (t : Span) (ts : List Token) → WellTimer (timerOf t) → aTimer (timerT t ts) ≡ ok t ts
 unfolding aTimer sameName
-timer-back (ticks n) ts h = rw (digits-not-inf n, digits-ticks n h, digits-number n)
-timer-back inf ts h = refl
+timer-back (exactly n) ts h = rw (digits-not-inf n, digits-ticks n h, digits-number n)
+timer-back forever ts h = refl
 
 value-back : (v : Value) (ts : List Token) → WellValue v → aValue (valueT v ts) ≡ ok v ts
 unfolding aValue
@@ -87,6 +88,14 @@ pub the-back : (c : ℕ) (ts : List Token) → the c (sign c ∷ ts) ≡ ok tt t
 the-back c ts = rw (eqb-same c)
 
 -- ── lists ──
+pub each-of : {A B : Type 0} (W : B → Type 0) (f : A → B) (xs : List A) → Each W (map f xs) → Each (λ x. W (f x)) xs
+each-of W f [] w = tt
+each-of W f (x ∷ xs) w = (w .0, each-of W f xs (w .1))
+
+pub some-of : {A B : Type 0} (f : A → B) (xs : List A) → NonEmpty (map f xs) → NonEmpty xs
+some-of f [] s = s
+some-of f (x ∷ xs) s = tt
+
 -- r reads what pr prints of whatever is well, and that is a token at least
 pub record Back {A : Type 0} (W : A → Type 0) (r : Reader A) (pr : Printer A) : Type 0 where
   pub back : (a : A) (ts : List Token) → W a → r (pr a ts) ≡ ok a ts
@@ -96,9 +105,9 @@ pub value-longer : (v : Value) (ts : List Token) → length ts < length (valueT 
 value-longer (loc w) ts = omega arith
 value-longer (var w) ts = omega arith
 
-pub timer-longer : (t : Timer) (ts : List Token) → length ts < length (timerT t ts)
-timer-longer (ticks n) ts = omega arith
-timer-longer inf ts = omega arith
+pub timer-longer : (t : Span) (ts : List Token) → length ts < length (timerT t ts)
+timer-longer (exactly n) ts = omega arith
+timer-longer forever ts = omega arith
 
 pub values : Back WellValue aValue valueT
 values = record { back = value-back; longer = value-longer }
@@ -147,7 +156,7 @@ mutual
 mutual
   unfolding partT partOf headOf sameName
 
-  pub part-back : (f : ℕ) (a : Part) (ts : List Token) → 2 * length (partT a ts) < f → next opens ts ≡ false → WellPart a → partOf f (partT a ts) ≡ ok a ts
+  pub part-back : (f : ℕ) (a : Part) (ts : List Token) → 2 * length (partT a ts) < f → next opens ts ≡ false → WellPart (settle a) → partOf f (partT a ts) ≡ ok a ts
   part-back zero a ts h n w = absurd (omega arith)
   part-back (suc f) stop ts h n w = refl
   part-back (suc f) (go t v p) ts h n (a, b, c) =
@@ -169,36 +178,36 @@ mutual
       rw (a, timer-back t u b, c, process-back f p y (omega (arith, timer-longer t u)) refl refl d, process-back f q z (omega (arith, timer-longer t u, process-longer p y)) refl refl e)
   part-back (suc f) (call i vs) ts h n (a, b) = rw (identifier-calls i a, list-back values vs ts n b)
 
-  pub process-back : (f : ℕ) (p : Process) (ts : List Token) → 2 * length (processT p ts) + 1 < f → next opens ts ≡ false → next bar ts ≡ false → WellProcess p → processOf f (processT p ts) ≡ ok p ts
+  pub process-back : (f : ℕ) (p : Process) (ts : List Token) → 2 * length (processT p ts) + 1 < f → next opens ts ≡ false → next bar ts ≡ false → WellProcess (settleP p) → processOf f (processT p ts) ≡ ok p ts
   process-back zero p ts h n m w = absurd (omega arith)
   process-back (suc f) (one a) ts h n m w = rw (part-back f a ts (omega arith) n w, m)
   process-back (suc f) (a ∥ p) ts h n m w = rw (part-back f a (sign bar ∷ processT p ts) (omega arith) refl (w .0), process-back f p ts (omega (arith, part-longer a (sign bar ∷ processT p ts))) n m (w .1))
 
-process-whole : (p : Process) (ts : List Token) → next opens ts ≡ false → next bar ts ≡ false → WellProcess p → process (processT p ts) ≡ ok p ts
+process-whole : (p : Process) (ts : List Token) → next opens ts ≡ false → next bar ts ≡ false → WellProcess (settleP p) → process (processT p ts) ≡ ok p ts
 process-whole p ts n m w = process-back (2 * length (processT p ts) + 2) p ts (omega arith) n m w
 
 -- ── definitions, located processes, texts ──
-def-back : (d : Def) (ts : List Token) → WellDef d → aDef (defT d ts) ≡ ok d ts
+def-back : (d : Def) (ts : List Token) → WellDef (settleDef d) → aDef (defT d ts) ≡ ok d ts
 unfolding aDef
 def-back (define i us p) ts (a, b, c) =
     let y = sign dot ∷ ts in
     let x = sign equals ∷ processT p y in
     rw (a, list-back (names isSmall) us x refl b, process-whole p y refl refl c)
 
-located-back : (l : Located) (ts : List Token) → WellLocated l → aLocated (locatedT l ts) ≡ ok l ts
+located-back : (l : Located) (ts : List Token) → WellLocated (settleAt l) → aLocated (locatedT l ts) ≡ ok l ts
 unfolding aLocated
 located-back (at l p) ts (a, b) = rw (a, process-whole p (sign right ∷ ts) refl refl b)
 
 pub located-longer : (l : Located) (ts : List Token) → length ts < length (locatedT l ts)
 located-longer (at l p) ts = omega (arith, process-longer p (sign right ∷ ts))
 
-locateds : Back WellLocated aLocated locatedT
+locateds : Back (λ l. WellLocated (settleAt l)) aLocated locatedT
 locateds = record { back = located-back; longer = located-longer }
 
-network-back : (ls : List Located) → NonEmpty ls → Each WellLocated ls → aNetwork (networkT ls) ≡ ok ls []
+network-back : (ls : List Located) → NonEmpty ls → Each WellLocated (map settleAt ls) → aNetwork (networkT ls) ≡ ok ls []
 unfolding aNetwork networkT
 network-back [] s w = absurd s
-network-back (l ∷ ls) s w = rw (sepBy-back bar locateds l ls (sign dot ∷ []) refl w)
+network-back (l ∷ ls) s w = rw (sepBy-back bar locateds l ls (sign dot ∷ []) refl (each-of WellLocated settleAt (l ∷ ls) w))
 
 -- a network begins with a name and `[`, a definition does not
 net-next : (ls : List Located) → NonEmpty ls → netNext (networkT ls) ≡ true
@@ -219,7 +228,7 @@ unfolding networkT
 network-longer [] = omega arith
 network-longer (l ∷ ls) = omega (arith, joined-longer bar locateds l ls (sign dot ∷ []))
 
-text-back : (f : ℕ) (ds : List Def) (ls : List Located) → length (textT ds ls) ≤ f → Each WellDef ds → Each WellLocated ls → NonEmpty ls → textOf f (textT ds ls) ≡ ok (record { defs = ds; located = ls }) []
+text-back : (f : ℕ) (ds : List Def) (ls : List Located) → length (textT ds ls) ≤ f → Each WellDef (map settleDef ds) → Each WellLocated (map settleAt ls) → NonEmpty ls → textOf f (textT ds ls) ≡ ok (record { defs = ds; located = ls }) []
 unfolding textOf textT
 text-back zero [] ls h d w s = absurd (omega (arith, network-longer ls))
 text-back zero (x ∷ ds) ls h d w s = absurd (omega (arith, def-longer x (textT ds ls)))
@@ -227,5 +236,5 @@ text-back (suc f) [] ls h d w s = rw (net-next ls s, network-back ls s w)
 text-back (suc f) (x ∷ ds) ls h (e, d) w s = rw (def-next x (textT ds ls), def-back x (textT ds ls) e, text-back f ds ls (omega (arith, def-longer x (textT ds ls))) d w s)
 
 -- the tokens of a tree read back as that tree, with nothing left
-pub tokens-back : (t : Tree) → WellTree t → text (tokens t) ≡ ok t []
-tokens-back t w = text-back (length (tokens t)) (t .defs) (t .located) (omega arith) (w .defs-well) (w .located-well) (w .some-located)
+pub tokens-back : (t : Text) → WellText t → text (tokens t) ≡ ok t []
+tokens-back t w = text-back (length (tokens t)) (t .defs) (t .located) (omega arith) (w .defs-well) (w .located-well) (some-of settleAt (t .located) (w .some-located))

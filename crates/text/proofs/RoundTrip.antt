@@ -1,27 +1,61 @@
 -- Reading what was written asks only 1, 3 and 4, and gives the same network: `only-limits`, `round-trip`.
--- The written text has the network's own tree, and its places are those of the network, so that 5, 6 and 7 ask what `Sound` says.
+-- The terms of the written text are the network's own tree, and their places are those of the network, so that 5, 6 and 7 ask what `Sound` says.
 use mathlib.Core.List.{List, [], _∷_, map, flatMap}
 use mathlib.Core.Bool.{true}
 use mathlib.Core.Path.{_≡_, refl, _∙_}
-use Rattle.terms.specs.Terms.{Component, Network}
+use Rattle.terms.specs.Terms.{Timer, Part, Process, Component, Def, Network}
+use Rattle.terms.specs.Terms.Timer.{ticks, inf}
+use Rattle.terms.specs.Terms.Part.{stop, go, out, inp, call}
 use Rattle.terms.specs.Terms.Process.{one, _∥_}
+use Rattle.terms.specs.Terms.Def.{define}
 use Rattle.terms.specs.Terms.Mark.{none, by}
 use Rattle.terms.specs.Terms.Component.{comp}
 use Rattle.terms.specs.Rules.{Answer, split, _>>=_}
 use Rattle.terms.specs.Rules.Answer.{accepted}
 use Rattle.terms.specs.Same.{every}
-use Rattle.text.specs.Tree.{Tree, components, networkOf}
-use Rattle.text.specs.Write.{tokens, spelled, located, treeOf, write}
-use Rattle.text.specs.WellFormed.{Each, WellLocated, NonEmpty, WellTree, WellComponent, Writable}
-use Rattle.text.specs.Questions.{ask, form, read, short, shallow, fits, callsMet, callMet, bound, boundAt, places, locatedPlaces, componentPlaces, networkPlaces, Sound, _>>_}
+use Rattle.text.specs.Syntax.{Text}
+use Rattle.text.specs.Tree.{timerOf, settle, settleP, settleDef, settleAt, settled, components, networkOf, located, treeOf}
+use Rattle.text.specs.Write.{tokens, spelled, spellTimer, spellPart, spellProcess, spellDef, spellComponent, spellNetwork, write}
+use Rattle.text.specs.WellFormed.{Each, WellLocated, NonEmpty, WellTree, WellText, WellComponent, Writable}
+use Rattle.text.specs.Questions.{ask, form, asked, read, short, shallow, fits, callsMet, callMet, bound, boundAt, places, locatedPlaces, componentPlaces, networkPlaces, Sound, _>>_}
 use Rattle.text.proofs.ReadBack.{tokens-back}
+use Rattle.text.proofs.Exact.{some-map}
 use Rattle.text.proofs.Spelling.{tokens-lex}
 
 -- every well-formed tree is the tree of its spelling
-pub form-spelled : (t : Tree) → WellTree t → form (spelled (tokens t)) ≡ accepted t
+pub form-spelled : (t : Text) → WellText t → form (spelled (tokens t)) ≡ accepted t
 unfolding form
 form-spelled t w = rw (tokens-lex t w, tokens-back t w)
 
+-- ── the term of a term's spelling is that term ──
+timer-same : (t : Timer) → timerOf (spellTimer t) ≡ t
+timer-same (ticks n) = refl
+timer-same inf = refl
+
+mutual
+  part-same : (a : Part) → settle (spellPart a) ≡ a
+  part-same stop = refl
+  part-same (go t v p) = rw (timer-same t, process-same p)
+  part-same (out c t v p q) = rw (timer-same t, process-same p, process-same q)
+  part-same (inp c t y p q) = rw (timer-same t, process-same p, process-same q)
+  part-same (call i vs) = refl
+
+  process-same : (p : Process) → settleP (spellProcess p) ≡ p
+  process-same (one a) = rw (part-same a)
+  process-same (a ∥ p) = rw (part-same a, process-same p)
+
+defs-same : (ds : List Def) → map settleDef (map spellDef ds) ≡ ds
+defs-same [] = refl
+defs-same (define i us p ∷ ds) = rw (process-same p, defs-same ds)
+
+located-same : (cs : List Component) → map settleAt (map spellComponent cs) ≡ map located cs
+located-same [] = refl
+located-same (comp l m p ∷ cs) = rw (process-same p, located-same cs)
+
+pub settled-same : (n : Network) → settled (spellNetwork n) ≡ treeOf n
+settled-same n = rw (defs-same (n .defs), located-same (n .comps))
+
+-- ── the written text ──
 comp-well : (c : Component) → WellComponent c → WellLocated (located c)
 comp-well (comp l none (one a)) w = w
 comp-well (comp l none (a ∥ p)) w = absurd w
@@ -31,16 +65,12 @@ comps-well : (cs : List Component) → Each WellComponent cs → Each WellLocate
 comps-well [] w = tt
 comps-well (c ∷ cs) w = (comp-well c (w .0), comps-well cs (w .1))
 
-some-map : (cs : List Component) → NonEmpty cs → NonEmpty (map located cs)
-some-map [] s = s
-some-map (c ∷ cs) s = tt
-
 tree-well : (n : Network) → Writable n → WellTree (treeOf n)
-tree-well n w = record { defs-well = w .defs-well; located-well = comps-well (n .comps) (w .comps-well); some-located = some-map (n .comps) (w .some-comps) }
+tree-well n w = record { defs-well = w .defs-well; located-well = comps-well (n .comps) (w .comps-well); some-located = some-map located (n .comps) (w .some-comps) }
 
--- 2 does not refuse a written text, and its tree is the network's
-pub form-write : (n : Network) → Writable n → form (write n) ≡ accepted (treeOf n)
-form-write n w = form-spelled (treeOf n) (tree-well n w)
+-- 2 does not refuse a written text, and its tree is the network's spelling
+pub form-write : (n : Network) → Writable n → form (write n) ≡ accepted (spellNetwork n)
+form-write n w = form-spelled (spellNetwork n) (rw (settled-same n) (tree-well n w))
 
 comp-same : (c : Component) → WellComponent c → components (located c) ≡ c ∷ []
 unfolding components split
@@ -85,9 +115,13 @@ limited n = do
   ask 4 (fits (treeOf n))
   accepted n
 
+asked-limits : (n : Network) → Writable n → Sound n → asked (treeOf n) ≡ ask 3 (shallow (treeOf n)) >> (ask 4 (fits (treeOf n)) >> accepted n)
+unfolding asked
+asked-limits n w s = rw (s .once, calls-same n, s .defined, bound-same n, s .closed, network-same n w)
+
 pub only-limits : (n : Network) → Writable n → Sound n → read (write n) ≡ limited n
 unfolding read
-only-limits n w s = rw (form-write n w) (rw (s .once, calls-same n, s .defined, bound-same n, s .closed, network-same n w))
+only-limits n w s = rw (form-write n w, settled-same n, asked-limits n w s)
 
 -- the round trip
 pub round-trip : (n : Network) → Writable n → Sound n → short (write n) ≡ true → shallow (treeOf n) ≡ true → fits (treeOf n) ≡ true → read (write n) ≡ accepted n

@@ -1,28 +1,29 @@
 -- The spelling of a tree's tokens has those tokens.
 -- No word follows a word directly, a word's bytes are letters and digits, and each sign's spelling has that sign alone.
 use Prim.Native.Nat.{ℕ, _+_}
-use mathlib.Core.List.{List, [], _∷_, _++_, append-assoc, append-nil}
+use mathlib.Core.List.{List, [], _∷_, _++_, map, append-assoc, append-nil}
 use mathlib.Core.Bool.{Bool, true, false, false≢true}
 use mathlib.Core.Path.{_≡_, refl, ap, sym, _∙_}
 use Rattle.terms.specs.Names.{Name}
-use Rattle.terms.specs.Terms.{Def}
-use Rattle.terms.specs.Terms.Timer.{ticks, inf}
 use Rattle.terms.specs.Terms.Value.{loc, var}
-use Rattle.terms.specs.Terms.Part.{stop, go, out, inp, call}
-use Rattle.terms.specs.Terms.Process.{one, _∥_}
-use Rattle.terms.specs.Terms.Def.{define}
 use Rattle.terms.specs.Same.{every}
 use Rattle.terms.specs.Characters.Class.{capital, small, digit, bracket, blank, other}
 use Rattle.text.specs.Tokens.{Token, flush, step, lexFrom, lex, digits, opens, closes, left, right, comma, bar, dot, equals}
 use Rattle.text.specs.Tokens.Token.{word, sign}
-use Rattle.text.specs.Tree.{Located, Tree}
-use Rattle.text.specs.Tree.Located.{at}
+use Rattle.text.specs.Syntax.{Def, Located, Text}
+use Rattle.text.specs.Syntax.Span.{exactly, forever}
+use Rattle.text.specs.Syntax.Part.{stop, go, out, inp, call}
+use Rattle.text.specs.Syntax.Process.{one, _∥_}
+use Rattle.text.specs.Syntax.Def.{define}
+use Rattle.text.specs.Syntax.Located.{at}
+use Rattle.text.specs.Tree.{timerOf, settle, settleP, settleDef, settleAt}
 use Rattle.text.specs.Write.{Printer, nameT, timerT, valueT, joinedT, listT, partT, processT, locatedT, networkT, textT, tokens, spell, spelled}
-use Rattle.text.specs.WellFormed.{Is, WellTimer, WellValue, Each, WellPart, WellProcess, WellDef, WellLocated, WellTree}
+use Rattle.text.specs.WellFormed.{Is, WellTimer, WellValue, Each, WellPart, WellProcess, WellDef, WellLocated, WellText}
 use Rattle.terms.proofs.Names.{and-inv}
 use Rattle.terms.specs.Characters.{Class, classOf, isDigit, alnum, isAlnum}
 use Rattle.terms.specs.Letters.{isName, isLocation, isSmall, isIdentifier}
 use Rattle.terms.proofs.Letters.{name-form}
+use Rattle.text.proofs.ReadBack.{each-of}
 use Rattle.text.proofs.Digits.{every-map, digits-digit, digits-lead, Leads, leads}
 
 -- ── words ──
@@ -140,10 +141,10 @@ digits-worded n = go (digits-lead n) (every-map (λ b e. digit-alnum (classOf b)
 abbrev Clears : {A : Type 0} → (A → Type 0) → Printer A → Type 0
 Clears {A} W pr = (a : A) (ts : List Token) → W a → Parted ts → Clear ts → Clear (pr a ts)
 
-timer-clear : Clears WellTimer timerT
+timer-clear : Clears (λ t. WellTimer (timerOf t)) timerT
 unfolding every classOf
-timer-clear (ticks n) ts w p k = words (digits-worded n) p k
-timer-clear inf ts w p k = words (worded refl) p k
+timer-clear (exactly n) ts w p k = words (digits-worded n) p k
+timer-clear forever ts w p k = words (worded refl) p k
 
 value-clear : Clears WellValue valueT
 value-clear (loc w) ts h p k = words (location-worded w h) p k
@@ -168,30 +169,30 @@ list-parted pr (a ∷ xs) ts p = tt
 mutual
   unfolding partT every classOf
 
-  part-clear : Clears WellPart partT
+  part-clear : Clears (λ a. WellPart (settle a)) partT
   part-clear stop ts w p k = words (worded refl) p k
   part-clear (go t v p) ts (a, b, c) h k = words (worded refl) tt (signs is-opens (timer-clear t _ a tt (signs is-comma (value-clear v _ b tt (signs is-comma (process-clear p _ c tt (signs is-closes k)))))))
   part-clear (out m t v p q) ts (a, b, c, d, e) h k = words (worded refl) tt (signs is-opens (small-clear m _ a tt (signs is-comma (timer-clear t _ b tt (signs is-comma (value-clear v _ c tt (signs is-comma (process-clear p _ d tt (signs is-comma (process-clear q _ e tt (signs is-closes k)))))))))))
   part-clear (inp m t y p q) ts (a, b, c, d, e) h k = words (worded refl) tt (signs is-opens (small-clear m _ a tt (signs is-comma (timer-clear t _ b tt (signs is-comma (small-clear y _ c tt (signs is-comma (process-clear p _ d tt (signs is-comma (process-clear q _ e tt (signs is-closes k)))))))))))
   part-clear (call i vs) ts (a, b) h k = words (identifier-worded i a) (list-parted valueT vs ts h) (list-clear value-clear vs ts b h k)
 
-  process-clear : Clears WellProcess processT
+  process-clear : Clears (λ p. WellProcess (settleP p)) processT
   process-clear (one a) ts w h k = part-clear a ts w h k
   process-clear (a ∥ p) ts w h k = part-clear a _ (w .0) tt (signs is-bar (process-clear p ts (w .1) h k))
 
-located-clear : Clears WellLocated locatedT
+located-clear : Clears (λ l. WellLocated (settleAt l)) locatedT
 located-clear (at l p) ts w h k = words (location-worded l (w .0)) tt (signs is-left (process-clear p _ (w .1) tt (signs is-right k)))
 
-network-clear : (ls : List Located) → Each WellLocated ls → Clear (networkT ls)
+network-clear : (ls : List Located) → Each WellLocated (map settleAt ls) → Clear (networkT ls)
 unfolding networkT
 network-clear [] w = signs is-dot ends
-network-clear (l ∷ ls) w = joined-clear is-bar located-clear l ls _ w tt (signs is-dot ends)
+network-clear (l ∷ ls) w = joined-clear is-bar located-clear l ls _ (each-of WellLocated settleAt (l ∷ ls) w) tt (signs is-dot ends)
 
-text-clear : (ds : List Def) (ls : List Located) → Each WellDef ds → Each WellLocated ls → Clear (textT ds ls)
+text-clear : (ds : List Def) (ls : List Located) → Each WellDef (map settleDef ds) → Each WellLocated (map settleAt ls) → Clear (textT ds ls)
 unfolding textT
 text-clear [] ls d w = network-clear ls w
 text-clear (define i us p ∷ ds) ls ((a, b, c), d) w = words (identifier-worded i a) (list-parted nameT us _ tt) (list-clear small-clear us _ b tt (signs is-equals (process-clear p _ c tt (signs is-dot (text-clear ds ls d w)))))
 
 -- the spelling of a tree's tokens has those tokens
-pub tokens-lex : (t : Tree) → WellTree t → lex (spelled (tokens t)) ≡ tokens t
+pub tokens-lex : (t : Text) → WellText t → lex (spelled (tokens t)) ≡ tokens t
 tokens-lex t w = lexes (text-clear (t .defs) (t .located) (w .defs-well) (w .located-well))

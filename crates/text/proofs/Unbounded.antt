@@ -7,11 +7,12 @@ use mathlib.Core.Bool.{Bool, true, false}
 use mathlib.Core.Path.{_≡_, refl, ap, sym, _∙_}
 use lib.ListN.{length}
 use Rattle.terms.specs.Names.{Name}
-use Rattle.terms.specs.Terms.{Value, Part, Process}
+use Rattle.terms.specs.Terms.{Value}
 use Rattle.terms.specs.Letters.{isSmall}
 use Rattle.text.specs.Tokens.{Token, opens, comma, bar}
-use Rattle.text.specs.Tree.{Tree}
-use Rattle.text.specs.Grammar.{Rest, Reader, bind, named, the, aWord, next, more, joined, sepBy, listOf, aTimer, aValue, Head, headOf, partForm, aPart, moreParts, aProcess, partOf, processOf, part, process, aDef, aLocated, netNext, addDef, textForm, textOf, text, _>>_}
+use Rattle.text.specs.Syntax.{Span, Part, Process, Text}
+use Rattle.text.specs.Syntax.Part.{out, inp}
+use Rattle.text.specs.Grammar.{Rest, Reader, bind, named, the, aWord, next, more, joined, sepBy, listOf, aTimer, aValue, Head, headOf, commForm, partForm, aPart, moreParts, aProcess, partOf, processOf, part, process, aDef, aLocated, netNext, addDef, textForm, textOf, text, _>>_}
 use Rattle.text.specs.Grammar.Rest.{ok, bad}
 use Rattle.text.specs.Grammar.Head.{stops, goes, sends, receives, calls, nothing}
 use Rattle.text.specs.Write.{Printer}
@@ -60,6 +61,19 @@ module _ (P Q : Reader Process) (n : ℕ) (agree : (ts : List Token) → length 
   same-P : {B : Type 0} (ts : List Token) (k l : Process → Reader B) → length ts < n → ((p : Process) (us : List Token) → length us < length ts → k p us ≡ l p us) → bind (P ts) k ≡ bind (Q ts) l
   same-P ts k l h g = rw (agree ts h) (same-then lessQ ts k l g)
 
+  comm-same : {A : Type 0} {r : Reader A} → Less r → (k : Name → Span → A → Process → Process → Part) (ts : List Token) → length ts < n → commForm r k P ts ≡ commForm r k Q ts
+  comm-same x k ts h =
+      same-then (the-less opens) ts _ _ λ o a l7.
+      same-then small-less a _ _ λ c b l8.
+      same-then (the-less comma) b _ _ λ o c l9.
+      same-then timer-less c _ _ λ t d l10.
+      same-then (the-less comma) d _ _ λ o e l11.
+      same-then x e _ _ λ v f l12.
+      same-then (the-less comma) f _ _ λ o g l13.
+      same-P g _ _ (omega arith) λ p i l14.
+      same-then (the-less comma) i _ _ λ o j l15.
+      same-P j _ _ (omega arith) λ q k l16. refl
+
   form-same : (h : Head) (w : Name) (ts : List Token) → length ts < n → partForm P h w ts ≡ partForm Q h w ts
   form-same stops w ts h = refl
   form-same goes w ts h =
@@ -69,28 +83,8 @@ module _ (P Q : Reader Process) (n : ℕ) (agree : (ts : List Token) → length 
       same-then value-less c _ _ λ v d l4.
       same-then (the-less comma) d _ _ λ o e l5.
       same-P e _ _ (omega arith) λ p f l6. refl
-  form-same sends w ts h =
-      same-then (the-less opens) ts _ _ λ o a l7.
-      same-then small-less a _ _ λ c b l8.
-      same-then (the-less comma) b _ _ λ o c l9.
-      same-then timer-less c _ _ λ t d l10.
-      same-then (the-less comma) d _ _ λ o e l11.
-      same-then value-less e _ _ λ v f l12.
-      same-then (the-less comma) f _ _ λ o g l13.
-      same-P g _ _ (omega arith) λ p i l14.
-      same-then (the-less comma) i _ _ λ o j l15.
-      same-P j _ _ (omega arith) λ q k l16. refl
-  form-same receives w ts h =
-      same-then (the-less opens) ts _ _ λ o a l17.
-      same-then small-less a _ _ λ c b l18.
-      same-then (the-less comma) b _ _ λ o c l19.
-      same-then timer-less c _ _ λ t d l20.
-      same-then (the-less comma) d _ _ λ o e l21.
-      same-then small-less e _ _ λ v f l22.
-      same-then (the-less comma) f _ _ λ o g l23.
-      same-P g _ _ (omega arith) λ p i l24.
-      same-then (the-less comma) i _ _ λ o j l25.
-      same-P j _ _ (omega arith) λ q k l26. refl
+  form-same sends w ts h = comm-same value-less out ts h
+  form-same receives w ts h = comm-same small-less inp ts h
   form-same calls w ts h = refl
   form-same nothing w ts h = refl
 
@@ -176,11 +170,11 @@ module _ {A : Type 0} (c : ℕ) (r : Reader A) (l : Less r) where
       go a us h true = ap (λ x. bind x (λ xs zs. ok (a ∷ xs) zs)) (same-then (the-less c) us _ _ λ u vs i. joined-enough (length ts) (length vs) vs (omega arith) (omega arith))
 
 -- ── texts, with no bound on the number of definitions ──
-no-def : (T : Reader Tree) → textForm false T [] ≡ bad
+no-def : (T : Reader Text) → textForm false T [] ≡ bad
 unfolding aDef
 no-def T = refl
 
-text-same : (n : ℕ) (T U : Reader Tree) → ((ts : List Token) → length ts < n → T ts ≡ U ts) → (y : Bool) (ts : List Token) → length ts ≤ n → textForm y T ts ≡ textForm y U ts
+text-same : (n : ℕ) (T U : Reader Text) → ((ts : List Token) → length ts < n → T ts ≡ U ts) → (y : Bool) (ts : List Token) → length ts ≤ n → textForm y T ts ≡ textForm y U ts
 text-same n T U h true ts g = refl
 text-same n T U h false ts g = same-then def-less ts _ _ λ d us l. ap (λ x. bind x (λ t zs. ok (addDef d t) zs)) (h us (omega arith))
 

@@ -17,6 +17,8 @@ use Rattle.terms.specs.Terms.Def.{define}
 use Rattle.terms.specs.Rules.{Answer, _>>=_, ok}
 use Rattle.terms.specs.Rules.Answer.{refused, accepted}
 use Rattle.text.specs.Tokens.{tokenwise}
+use Rattle.text.specs.Syntax as S
+use Rattle.text.specs.Tree.{settle, settled, networkOf}
 use Rattle.text.specs.Grammar.{grammar}
 use Rattle.text.specs.Write.{write, writing}
 use Rattle.text.specs.Questions.{read, short, form, locations, questions}
@@ -64,9 +66,42 @@ end-written : write (record { defs = page .defs; comps = comp B none halt ∷ co
 unfolding writing
 end-written = refl
 
-page-locations : (form (bytes pageText) >>= λ t. accepted (locations t)) ≡ accepted (A ∷ B ∷ [])
+page-locations : (form (bytes pageText) >>= λ x. accepted (locations (settled x))) ≡ accepted (A ∷ B ∷ [])
 unfolding tokenwise grammar questions
 page-locations = refl
+
+-- ── a text's syntax tree, and its term ──
+abbrev W : Name
+W = bytes "W"
+
+abbrev sending : S.Part
+sending = S.out c S.forever (loc B) (S.one (S.call W (loc A ∷ []))) (S.one S.stop)
+
+abbrev receiving : S.Part
+receiving = S.inp c (S.exactly 0) y (S.one S.stop) (S.one (S.call W (loc B ∷ [])))
+
+abbrev paired : S.Text
+paired = record {
+  defs = S.define W (x ∷ []) (S.one (S.go (S.exactly 3) (var x) (S.one S.stop))) ∷ [];
+  located = S.at A (S._∥_ sending (S.one receiving)) ∷ [];
+}
+
+paired-form : form (bytes "W(x)=go(3,x,stop). A[out(c,inf,B,W(A),stop) | in(c,0,y,stop,W(B))].") ≡ accepted paired
+unfolding tokenwise grammar questions
+paired-form = refl
+
+sending-term : settle sending ≡ out c inf (loc B) (one (call W (loc A ∷ []))) halt
+sending-term = refl
+
+receiving-term : settle receiving ≡ inp c (ticks 0) y halt (one (call W (loc B ∷ [])))
+receiving-term = refl
+
+paired-term : networkOf (settled paired) ≡ record {
+  defs = define W (x ∷ []) (one (go (ticks 3) (var x) halt)) ∷ [];
+  comps = comp A none (one (settle sending)) ∷ comp A none (one (settle receiving)) ∷ [];
+}
+unfolding questions
+paired-term = refl
 
 -- ── example 12 ──
 empty-text : reads "" ≡ refused 2

@@ -6,17 +6,17 @@ use mathlib.Core.Bool.{Bool, true, false, cond}
 use lib.ListN.{length}
 use lib.Dec.{eqb}
 use Rattle.terms.specs.Names.{Name, bytes, sameName}
-use Rattle.terms.specs.Terms.{Timer, Value, Part, Process, Def}
-use Rattle.terms.specs.Terms.Timer.{ticks, inf}
+use Rattle.terms.specs.Terms.{Value}
 use Rattle.terms.specs.Terms.Value.{loc, var}
-use Rattle.terms.specs.Terms.Part.{stop, go, out, inp, call}
-use Rattle.terms.specs.Terms.Process.{one, _∥_}
-use Rattle.terms.specs.Terms.Def.{define}
 use Rattle.terms.specs.Letters.{isLocation, isSmall, isIdentifier}
 use Rattle.text.specs.Tokens.{Token, number, isTicks, opens, closes, left, right, comma, bar, dot, equals}
 use Rattle.text.specs.Tokens.Token.{word, sign}
-use Rattle.text.specs.Tree.{Located, Tree}
-use Rattle.text.specs.Tree.Located.{at}
+use Rattle.text.specs.Syntax.{Span, Part, Process, Def, Located, Text}
+use Rattle.text.specs.Syntax.Span.{exactly, forever}
+use Rattle.text.specs.Syntax.Part.{stop, go, out, inp, call}
+use Rattle.text.specs.Syntax.Process.{one, _∥_}
+use Rattle.text.specs.Syntax.Def.{define}
+use Rattle.text.specs.Syntax.Located.{at}
 
 -- ── readers ──
 -- what was read and the tokens left, or that the tokens do not begin so
@@ -104,10 +104,10 @@ abbrev pub listOf : {A : Type 0} → Reader A → Reader (List A)
 listOf r ts = bracketed (next opens ts) r ts
 
 -- ── timers and values ──
-unfoldable pub aTimer : Reader Timer
+unfoldable pub aTimer : Reader Span
 aTimer = do
   w ← aWord
-  cond (sameName w (bytes "inf")) (give inf) (when (isTicks w) (ticks (number w)))
+  cond (sameName w (bytes "inf")) (give forever) (when (isTicks w) (exactly (number w)))
 
 -- in a value's place a capital makes a location
 unfoldable pub aValue : Reader Value
@@ -128,6 +128,22 @@ headOf w =
     (cond (sameName w (bytes "in")) receives
     (cond (isIdentifier w) calls nothing))))
 
+-- `(c,t,x,P,Q)`, where r reads x and P a process; k makes the part
+abbrev pub commForm : {A : Type 0} → Reader A → (Name → Span → A → Process → Process → Part) → Reader Process → Reader Part
+commForm r k P = do
+  the opens
+  c ← named isSmall
+  the comma
+  t ← aTimer
+  the comma
+  x ← r
+  the comma
+  p ← P
+  the comma
+  q ← P
+  the closes
+  give (k c t x p q)
+
 -- a part after its first word w: `stop`, `go(t,v,P)`, `out(c,t,v,P,Q)`, `in(c,t,y,P,Q)`, `id` or `id(v1,..)`; P reads a process
 abbrev pub partForm : Reader Process → Head → Name → Reader Part
 partForm P stops w = give stop
@@ -140,32 +156,8 @@ partForm P goes w = do
   p ← P
   the closes
   give (go t v p)
-partForm P sends w = do
-  the opens
-  c ← named isSmall
-  the comma
-  t ← aTimer
-  the comma
-  v ← aValue
-  the comma
-  p ← P
-  the comma
-  q ← P
-  the closes
-  give (out c t v p q)
-partForm P receives w = do
-  the opens
-  c ← named isSmall
-  the comma
-  t ← aTimer
-  the comma
-  y ← named isSmall
-  the comma
-  p ← P
-  the comma
-  q ← P
-  the closes
-  give (inp c t y p q)
+partForm P sends w = commForm aValue out P
+partForm P receives w = commForm (named isSmall) inp P
 partForm P calls w = do
   vs ← listOf aValue
   give (call w vs)
@@ -238,10 +230,10 @@ netNext [] = false
 netNext (word w ∷ ts) = next left ts
 netNext (sign d ∷ ts) = false
 
-abbrev pub addDef : Def → Tree → Tree
+abbrev pub addDef : Def → Text → Text
 addDef d t = record { defs = d ∷ t .defs; located = t .located }
 
-abbrev pub textForm : Bool → Reader Tree → Reader Tree
+abbrev pub textForm : Bool → Reader Text → Reader Text
 textForm true T = do
   ls ← aNetwork
   give (record { defs = []; located = ls })
@@ -251,11 +243,11 @@ textForm false T = do
   give (addDef d t)
 
 -- definitions, then a network; the number bounds that of the definitions
-unfoldable pub textOf : ℕ → Reader Tree
+unfoldable pub textOf : ℕ → Reader Text
 textOf zero ts = bad
 textOf (suc f) ts = textForm (netNext ts) (textOf f) ts
 
-abbrev pub text : Reader Tree
+abbrev pub text : Reader Text
 text ts = textOf (length ts) ts
 
 -- all of the above, for `unfolding grammar`

@@ -1,4 +1,5 @@
 pub mod Tokens
+pub mod Syntax
 pub mod Tree
 pub mod Grammar
 pub mod Write

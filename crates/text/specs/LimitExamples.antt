@@ -8,6 +8,7 @@ use Rattle.terms.specs.Names.{Name, bytes}
 use Rattle.terms.specs.Rules.{Answer, _>>=_, ok}
 use Rattle.terms.specs.Rules.Answer.{refused, accepted}
 use Rattle.text.specs.Tokens.{tokenwise}
+use Rattle.text.specs.Tree.{settled}
 use Rattle.text.specs.Grammar.{grammar}
 use Rattle.text.specs.Questions.{read, form, channels, locations, fits, questions}
 
@@ -119,18 +120,18 @@ numbers (refused n) = []
 numbers (accepted xs) = xs
 
 -- by first place in the text, wherever it is: a definition's body, a value, a located process
-locations-numbered : numbers (form (bytes "X=go(0,D,stop).Y(u)=out(c,1,B,stop,go(1,A,stop)).C[Y(E)]|A[X]|B[stop].") >>= λ t. accepted (locations t))
+locations-numbered : numbers (form (bytes "X=go(0,D,stop).Y(u)=out(c,1,B,stop,go(1,A,stop)).C[Y(E)]|A[X]|B[stop].") >>= λ x. accepted (locations (settled x)))
     ≡ bytes "D" ∷ bytes "B" ∷ bytes "A" ∷ bytes "C" ∷ bytes "E" ∷ []
 unfolding tokenwise grammar questions
 locations-numbered = refl
 
 -- an identifier with a capital is no location
-identifiers-unnumbered : numbers (form (bytes "B=stop.A[B].") >>= λ t. accepted (locations t)) ≡ bytes "A" ∷ []
+identifiers-unnumbered : numbers (form (bytes "B=stop.A[B].") >>= λ x. accepted (locations (settled x))) ≡ bytes "A" ∷ []
 unfolding tokenwise grammar questions
 identifiers-unnumbered = refl
 
 -- channels in a count of their own; a variable spelt alike is none
-channels-numbered : numbers (form (bytes "X(e)=in(d,1,c,out(b,1,c,stop,stop),stop).A[out(a,0,A,stop,in(d,0,x,stop,stop))].") >>= λ t. accepted (channels t))
+channels-numbered : numbers (form (bytes "X(e)=in(d,1,c,out(b,1,c,stop,stop),stop).A[out(a,0,A,stop,in(d,0,x,stop,stop))].") >>= λ x. accepted (channels (settled x)))
     ≡ bytes "d" ∷ bytes "b" ∷ bytes "a" ∷ []
 unfolding tokenwise grammar questions
 channels-numbered = refl

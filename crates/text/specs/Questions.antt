@@ -18,7 +18,8 @@ use Rattle.terms.specs.Rules.Answer.{refused, accepted}
 use Rattle.terms.specs.Same.{every}
 use Rattle.terms.specs.Letters.{member, distinct}
 use Rattle.text.specs.Tokens.{lex}
-use Rattle.text.specs.Tree.{Located, Tree, components, networkOf}
+use Rattle.text.specs.Syntax.{Text}
+use Rattle.text.specs.Tree.{Located, Tree, settled, components, networkOf}
 use Rattle.text.specs.Tree.Located.{at}
 use Rattle.text.specs.Grammar.{Rest, text}
 use Rattle.text.specs.Grammar.Rest.{ok, bad}
@@ -41,7 +42,7 @@ abbrev pub whole : {A : Type 0} → Rest A → Answer A
 whole (ok a ts) = accepted a
 whole bad = refused 2
 
-unfoldable pub form : List ℕ → Answer Tree
+unfoldable pub form : List ℕ → Answer Text
 form s = whole (text (lex s))
 
 -- ── the parts of a text, in text order, each with its nesting and the names in scope ──
@@ -185,16 +186,21 @@ unfoldable pub bound : Tree → Bool
 bound t = every boundAt (places t)
 
 -- ── reading ──
-unfoldable pub read : List ℕ → Answer Network
-read s = do
-  ask 1 (short s)
-  t ← form s
+-- questions 3 to 7, and the network
+unfoldable pub asked : Tree → Answer Network
+asked t = do
   ask 3 (shallow t)
   ask 4 (fits t)
   ask 5 (definedOnce (t .defs))
   ask 6 (callsMet t)
   ask 7 (bound t)
   accepted (networkOf t)
+
+unfoldable pub read : List ℕ → Answer Network
+read s = do
+  ask 1 (short s)
+  x ← form s
+  asked (settled x)
 
 -- ── 5, 6 and 7 of a network ──
 unfoldable pub componentPlaces : Component → List Place
@@ -210,5 +216,5 @@ pub record Sound (n : Network) : Type 0 where
 
 -- all of the above, for `unfolding questions`
 unfoldable pub questions : Unit {0}
-unfolding short form firsts partPlaces processPlaces defPlaces locatedPlaces places channelsAt locOf locationsAt locatedNames channels locations split components networkOf most nesting definitionCount parameterCount partCount componentCount scopeSize shallow fits distinct definedOnce some callMet callsMet boundAt bound read flatMap every
+unfolding short form firsts partPlaces processPlaces defPlaces locatedPlaces places channelsAt locOf locationsAt locatedNames channels locations split components networkOf most nesting definitionCount parameterCount partCount componentCount scopeSize shallow fits distinct definedOnce some callMet callsMet boundAt bound asked read flatMap every
 questions = tt

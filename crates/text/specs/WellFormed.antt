@@ -13,7 +13,8 @@ use Rattle.terms.specs.Terms.Mark.{none, by}
 use Rattle.terms.specs.Terms.Component.{comp}
 use Rattle.terms.specs.Terms.Def.{define}
 use Rattle.terms.specs.Letters.{isLocation, isSmall, isIdentifier}
-use Rattle.text.specs.Tree.{Located, Tree}
+use Rattle.text.specs.Syntax.{Text}
+use Rattle.text.specs.Tree.{Located, Tree, settled}
 use Rattle.text.specs.Tree.Located.{at}
 
 abbrev pub Is : (Name → Bool) → Name → Type 0
@@ -57,6 +58,10 @@ pub record WellTree (t : Tree) : Type 0 where
   pub defs-well : Each WellDef (t .defs)
   pub located-well : Each WellLocated (t .located)
   pub some-located : NonEmpty (t .located)
+
+-- a syntax tree is well-formed if its terms are
+abbrev pub WellText : Text → Type 0
+WellText x = WellTree (settled x)
 
 -- an unmarked component of one part
 abbrev pub WellComponent : Component → Type 0

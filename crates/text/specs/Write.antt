@@ -1,21 +1,22 @@
 -- Writing: document 01, *Write* of *The other calls*, with the spacing of its example of `timorun`.
--- A tree has one list of tokens, and a token one spelling.
+-- A network has one syntax tree, a tree one list of tokens, and a token one spelling.
 use Prim.Native.Nat.{ℕ}
 use mathlib.Core.List.{List, [], _∷_, _++_, map}
 use mathlib.Core.Bool.{cond}
 use lib.Dec.{eqb}
 use Rattle.terms.specs.Names.{Name, bytes}
-use Rattle.terms.specs.Terms.{Timer, Value, Part, Process, Def, Component, Network}
-use Rattle.terms.specs.Terms.Timer.{ticks, inf}
+use Rattle.terms.specs.Terms as T
+use Rattle.terms.specs.Terms.{Value, Component, Network}
 use Rattle.terms.specs.Terms.Value.{loc, var}
-use Rattle.terms.specs.Terms.Part.{stop, go, out, inp, call}
-use Rattle.terms.specs.Terms.Process.{one, _∥_}
-use Rattle.terms.specs.Terms.Def.{define}
 use Rattle.terms.specs.Terms.Component.{comp}
 use Rattle.text.specs.Tokens.{Token, digits, digitsOf, opens, closes, left, right, comma, bar, dot, equals}
 use Rattle.text.specs.Tokens.Token.{word, sign}
-use Rattle.text.specs.Tree.{Located, Tree}
-use Rattle.text.specs.Tree.Located.{at}
+use Rattle.text.specs.Syntax.{Span, Part, Process, Def, Located, Text}
+use Rattle.text.specs.Syntax.Span.{exactly, forever}
+use Rattle.text.specs.Syntax.Part.{stop, go, out, inp, call}
+use Rattle.text.specs.Syntax.Process.{one, _∥_}
+use Rattle.text.specs.Syntax.Def.{define}
+use Rattle.text.specs.Syntax.Located.{at}
 
 -- ── the tokens of each form, in front of the tokens ts: the grammar's page, with one line for each form ──
 abbrev pub Printer : Type 0 → Type 0
@@ -24,9 +25,9 @@ Printer A = A → List Token → List Token
 abbrev pub nameT : Printer Name
 nameT w ts = word w ∷ ts
 
-abbrev pub timerT : Printer Timer
-timerT (ticks n) ts = word (digits n) ∷ ts
-timerT inf ts = word (bytes "inf") ∷ ts
+abbrev pub timerT : Printer Span
+timerT (exactly n) ts = word (digits n) ∷ ts
+timerT forever ts = word (bytes "inf") ∷ ts
 
 abbrev pub valueT : Printer Value
 valueT (loc w) ts = word w ∷ ts
@@ -68,7 +69,7 @@ unfoldable pub textT : List Def → List Located → List Token
 textT [] ls = networkT ls
 textT (d ∷ ds) ls = defT d (textT ds ls)
 
-abbrev pub tokens : Tree → List Token
+abbrev pub tokens : Text → List Token
 tokens t = textT (t .defs) (t .located)
 
 -- ── their spelling: `|` and `=` stand between spaces, ` .` ends the line, nothing else is spaced ──
@@ -83,15 +84,35 @@ unfoldable pub spelled : List Token → List ℕ
 spelled [] = []
 spelled (t ∷ ts) = spell t ++ spelled ts
 
--- ── writing a network: definitions in order, then components in order, each in brackets of its own ──
-abbrev pub located : Component → Located
-located (comp l m p) = at l p
+-- ── the syntax tree in which a term is written ──
+abbrev pub spellTimer : T.Timer → Span
+spellTimer (T.ticks n) = exactly n
+spellTimer T.inf = forever
 
-abbrev pub treeOf : Network → Tree
-treeOf n = record { defs = n .defs; located = map located (n .comps) }
+abbrev mutual
+  pub spellPart : T.Part → Part
+  spellPart T.stop = stop
+  spellPart (T.go t v p) = go (spellTimer t) v (spellProcess p)
+  spellPart (T.out c t v p q) = out c (spellTimer t) v (spellProcess p) (spellProcess q)
+  spellPart (T.inp c t y p q) = inp c (spellTimer t) y (spellProcess p) (spellProcess q)
+  spellPart (T.call i vs) = call i vs
+
+  pub spellProcess : T.Process → Process
+  spellProcess (T.one a) = one (spellPart a)
+  spellProcess (T._∥_ a p) = spellPart a ∥ spellProcess p
+
+abbrev pub spellDef : T.Def → Def
+spellDef (T.define i us p) = define i us (spellProcess p)
+
+abbrev pub spellComponent : Component → Located
+spellComponent (comp l m p) = at l (spellProcess p)
+
+-- ── writing a network: definitions in order, then components in order, each in brackets of its own ──
+abbrev pub spellNetwork : Network → Text
+spellNetwork n = record { defs = map spellDef (n .defs); located = map spellComponent (n .comps) }
 
 abbrev pub write : Network → List ℕ
-write n = spelled (tokens (treeOf n))
+write n = spelled (tokens (spellNetwork n))
 
 -- all of the above, for `unfolding writing`
 unfoldable pub writing : Unit {0}

@@ -8,16 +8,23 @@ ghost use Prim.Native.Nat.{_+_, _*_, _<_, _≤_};
 ghost use lib.ListN.{take};
 ghost use Rattle.terms.specs.Same.{every};
 ghost use Rattle.terms.specs.Letters.{distinct};
-ghost use Rattle.table.specs.Words.{partsIn, defsIn, field, headAt, paramsOf};
+ghost use Rattle.table.specs.Words.{partsIn, defsIn, field, headAt, paramsOf, countField};
 ghost use Rattle.table.specs.Valid.{below};
 ghost use Rattle.text_tree.specs.Asked.{roomy, apart, callHeld, callsHeld, inScope, valuesBound, allBound};
+use table::ARG_FIELD;
+use table::COUNT_FIELD;
+use table::FIRST_PARAM;
+use table::IDENTIFIERS;
+use table::KIND_FIELD;
+use table::NAME_FIELD;
 use table::ROW_SIZE;
 use table::Script;
-use table::valid::all_apart;
+use table::VALUE_FIELD;
 use table::words::arity_of;
 use table::words::field;
 use table::words::wide;
 use table::words::word;
+use table_valid::all_apart;
 
 // ── 4 ──
 
@@ -37,9 +44,9 @@ fn params_apart(w: &Script, d: usize) -> bool
 {
     let a = wide(arity_of(w, d));
     if 4 < a {
-        return all_apart(w, 14 + d * ROW_SIZE, 4, 4);
+        return all_apart(w, FIRST_PARAM + d * ROW_SIZE, 4, 4);
     }
-    all_apart(w, 14 + d * ROW_SIZE, 4, a)
+    all_apart(w, FIRST_PARAM + d * ROW_SIZE, 4, a)
 }
 
 // Do the parameters of each definition differ?
@@ -62,7 +69,7 @@ pub fn apart(w: &Script) -> bool
     requires { ⌜ defsIn (now w) ≤ 32 ⌝ }
     ensures { λ r. ⌜ r ≡ apart (now (w .entry)) ⌝ }
 {
-    if !all_apart(w, 10, 24, wide(word(w, 3))) {
+    if !all_apart(w, IDENTIFIERS, ROW_SIZE, wide(word(w, 3))) {
         return false;
     }
     each_apart(w)
@@ -75,15 +82,15 @@ fn call_held(w: &Script, i: usize) -> bool
     requires { ⌜ (i < 4096) × (defsIn (now w) ≤ 32) ⌝ }
     ensures { λ r. ⌜ r ≡ callHeld (now (w .entry)) (headAt (now (w .entry)) i) ⌝ }
 {
-    if field(w, i, 0) != 4 {
+    if field(w, i, KIND_FIELD) != 4 {
         return true;
     }
     let c = word(w, 3);
-    let d = field(w, i, 1);
+    let d = field(w, i, NAME_FIELD);
     if c <= d {
         return false;
     }
-    field(w, i, 3) == arity_of(w, wide(d))
+    field(w, i, VALUE_FIELD) == arity_of(w, wide(d))
 }
 
 pub fn calls_held(w: &Script) -> bool
@@ -121,7 +128,7 @@ fn args_bound(w: &Script, i: usize, n: u32, m: u32) -> bool
         if e <= k {
             return true;
         }
-        if !in_scope(n, field(w, i, 17 + k)) {
+        if !in_scope(n, field(w, i, ARG_FIELD + k)) {
             return false;
         }
         k += 1;
@@ -132,11 +139,11 @@ fn args_bound(w: &Script, i: usize, n: u32, m: u32) -> bool
 // The same of each value of the part at i.
 fn values_bound(w: &Script, i: usize) -> bool
     requires { ⌜ i < 4096 ⌝ }
-    ensures { λ r. ⌜ r ≡ valuesBound (field (now (w .entry)) i 8) (headAt (now (w .entry)) i) ⌝ }
+    ensures { λ r. ⌜ r ≡ valuesBound (now (w .entry)) i (field (now (w .entry)) i countField) (headAt (now (w .entry)) i) ⌝ }
 {
-    let k = field(w, i, 0);
-    let n = field(w, i, 8);
-    let v = field(w, i, 3);
+    let k = field(w, i, KIND_FIELD);
+    let n = field(w, i, COUNT_FIELD);
+    let v = field(w, i, VALUE_FIELD);
     match k {
         1 | 2 => in_scope(n, v),
         4 => args_bound(w, i, n, v),

@@ -23,7 +23,7 @@ use Rattle.text.specs.WellFormed.{Is, WellTimer, WellPart, WellProcess}
 use Rattle.text.specs.Questions.{into, partPlaces, processPlaces, isFor, callMet, boundAt as boundAtPlace}
 use Rattle.table.specs.declared.Head.{Head}
 use Rattle.table.specs.declared.Head.the-variants.{Stop, Go, Out, In, Call}
-use Rattle.table.specs.Words.{partsIn, chansIn, defsIn, nameAt, chanName, arityOf, defName, paramsAt, paramsOf, headAt, nextAt, boundAt, scopeAt, namesAt}
+use Rattle.table.specs.Words.{partsIn, chansIn, defsIn, nameAt, chanName, arityOf, defName, paramsAt, paramsOf, headAt, nextAt, boundAt, scopeAt, namesAt, argsAt}
 use Rattle.table.specs.Meaning.{valuesOf, partOf, joined, processAt, partAt, listFrom, defOf, defsOf, withTimer}
 use Rattle.table.specs.Valid.{headOk, nextOk, scriptOk}
 use Rattle.table.proofs.Tests.{Inner, inner, part-fine, script-fine, every-name, every-append, getD-listFrom, length-listFrom}
@@ -109,9 +109,9 @@ module _ (w : List ℕ) where
       at-k : isFor (defName w k) vs (defOf w k) ≡ true
       at-k = unfold defOf in rw (name-refl (defName w k), e) (eq-eqb (length vs) (length vs) refl)
 
-  args-many : (k : ℕ) (e : Env) (ys : List Name) (n a₀ a₁ a₂ a₃ : ℕ) → n ≡ arityOf w k → length (paramsOf w k) ≡ length (subVs e (valuesOf w ys (take n (a₀ ∷ a₁ ∷ a₂ ∷ a₃ ∷ []))))
+  args-many : (k : ℕ) (e : Env) (i n : ℕ) → n ≡ arityOf w k → length (paramsOf w k) ≡ length (subVs e (valuesOf w (namesAt w i) (argsAt w i n)))
   unfolding paramsOf paramsAt valuesOf
-  args-many k e ys n a₀ a₁ a₂ a₃ q = simp (length-values, length-map, length-take) (rw q)
+  args-many k e i n q = simp (length-values, length-map, length-take) (rw q)
 
   -- ── parts ──
   abbrev P : ℕ → Process
@@ -142,7 +142,7 @@ module _ (w : List ℕ) where
       inside p r n = k p (r .lesser) sc e (same-names p (scopeAt w i) sc e (r .scope) (unfold namesAt in c)) n
 
       -- a call's tests do not look at the values of slots, so any eight serve
-      part-fits : (h : Head) → headOk w i h ≡ true → FinePart ds d sc (sub (partOf w P (namesAt w i) (boundAt w i) h) e)
+      part-fits : (h : Head) → headOk w i h ≡ true → FinePart ds d sc (sub (partOf w P i h) e)
       unfolding partOf sub partPlaces every callMet boundAtPlace
       part-fits Stop o = record { well = tt; met = refl; closed = refl }
       part-fits (Go t v p) o =
@@ -171,12 +171,12 @@ module _ (w : List ℕ) where
             met = met-both f g;
             closed = closed-both f g;
           }
-      part-fits (Call m n a₀ a₁ a₂ a₃) o =
-          let r = call-fine w i (replicate 8 64) (record { good = good; within = b; slots = refl }) m n a₀ a₁ a₂ a₃ o in
-          let v = values-fit w good sc e (namesAt w i) c (take n (a₀ ∷ a₁ ∷ a₂ ∷ a₃ ∷ [])) (r .each) in
+      part-fits (Call m n) o =
+          let r = call-fine w i (replicate 8 64) (record { good = good; within = b; slots = refl }) m n o in
+          let v = values-fit w good sc e (namesAt w i) c (argsAt w i n) (r .each) in
           record {
             well = (def-form m (r .held), v .0);
-            met = rw (call-met m (subVs e (valuesOf w (namesAt w i) (take n (a₀ ∷ a₁ ∷ a₂ ∷ a₃ ∷ [])))) (r .held) (args-many m e (namesAt w i) n a₀ a₁ a₂ a₃ (r .many)));
+            met = rw (call-met m (subVs e (valuesOf w (namesAt w i) (argsAt w i n))) (r .held) (args-many m e i n (r .many)));
             closed = rw (v .1);
           }
 

@@ -10,7 +10,8 @@ use lib.ListN.{length}
 use Rattle.terms.specs.Same.{every}
 use Rattle.terms.specs.Rules.{unmarked}
 use Rattle.terms.specs.Rules.Answer.{refused, accepted}
-use Rattle.text.specs.Write.{treeOf}
+use Rattle.text.specs.Tree.{treeOf}
+use Rattle.text.specs.Write.{spellNetwork}
 use Rattle.text.specs.Questions.{form, read, short, shallow, fits}
 use Rattle.text.proofs.RoundTrip.{form-write, limited, only-limits, round-trip}
 use Rattle.table.specs.declared.State.{State}
@@ -22,7 +23,7 @@ use Rattle.text_back.proofs.Tables.{back-sound, back-writable}
 module _ (w : List ℕ) (st : State) where
   module _ (v : valid w st ≡ true) (u : every unmarked (netOf w st) ≡ true) where
     -- 2 does not refuse the text of a table, and its tree is that of the table's network
-    pub table-form : form (textOf w st) ≡ accepted (treeOf (networkOf w st))
+    pub table-form : form (textOf w st) ≡ accepted (spellNetwork (networkOf w st))
     unfolding textOf
     table-form = form-write (networkOf w st) (back-writable w st v u)
 

@@ -14,7 +14,7 @@ use Rattle.terms.proofs.Names.{name-refl}
 use Rattle.terms.specs.Letters.{member}
 use Rattle.text.specs.Questions.{into}
 use Rattle.table.specs.declared.Key.{Key}
-use Rattle.table.specs.Words.{locsAt, partsAt, scriptWords, word, nameAt}
+use Rattle.table.specs.Words.{locsAt, partsAt, scriptWords, word, nameAt, nameSize}
 use Rattle.table.specs.Meaning.{listFrom}
 use Rattle.table.specs.Tests.{keyName, rowName}
 use Rattle.table.specs.Valid.{index}
@@ -86,11 +86,11 @@ abbrev pub names : List ℕ → ℕ → ℕ → List Name
 names w o at = listFrom 0 (word w at) (rowName w o 4)
 
 -- names from o on are the same where their words are
-pub names-same : (w v : List ℕ) (o n : ℕ) → ((x : ℕ) → o ≤ x → x < o + n * 4 → word v x ≡ word w x) → listFrom 0 n (rowName v o 4) ≡ listFrom 0 n (rowName w o 4)
+pub names-same : (w v : List ℕ) (o n : ℕ) → ((x : ℕ) → o ≤ x → x < o + n * nameSize → word v x ≡ word w x) → listFrom 0 n (rowName v o 4) ≡ listFrom 0 n (rowName w o 4)
 unfolding rowName nameAt
 names-same w v o n e =
     list-same (rowName v o 4) (rowName w o 4) 0 n
-    (λ j h. rw (e (o + j * 4) (omega arith) (omega arith), e (o + j * 4 + 1) (omega arith) (omega arith), e (o + j * 4 + 2) (omega arith) (omega arith), e (o + j * 4 + 3) (omega arith) (omega arith)))
+    (λ j h. rw (e (o + j * nameSize) (omega arith) (omega arith), e (o + j * nameSize + 1) (omega arith) (omega arith), e (o + j * nameSize + 2) (omega arith) (omega arith), e (o + j * nameSize + 3) (omega arith) (omega arith)))
 
 -- a name just written
 pub name-written : (w : List ℕ) (o : ℕ) (k : Key) → o + 4 ≤ length w → nameAt (sets w o (keyWords k)) o ≡ keyName k
@@ -132,19 +132,19 @@ module _ (w : List ℕ) (o at : ℕ) (k : Key) (low : locsAt ≤ o) (high : o + 
 
   module _ (n : ℕ) (e : word w at ≡ n) (l : n < 64) where
     abbrev with-key : List ℕ
-    with-key = sets w (o + n * 4) (keyWords k)
+    with-key = sets w (o + n * nameSize) (keyWords k)
 
     abbrev with-count : List ℕ
     with-count = set with-key at (n + 1)
 
     count-is : word with-count at ≡ n + 1
-    count-is = getD-set-same with-key at (n + 1) 0 (rw (length-sets w (o + n * 4) (keyWords k)) (omega arith))
+    count-is = getD-set-same with-key at (n + 1) 0 (rw (length-sets w (o + n * nameSize) (keyWords k)) (omega arith))
 
-    word-kept : (y : ℕ) → (y ≡ at → ⊥) → y < o + n * 4 → word with-count y ≡ word w y
-    word-kept y a b = set-out with-key at y (n + 1) a ∙ sets-under (keyWords k) w (o + n * 4) y b
+    word-kept : (y : ℕ) → (y ≡ at → ⊥) → y < o + n * nameSize → word with-count y ≡ word w y
+    word-kept y a b = set-out with-key at y (n + 1) a ∙ sets-under (keyWords k) w (o + n * nameSize) y b
 
-    word-past : (y : ℕ) → (y ≡ at → ⊥) → o + n * 4 + 4 ≤ y → word with-count y ≡ word w y
-    word-past y a b = set-out with-key at y (n + 1) a ∙ sets-past (keyWords k) w (o + n * 4) y b
+    word-past : (y : ℕ) → (y ≡ at → ⊥) → o + n * nameSize + 4 ≤ y → word with-count y ≡ word w y
+    word-past y a b = set-out with-key at y (n + 1) a ∙ sets-past (keyWords k) w (o + n * nameSize) y b
 
     count-off : (y : ℕ) → 8 ≤ y → word with-count y ≡ word with-key y
     count-off y h = set-out with-key at y (n + 1) (λ z. omega arith)
@@ -152,8 +152,8 @@ module _ (w : List ℕ) (o at : ℕ) (k : Key) (low : locsAt ≤ o) (high : o + 
     last-name : rowName with-count o 4 n ≡ keyName k
     unfolding rowName nameAt
     last-name =
-        rw (count-off (o + n * 4) (omega arith), count-off (o + n * 4 + 1) (omega arith), count-off (o + n * 4 + 2) (omega arith), count-off (o + n * 4 + 3) (omega arith))
-        (name-written w (o + n * 4) k (omega arith))
+        rw (count-off (o + n * nameSize) (omega arith), count-off (o + n * nameSize + 1) (omega arith), count-off (o + n * nameSize + 2) (omega arith), count-off (o + n * nameSize + 3) (omega arith))
+        (name-written w (o + n * nameSize) k (omega arith))
 
     new-names : names with-count o at ≡ listFrom 0 n (rowName w o 4) ++ (keyName k ∷ [])
     new-names =
@@ -166,7 +166,7 @@ module _ (w : List ℕ) (o at : ℕ) (k : Key) (low : locsAt ≤ o) (high : o + 
     fresh : n ≤ index (names w o at) (keyName k) → Entered w with-count o at (keyName k)
     fresh h = record {
       now = new-names ∙ sym (rw (member-index (names w o at) (keyName k), length-listFrom (rowName w o 4) 0 (word w at), e, le-ltb (index (listFrom 0 n (rowName w o 4)) (keyName k)) n (rw e at h)));
-      frame = λ lo i. frame-then lo i (frame-names w (o + n * 4) (keyWords k) lo i (omega arith) (omega arith)) (frame-count with-key at (n + 1) lo i (omega arith) (λ q. omega arith) (λ q. omega arith)) (omega arith) (omega arith) (omega arith) (omega arith);
+      frame = λ lo i. frame-then lo i (frame-names w (o + n * nameSize) (keyWords k) lo i (omega arith) (omega arith)) (frame-count with-key at (n + 1) lo i (omega arith) (λ q. omega arith) (λ q. omega arith)) (omega arith) (omega arith) (omega arith) (omega arith);
       left = λ y a b. word-kept y (λ q. omega arith) (omega arith);
       right = λ y a. word-past y (λ q. omega arith) (omega arith);
       counts = λ c a b d. word-kept c b (omega arith);
@@ -183,8 +183,8 @@ module _ (w : List ℕ) (o at : ℕ) (k : Key) (low : locsAt ≤ o) (high : o + 
       full h q = let g : word (set w 4 1) 4 ≡ 1 = getD-set-same w 4 1 0 (omega arith) in omega arith
 
       add : (b : Bool) → ltb (word w at) 64 ≡ b → word w at ≤ index (names w o at) (keyName k)
-          → word (cond b (set (sets w (o + word w at * 4) (keyWords k)) at (word w at + 1)) (set w 4 1)) 4 ≡ 0
-          → Entered w (cond b (set (sets w (o + word w at * 4) (keyWords k)) at (word w at + 1)) (set w 4 1)) o at (keyName k)
+          → word (cond b (set (sets w (o + word w at * nameSize) (keyWords k)) at (word w at + 1)) (set w 4 1)) 4 ≡ 0
+          → Entered w (cond b (set (sets w (o + word w at * nameSize) (keyWords k)) at (word w at + 1)) (set w 4 1)) o at (keyName k)
       add true q h z = fresh (word w at) refl (ltb-true (word w at) 64 q) h
       add false q h z = absurd (full (ltb-false (word w at) 64 q) z)
 

@@ -40,7 +40,7 @@ names-then : (w v u : List ℕ) (xs ys : List Place) → Names w v xs → Names 
 names-then w v u xs ys a b = rw (flat-append locationsAt xs ys, flat-append channelsAt xs ys) (numbered-then a b)
 
 -- some words of a row leave the tables as they are
-names-row : (w v : List ℕ) (m : Making v) (i k : ℕ) (vs : List ℕ) → k + length vs ≤ 24 → (xs : List Place) → Names w v xs → Names w (sets v (partsAt + i * rowSize + k) vs) xs
+names-row : (w v : List ℕ) (m : Making v) (i k : ℕ) (vs : List ℕ) → k + length vs ≤ rowSize → (xs : List Place) → Names w v xs → Names w (sets v (partsAt + i * rowSize + k) vs) xs
 names-row w v m i k vs h xs a = record { locs = row-locs v m i k vs h ∙ a .locs; chans = row-chans v m i k vs h ∙ a .chans }
 
 here-names : (a : Part) (w v : List ℕ) (d : ℕ) (ys : List Name) → Numbered w v (flatMap locOf (valuesOf a)) (channelsOf a) → Names w v (record { depth = d; scope = ys; part = a } ∷ [])

@@ -13,7 +13,7 @@ use Rattle.terms.specs.Names.{Name}
 use Rattle.terms.specs.Letters.{member}
 use Rattle.text.specs.Questions.{into}
 use Rattle.table.specs.declared.Key.{Key}
-use Rattle.table.specs.Words.{rowSize, chansAt, locsAt, partsAt, word, nameAt, locName, chanName, defName}
+use Rattle.table.specs.Words.{rowSize, chansAt, locsAt, partsAt, word, nameAt, locName, chanName, defName, idsAt, nameSize}
 use Rattle.table.specs.Meaning.{listFrom}
 use Rattle.table.specs.Tests.{keyName, rowName}
 use Rattle.table.specs.Valid.{index}
@@ -44,7 +44,7 @@ unfolding idsOf defName nameAt
 ids-same w v low i f few =
     ap (λ n. listFrom 0 n (defName v)) (f .defs)
     ∙ list-same (defName v) (defName w) 0 (word w 3)
-    (λ j h. rw (f .between (10 + j * rowSize) (omega arith) (omega arith), f .between (10 + j * rowSize + 1) (omega arith) (omega arith), f .between (10 + j * rowSize + 2) (omega arith) (omega arith), f .between (10 + j * rowSize + 3) (omega arith) (omega arith)))
+    (λ j h. rw (f .between (idsAt + j * rowSize) (omega arith) (omega arith), f .between (idsAt + j * rowSize + 1) (omega arith) (omega arith), f .between (idsAt + j * rowSize + 2) (omega arith) (omega arith), f .between (idsAt + j * rowSize + 3) (omega arith) (omega arith)))
 
 -- ── growth, one write after the other ──
 pub grown-none : (w : List ℕ) → Grown w w
@@ -175,7 +175,7 @@ module _ (w : List ℕ) (m : Making w) (k : Key) where
           }
 
 -- ── some words of the row at i ──
-module _ (w : List ℕ) (m : Making w) (i k : ℕ) (vs : List ℕ) (h : k + length vs ≤ 24) where
+module _ (w : List ℕ) (m : Making w) (i k : ℕ) (vs : List ℕ) (h : k + length vs ≤ rowSize) where
   abbrev rowed : List ℕ
   rowed = sets w (partsAt + i * rowSize + k) vs
 
@@ -211,7 +211,7 @@ pub enlist-back : (w : List ℕ) (o at : ℕ) (k : Key) → locsAt ≤ o → at 
 unfolding enlist addKey
 enlist-back w o at k h l e = go (ltb (numberIn w o (heldIn w at) (keyName k)) (heldIn w at)) (ltb (heldIn w at) 64) e
   where
-    go : (a b : Bool) → word (cond a w (cond b (set (sets w (o + heldIn w at * 4) (keyWords k)) at (heldIn w at + 1)) (set w 4 1))) 4 ≡ 0 → word w 4 ≡ 0
+    go : (a b : Bool) → word (cond a w (cond b (set (sets w (o + heldIn w at * nameSize) (keyWords k)) at (heldIn w at + 1)) (set w 4 1))) 4 ≡ 0 → word w 4 ≡ 0
     go true b e = e
-    go false true e = sym (set-out (sets w (o + heldIn w at * 4) (keyWords k)) at 4 (heldIn w at + 1) (λ q. omega arith) ∙ sets-under (keyWords k) w (o + heldIn w at * 4) 4 (omega arith)) ∙ e
+    go false true e = sym (set-out (sets w (o + heldIn w at * nameSize) (keyWords k)) at 4 (heldIn w at + 1) (λ q. omega arith) ∙ sets-under (keyWords k) w (o + heldIn w at * nameSize) 4 (omega arith)) ∙ e
     go false false e = mark-back w e

@@ -4,7 +4,7 @@ use Prim.Native.Nat.{ℕ, suc, _+_, _-_, _*_, _≤_, _<_}
 use native.Mathlib.Omega.{arith}
 use mathlib.Core.List.{List, [], _∷_, _++_, map}
 use mathlib.Core.Bool.{Bool, true, false, cond}
-use mathlib.Core.Path.{_≡_, refl, sym, _∙_}
+use mathlib.Core.Path.{_≡_, refl, sym, _∙_, ap}
 use lib.Dec.{ltb}
 use lib.ListN.{length}
 use Rattle.terms.specs.Names.{Name}
@@ -16,39 +16,38 @@ use Rattle.terms.specs.Same.{every}
 use Rattle.terms.proofs.Names.{and-inv}
 use Rattle.text.specs.Questions.{processPlaces}
 use Rattle.table.specs.declared.Head.{Head}
-use Rattle.table.specs.Words.{rowSize, ownsAt, partsAt, field, nameAt, headAt, nextAt, lowAt, ownAt, boundAt, scopeAt}
+use Rattle.table.specs.Words.{rowSize, ownsAt, partsAt, field, nameAt, headAt, nextAt, lowAt, ownAt, boundAt, scopeAt, argWords, countField, firstField, kindField, lowField, nameField, nextField, secondField, timerField, valueField}
 use Rattle.table.specs.Valid.{index}
 use Rattle.table.specs.Size.{size, sizeP}
 use Rattle.table.proofs.Fires.{map-append}
-use Rattle.text_build.specs.Rows.{Row, Below, Stands, scopeNames, valueWord, headOf, firstPlace, secondPlace, entering, chanKnown}
+use Rattle.text_build.specs.Rows.{Row, Below, Stands, scopeNames, valueWord, headOf, firstPlace, secondPlace, entering, chanKnown, ofCall, argsOf}
 use Rattle.text_build.specs.Growth.{valueListed, partListed, placeListed, Grown, SameRows}
 use Rattle.text_build.proofs.Places.{PartFit, Fit, size-some, sizeP-some, fit-first, fit-go, fit-out, fit-in, fit-par}
 use Rattle.text_build.proofs.Numbers.{names-entered}
 
 module _ (w v : List ℕ) where
   -- ── one row ──
-  module _ (i : ℕ) (e : (k : ℕ) → k < 24 → field v i k ≡ field w i k) where
+  module _ (i : ℕ) (e : (k : ℕ) → k < rowSize → field v i k ≡ field w i k) where
     head-same : headAt v i ≡ headAt w i
     unfolding headAt
     head-same =
         rw (
-          e 0 (omega arith),
-          e 1 (omega arith),
-          e 2 (omega arith),
-          e 3 (omega arith),
-          e 4 (omega arith),
-          e 5 (omega arith),
-          e 17 (omega arith),
-          e 18 (omega arith),
-          e 19 (omega arith),
-          e 20 (omega arith),
+          e kindField (omega arith),
+          e nameField (omega arith),
+          e timerField (omega arith),
+          e valueField (omega arith),
+          e firstField (omega arith),
+          e secondField (omega arith),
         )
+
+    args-same : argWords v i ≡ argWords w i
+    args-same = rw (e 17 (omega arith), e 18 (omega arith), e 19 (omega arith), e 20 (omega arith))
 
     scope-same : scopeAt v i ≡ scopeAt w i
     unfolding scopeAt
     scope-same =
         rw (
-          e 8 (omega arith),
+          e countField (omega arith),
           e 9 (omega arith),
           e 10 (omega arith),
           e 11 (omega arith),
@@ -59,14 +58,15 @@ module _ (w v : List ℕ) where
           e 16 (omega arith),
         )
 
-    row-same : (h : Head) (n l : ℕ) (os : List ℕ) → Row w i h n l os → Row v i h n l os
+    row-same : (h : Head) (xs : List ℕ) (n l : ℕ) (os : List ℕ) → Row w i h xs n l os → Row v i h xs n l os
     unfolding nextAt lowAt
-    row-same h n l os r = record {
-      kind = rw (e 0 (omega arith)) (r .kind);
+    row-same h xs n l os r = record {
+      kind = rw (e kindField (omega arith)) (r .kind);
       head = head-same ∙ r .head;
-      next = e 6 (omega arith) ∙ r .next;
-      low = e 7 (omega arith) ∙ r .low;
-      few = rw (e 8 (omega arith)) (r .few);
+      args = ap (ofCall h) args-same ∙ r .args;
+      next = e nextField (omega arith) ∙ r .next;
+      low = e lowField (omega arith) ∙ r .low;
+      few = rw (e countField (omega arith)) (r .few);
       scope = scope-same ∙ r .scope;
     }
 
@@ -98,7 +98,15 @@ module _ (w v : List ℕ) where
     numbers-same (go t x p) i ys e = rw (value-same ys x e)
     numbers-same (out c t x p q) i ys e = let r = and-inv (chanKnown w c) _ e in rw (g .chans c (r .0), value-same ys x (r .1))
     numbers-same (inp c t y p q) i ys e = rw (g .chans c e)
-    numbers-same (call d xs) i ys e = rw (g .ids d, values-same ys xs e)
+    numbers-same (call d xs) i ys e = rw (g .ids d)
+
+    arguments-same : (a : Part) (ys : List Name) → partListed w a ≡ true → argsOf v ys a ≡ argsOf w ys a
+    unfolding argsOf partListed
+    arguments-same stop ys e = refl
+    arguments-same (go t x p) ys e = refl
+    arguments-same (out c t x p q) ys e = refl
+    arguments-same (inp c t y p q) ys e = refl
+    arguments-same (call d xs) ys e = rw (values-same ys xs e)
 
     listed-first : (a : Part) (d : ℕ) (ys : List Name) → PartFit (placeListed w) a d ys → partListed w a ≡ true
     unfolding placeListed
@@ -107,10 +115,11 @@ module _ (w v : List ℕ) where
     -- the row of a part
     part-row : (a : Part) (i n l d : ℕ) (os : List ℕ) → SameRows w v i i → scopeNames v os ≡ scopeNames w os
         → PartFit (placeListed w) a d (scopeNames w os)
-        → Row w i (headOf w i (scopeNames w os) a) n l os
-        → Row v i (headOf v i (scopeNames v os) a) n l os
+        → Row w i (headOf w i (scopeNames w os) a) (argsOf w (scopeNames w os) a) n l os
+        → Row v i (headOf v i (scopeNames v os) a) (argsOf v (scopeNames v os) a) n l os
     part-row a i n l d os s o e r =
-        rw (o, numbers-same a i (scopeNames w os) (listed-first a d _ e)) (row-same i (λ k h. s i k (omega arith) (omega arith) h) _ n l os r)
+        let f = listed-first a d _ e in
+        rw (o, numbers-same a i (scopeNames w os) f, arguments-same a (scopeNames w os) f) (row-same i (λ k h. s i k (omega arith) (omega arith) h) _ _ n l os r)
 
     pub entering-same : (i : ℕ) (os : List ℕ) (y : Name) → scopeNames v os ≡ scopeNames w os → entering v i os y ≡ entering w i os y
     unfolding entering
@@ -134,7 +143,7 @@ module _ (w v : List ℕ) where
       unfolding size sizeP processPlaces
 
       -- of the row at i itself only the name that it binds counts
-      pub below-kept : (a : Part) (i d : ℕ) (os : List ℕ) → ((j k : ℕ) → suc i - size a ≤ j → j < i → k < 24 → field v j k ≡ field w j k)
+      pub below-kept : (a : Part) (i d : ℕ) (os : List ℕ) → ((j k : ℕ) → suc i - size a ≤ j → j < i → k < rowSize → field v j k ≡ field w j k)
           → nameAt v (ownAt i) ≡ nameAt w (ownAt i)
           → scopeNames v os ≡ scopeNames w os
           → PartFit (placeListed w) a d (scopeNames w os) → size a ≤ suc i → Below w a i os → Below v a i os

@@ -24,7 +24,7 @@ use Rattle.table.specs.Valid.{index, timerOk, slotOk, refOk}
 use Rattle.table.proofs.Tests.{length-listFrom, getD-listFrom}
 use Rattle.table.proofs.Fires.{map-append}
 use Rattle.table.proofs.Names.{name-sym}
-use Rattle.text_build.specs.Rows.{locsOf, chansOf, idsOf, scopeNames, timerWord, valueWord, argWord, entering, timed, valueKnown, chanKnown}
+use Rattle.text_build.specs.Rows.{locsOf, chansOf, idsOf, scopeNames, timerWord, valueWord, fourWords, entering, timed, valueKnown, chanKnown}
 
 -- ── the first index of a name ──
 pub index-at : (ys : List Name) (x : Name) → index ys x < length ys → getD ys (index ys x) [] ≡ x
@@ -122,10 +122,10 @@ four-of (a ∷ b ∷ c ∷ d ∷ []) h = refl
 four-of (a ∷ b ∷ c ∷ d ∷ e ∷ xs) h = absurd (omega arith)
 
 module _ (w : List ℕ) (ys : List Name) (vs : List Value) (h : length vs ≤ 4) where
-  pub args-in : take (length vs) (argWord w ys vs 0 ∷ argWord w ys vs 1 ∷ argWord w ys vs 2 ∷ argWord w ys vs 3 ∷ []) ≡ map (valueWord w ys) vs
+  pub args-in : take (length vs) (fourWords w ys vs) ≡ map (valueWord w ys) vs
   args-in =
       let e = length-map vs (valueWord w ys) in
-      ap (λ n. take n (argWord w ys vs 0 ∷ argWord w ys vs 1 ∷ argWord w ys vs 2 ∷ argWord w ys vs 3 ∷ [])) (sym e) ∙ four-of (map (valueWord w ys) vs) (omega arith)
+      ap (λ n. take n (fourWords w ys vs)) (sym e) ∙ four-of (map (valueWord w ys) vs) (omega arith)
 
 -- ── the scope of an input's P ──
 pub names-entered : (w : List ℕ) (i : ℕ) (os : List ℕ) (y : Name) → boundAt w i ≡ y → scopeNames w (entering w i os y) ≡ into (scopeNames w os) y

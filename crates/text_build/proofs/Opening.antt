@@ -21,7 +21,7 @@ use Rattle.table.specs.Valid.{index}
 use Rattle.text_build.specs.declared.Scope.{Scope}
 use Rattle.text_build.specs.Keys.{keyOf}
 use Rattle.text_build.specs.Tables.{keyWords, heldIn}
-use Rattle.text_build.specs.Rows.{Row, chansOf, idsOf, scopeNames, timerWord, valueWord, firstPlace, secondPlace, headOf, chanKnown}
+use Rattle.text_build.specs.Rows.{Row, chansOf, idsOf, scopeNames, timerWord, valueWord, firstPlace, secondPlace, headOf, chanKnown, ofCall, argsOf}
 use Rattle.text_build.specs.Growth.{partListed, Grown, Frame, Making}
 use Rattle.text_build.specs.Put.{offsets, slotOf, chanNumber, enterChan, idNumber, valueNumber, enterValue, argNumbers, enterValues, enterPart, rowWords, rowOf, first₄}
 use Rattle.text_build.proofs.Grows.{Grew, grew-then, chan-known-is}
@@ -41,7 +41,7 @@ secondOf i (call d vs) = 0
 abbrev pub finished : List ℕ → ℕ → ℕ → ℕ → List ℕ
 finished r q n l = sets r 5 (q ∷ n ∷ l ∷ [])
 
-pub row-length : (w : List ℕ) (i : ℕ) (sc : Scope) (a : Part) → Eight sc → length (rowOf w i sc a) ≡ 24
+pub row-length : (w : List ℕ) (i : ℕ) (sc : Scope) (a : Part) → Eight sc → length (rowOf w i sc a) ≡ rowSize
 unfolding rowOf rowWords
 row-length w i sc stop m = let e = m .slots in rw (length-append (sc .at) (0 ∷ 0 ∷ 0 ∷ 0 ∷ 0 ∷ 0 ∷ 0 ∷ [])) (omega arith)
 row-length w i sc (go t v p) m = let e = m .slots in rw (length-append (sc .at) (0 ∷ 0 ∷ 0 ∷ 0 ∷ 0 ∷ 0 ∷ 0 ∷ [])) (omega arith)
@@ -93,14 +93,14 @@ module _ (w : List ℕ) (m : Making w) where
   module _ (u : List ℕ) (i low n l : ℕ) (sc : Scope) (m₈ : Eight sc) (s : Settled i (offsets sc)) where
     pub part-row : (a : Part) → WellPart a → word (enterPart w a) 4 ≡ 0 → Grown (enterPart w a) u → Frame (enterPart w a) u low i
         → RowIs u i (finished (rowOf w i sc a) (secondOf i a) n l)
-        → Row u i (headOf u i (scopeNames u (offsets sc)) a) n l (offsets sc)
-    unfolding enterPart rowOf rowWords headOf headBy
-    part-row stop e z g f r = row-holds u i 0 0 0 0 0 0 n l sc 0 0 0 0 r m₈ refl
+        → Row u i (headOf u i (scopeNames u (offsets sc)) a) (argsOf u (scopeNames u (offsets sc)) a) n l (offsets sc)
+    unfolding enterPart rowOf rowWords headOf headBy argsOf ofCall
+    part-row stop e z g f r = row-holds u i 0 0 0 0 0 0 n l sc 0 0 0 0 r m₈ refl refl
     part-row (go t v p) e z g f r =
         let x = value-in w m v (e .1) z in
         let y : valueNumber w sc v ≡ valueWord u (scopeNames u (offsets sc)) v =
         x .number i sc s ∙ ap (λ ys. valueWord (enterValue w v) ys v) (sym (settled-same _ u low i (offsets sc) f s)) ∙ sym (value-same _ u g _ v (x .listed)) in
-        rw (← y) (row-holds u i 1 0 (timerWord t) (valueNumber w sc v) (firstPlace i) 0 n l sc 0 0 0 0 r m₈ refl)
+        rw (← y) (row-holds u i 1 0 (timerWord t) (valueNumber w sc v) (firstPlace i) 0 n l sc 0 0 0 0 r m₈ refl refl)
     part-row (out c t v p q) e z g f r =
         let k = chan-entered w m c (e .0) (value-back (enterChan w c) v z) in
         let x = value-in (enterChan w c) (k .grew 0 0 .making) v (e .2) z in
@@ -109,19 +109,19 @@ module _ (w : List ℕ) (m : Making w) where
         k .has ∙ sym (x .grew 0 0 .grown .chans c h) ∙ sym (g .chans c (x .grew 0 0 .grown .chans-on c h)) in
         let y : valueNumber (enterChan w c) sc v ≡ valueWord u (scopeNames u (offsets sc)) v =
         x .number i sc s ∙ ap (λ ys. valueWord (enterValue (enterChan w c) v) ys v) (sym (settled-same _ u low i (offsets sc) f s)) ∙ sym (value-same _ u g _ v (x .listed)) in
-        rw (← j, ← y) (row-holds u i 2 (chanNumber w c) (timerWord t) (valueNumber (enterChan w c) sc v) (firstPlace i) (secondPlace i p) n l sc 0 0 0 0 r m₈ refl)
+        rw (← j, ← y) (row-holds u i 2 (chanNumber w c) (timerWord t) (valueNumber (enterChan w c) sc v) (firstPlace i) (secondPlace i p) n l sc 0 0 0 0 r m₈ refl refl)
     part-row (inp c t y p q) e z g f r =
         let k = chan-entered w m c (e .0) z in
         let j : chanNumber w c ≡ index (chansOf u) c = k .has ∙ sym (g .chans c (chan-known _ c (k .within))) in
         let x : slotOf w sc y ≡ index (scopeNames u (offsets sc)) y =
         slot-is w sc y (e .2) ∙ ap (λ ys. index ys y) (sym (settled-same _ u low i (offsets sc) f s ∙ settled-same w _ low i (offsets sc) (k .grew low i .frame) s)) in
-        rw (← j, ← x) (row-holds u i 3 (chanNumber w c) (timerWord t) (slotOf w sc y) (firstPlace i) (secondPlace i p) n l sc _ _ _ _ r m₈ refl)
+        rw (← j, ← x) (row-holds u i 3 (chanNumber w c) (timerWord t) (slotOf w sc y) (firstPlace i) (secondPlace i p) n l sc _ _ _ _ r m₈ refl refl)
     part-row (call d vs) e z g f r =
         let x = values-in vs w m (e .1) z in
         let k : idNumber w d ≡ index (idsOf u) d = id-held w m d ∙ ap (index (idsOf w)) (id-spelt d (e .0)) ∙ sym (g .ids d ∙ x .grew 0 0 .grown .ids d) in
         let y : argNumbers w sc vs ≡ map (valueWord u (scopeNames u (offsets sc))) vs =
         x .numbers i sc s ∙ ap (λ ys. map (valueWord (enterValues w vs) ys) vs) (sym (settled-same _ u low i (offsets sc) f s)) ∙ sym (values-same _ u g _ vs (x .listed)) in
-        rw (← k, ← y) (row-holds u i 4 (idNumber w d) 0 (min (length vs) 5) 0 0 n l sc _ _ _ _ r m₈ refl)
+        rw (← k, ← y) (row-holds u i 4 (idNumber w d) 0 (min (length vs) 5) 0 0 n l sc _ _ _ _ r m₈ refl refl)
 
     -- the name that an input binds, its Q being at j
     pub own-name : (c : Name) (t : Timer) (y : Name) (p q : Process) (j : ℕ) → WellPart (inp c t y p q)

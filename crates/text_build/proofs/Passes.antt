@@ -17,11 +17,11 @@ use Rattle.terms.specs.Same.{every}
 use Rattle.terms.proofs.Names.{and-inv, and-in}
 use Rattle.text.specs.Questions.{processPlaces}
 use Rattle.table.specs.declared.Head.{Head}
-use Rattle.table.specs.Words.{rowSize, lastName, ownsAt, locsIn, defsIn, arityOf, lowAt, ownAt, boundAt, scopeAt, namesAt}
+use Rattle.table.specs.Words.{rowSize, lastName, ownsAt, locsIn, defsIn, arityOf, lowAt, ownAt, boundAt, scopeAt, namesAt, argWords}
 use Rattle.table.specs.Valid.{alike, index, sortOk, innerOk, entered, headOk, nextOk, scopeOk, stacked, floor, lowOk, treeOk, partOk}
 use Rattle.table.proofs.Tests.{every-append}
 use Rattle.table.specs.Size.{size, sizeP}
-use Rattle.text_build.specs.Rows.{Row, Below, Stands, idsOf, scopeNames, headOf, firstPlace, secondPlace, entering, timed, chanKnown, callKnown, partKnown, placeKnown}
+use Rattle.text_build.specs.Rows.{Row, Below, Stands, idsOf, scopeNames, headOf, firstPlace, secondPlace, entering, timed, chanKnown, callKnown, partKnown, placeKnown, ofCall, argsOf}
 use Rattle.text_build.proofs.Numbers.{timer-ok, value-ok, args-ok, args-in, names-entered}
 use Rattle.text_build.proofs.Places.{PartFit, Fit, size-some, sizeP-some, fit-go, fit-out, fit-in, fit-par}
 use Rattle.text_build.proofs.Stands.{known-first}
@@ -89,34 +89,34 @@ module _ (w : List ℕ) where
       unfolding namesAt
       names-row = rw same
 
-      head-ok : (a : Part) (d : ℕ) → Below w a i os → size a ≤ suc i → PartFit (placeKnown w) a d (scopeNames w os) → headOk w i (headOf w i (scopeNames w os) a) ≡ true
-      unfolding headOk headOf partKnown callKnown chanKnown size entered entering
-      head-ok stop d b s e = refl
-      head-ok (go t v p) d b s e =
+      head-ok : (a : Part) (d : ℕ) → ofCall (headOf w i (scopeNames w os) a) (argWords w i) ≡ ofCall (headOf w i (scopeNames w os) a) (argsOf w (scopeNames w os) a) → Below w a i os → size a ≤ suc i → PartFit (placeKnown w) a d (scopeNames w os) → headOk w i (headOf w i (scopeNames w os) a) ≡ true
+      unfolding headOk headOf partKnown callKnown chanKnown size entered entering argsOf ofCall
+      head-ok stop d x b s e = refl
+      head-ok (go t v p) d x b s e =
           let z = sizeP-some p in
           let r = and-inv _ _ (known-first w (go t v p) d _ e) in
           rw (names-row, same) (and-in _ _ (timer-ok t (r .0)) (and-in _ _ (value-ok w few _ v (r .1)) (below-ok p i _ os b (omega arith))))
-      head-ok (out c t v p q) d b s e =
+      head-ok (out c t v p q) d x b s e =
           let z = sizeP-some p in
           let k = and-inv (chanKnown w c) _ (known-first w (out c t v p q) d _ e) in
           let r = and-inv _ _ (k .1) in
           rw (names-row, same)
           (and-in _ _ (k .0) (and-in _ _ (timer-ok t (r .0)) (and-in _ _ (value-ok w few _ v (r .1))
           (and-in _ _ (below-ok p i _ os (b .0) (omega arith)) (below-ok q i _ os (b .1) (omega arith))))))
-      head-ok (inp c t y p q) d b s e =
+      head-ok (inp c t y p q) d x b s e =
           let z = sizeP-some p in
           let k = and-inv (chanKnown w c) _ (known-first w (inp c t y p q) d _ e) in
           let r = and-inv _ _ (k .1) in
           rw (names-row, same, b .0)
           (and-in _ _ (k .0) (and-in _ _ (timer-ok t (r .0)) (and-in _ _ (r .1) (and-in _ _ (eq-eqb (index (scopeNames w os) y) (index (scopeNames w os) y) refl)
           (and-in _ _ (below-ok p i _ (entering w i os y) (b .1) (omega arith)) (below-ok q i _ os (b .2) (omega arith)))))))
-      head-ok (call n vs) d b s e =
+      head-ok (call n vs) d x b s e =
           let k = and-inv (callKnown w n vs) _ (known-first w (call n vs) d _ e) in
           let h = and-inv (ltb (index (idsOf w) n) (defsIn w)) _ (k .0) in
           let g = and-inv (eqb (length vs) (arityOf w (index (idsOf w) n))) _ (h .1) in
           let n₄ = leb-true (length vs) 4 (g .1) in
           let m : min (length vs) 5 ≡ length vs = omega arith in
-          rw (m, names-row, args-in w (scopeNames w os) vs n₄)
+          rw (m, names-row, x, args-in w (scopeNames w os) vs n₄)
           (and-in _ _ (h .0) (and-in _ _ (g .0) (args-ok w few (scopeNames w os) vs (k .1))))
 
     -- ── where the rows below lie ──
@@ -150,12 +150,12 @@ module _ (w : List ℕ) where
 
     -- ── one row ──
     -- what is left of a part's test once its head, its scope and its place are known
-    row-ok : (i n l : ℕ) (h : Head) (os : List ℕ) → Row w i h n l os → GoodScope w os → headOk w i h ≡ true → nextOk w i n ≡ true
+    row-ok : (i n l : ℕ) (h : Head) (xs os : List ℕ) → Row w i h xs n l os → GoodScope w os → headOk w i h ≡ true → nextOk w i n ≡ true
         → stacked w i h ≡ true
         → lowOk w l (floor w i h) n ≡ true
         → partOk w i ≡ true
     unfolding partOk scopeOk treeOk
-    row-ok i n l h os r o a b c d =
+    row-ok i n l h xs os r o a b c d =
         rw (r .head, r .next, r .low, names-row i os (r .scope), r .scope)
         (and-in _ _ (r .kind) (and-in _ _ (and-in _ _ (r .few) (and-in _ _ (o .inside) (o .names))) (and-in _ _ a (and-in _ _ b (and-in _ _ c d)))))
 
@@ -163,14 +163,14 @@ module _ (w : List ℕ) where
     first-ok : (p : Process) (i d : ℕ) (os : List ℕ) → Stands w p i os → sizeP p ≤ suc i → Fit (placeKnown w) p d (scopeNames w os) → GoodScope w os → partOk w i ≡ true
     unfolding sizeP nextOk lowOk processPlaces
     first-ok (one a) i d os b s e o =
-        row-ok i _ _ _ os (b .0) o (head-ok i os (b .0 .scope) a d (b .1) s e) refl (stacked-ok a i os (b .1) s)
+        row-ok i _ _ _ _ os (b .0) o (head-ok i os (b .0 .scope) a d (b .0 .args) (b .1) s e) refl (stacked-ok a i os (b .1) s)
         (eq-eqb (suc i - size a) (floor w i (headOf w i (scopeNames w os) a)) (sym (floor-is a i os (b .1) s)))
     first-ok (a ∥ p) i d os b s e o =
         let x = size-some a in
         let z = sizeP-some p in
         let k = fit-par (placeKnown w) a p d _ e in
         let f = floor-is a i os (b .1) (omega arith) in
-        row-ok i _ _ _ os (b .0) o (head-ok i os (b .0 .scope) a d (b .1) (omega arith) (k .0))
+        row-ok i _ _ _ _ os (b .0) o (head-ok i os (b .0 .scope) a d (b .0 .args) (b .1) (omega arith) (k .0))
         (rw (b .0 .scope) (below-ok p i (i - size a) os (b .2) (omega arith)))
         (stacked-ok a i os (b .1) (omega arith))
         (and-in _ _ (eq-eqb (suc (i - size a)) (floor w i (headOf w i (scopeNames w os) a)) (omega arith))

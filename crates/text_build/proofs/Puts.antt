@@ -19,12 +19,12 @@ use Rattle.terms.proofs.Names.{and-inv, and-in}
 use Rattle.terms.specs.Letters.{isSmall}
 use Rattle.text.specs.WellFormed.{Each, WellPart, WellProcess}
 use Rattle.text.specs.Questions.{Place, into, partPlaces, processPlaces}
-use Rattle.table.specs.Words.{rowSize, ownsAt, partsAt, word, field, nameAt, ownAt}
+use Rattle.table.specs.Words.{rowSize, ownsAt, partsAt, word, field, nameAt, ownAt, nextField, secondField}
 use Rattle.table.specs.Valid.{index}
 use Rattle.table.proofs.Tests.{every-append}
 use Rattle.table.specs.Size.{size, sizeP}
 use Rattle.text_build.specs.declared.Scope.{Scope}
-use Rattle.text_build.specs.Rows.{Row, Below, Stands, scopeNames, headOf, firstPlace, secondPlace, entering, chanKnown}
+use Rattle.text_build.specs.Rows.{Row, Below, Stands, scopeNames, headOf, firstPlace, secondPlace, entering, chanKnown, argsOf}
 use Rattle.text_build.specs.Growth.{valueListed, partListed, placeListed, Grown, Frame, Making}
 use Rattle.text_build.specs.Put.{offsets, slotOf, enterPart, rowWords, rowOf, opened, setSecond, linked, innerScope, scopeMark, putPart, put}
 use Rattle.text_build.proofs.Places.{PartFit, Fit, here, size-some, sizeP-some}
@@ -240,7 +240,7 @@ module _ (a : Part) (w : List ℕ) (i : ℕ) (sc : Scope) (m : Making w) (e : Ei
   -- its head in a later script
   open-head : (u : List ℕ) (low n l : ℕ) → low ≤ i → Settled i (offsets sc) → Grew (opened w i sc a) u low i
       → RowIs u i (finished (rowOf w i sc a) (secondOf i a) n l)
-      → Row u i (headOf u i (scopeNames u (offsets sc)) a) n l (offsets sc)
+      → Row u i (headOf u i (scopeNames u (offsets sc)) a) (argsOf u (scopeNames u (offsets sc)) a) n l (offsets sc)
   open-head u low n l k s g r =
       let t = grew-then low i row-step g k (omega arith) (omega arith) (omega arith) in
       part-row w m u i low n l sc e s a p (opened-back a w i sc z) (t .grown) (t .frame) r
@@ -262,7 +262,7 @@ widen : {w v : List ℕ} {low₁ i₁ : ℕ} (low i : ℕ) → Making w → Grew
 widen {w = w} low i m g a b = grew-then low i (grew-none w m low i) g (omega arith) a (omega arith) b
 
 -- the rows below i are those of a script whose row at i was written
-under-same : (w v : List ℕ) (i : ℕ) → Frame w v i i → (j k : ℕ) → j < i → k < 24 → field v j k ≡ field w j k
+under-same : (w v : List ℕ) (i : ℕ) → Frame w v i i → (j k : ℕ) → j < i → k < rowSize → field v j k ≡ field w j k
 under-same w v i f j k h l = f .under (partsAt + j * rowSize + k) (omega arith) (omega arith)
 
 above-same : (w v : List ℕ) (low b : ℕ) → Frame w v low b → (j k : ℕ) → b < j → field v j k ≡ field w j k
@@ -316,8 +316,8 @@ out-put c t x p q w v u i d sc m e s f n h z r b =
     let j = sizeP-some q in
     let y = row-grew u (b .grew .making) i 5 (secondPlace i p ∷ []) (omega arith) in
     let g = grew-then (suc i - size a) i (b .grew) y (omega arith) (omega arith) (omega arith) (omega arith) in
-    let o : scopeNames (sets u (partsAt + i * rowSize + 5) (secondPlace i p ∷ [])) (offsets sc) ≡ scopeNames v (offsets sc) = settled-same _ _ _ i (offsets sc) (g .frame) s in
-    let l : scopeNames (sets u (partsAt + i * rowSize + 5) (secondPlace i p ∷ [])) (offsets sc) ≡ scopeNames u (offsets sc) = settled-same _ _ _ i (offsets sc) (y .frame) s in
+    let o : scopeNames (sets u (partsAt + i * rowSize + secondField) (secondPlace i p ∷ [])) (offsets sc) ≡ scopeNames v (offsets sc) = settled-same _ _ _ i (offsets sc) (g .frame) s in
+    let l : scopeNames (sets u (partsAt + i * rowSize + secondField) (secondPlace i p ∷ [])) (offsets sc) ≡ scopeNames u (offsets sc) = settled-same _ _ _ i (offsets sc) (y .frame) s in
     let big = grew-then (suc i - size a) i (r .grew) g (omega arith) (omega arith) (omega arith) (omega arith) in
     record {
       below = (
@@ -360,13 +360,13 @@ in-put c t x p q w v u i d sc m e s f n h z r b =
     let big = grew-then (suc i - size a) i (r .grew) g (omega arith) (omega arith) (omega arith) (omega arith) in
     let start = grew-then (suc i - size a) i (open-grew a w i sc m e f h z) big (omega arith) (omega arith) (omega arith) (omega arith) in
     let first = grew-then (suc i - size a) i (open-grew a w i sc m e f h z) (r .grew) (omega arith) (omega arith) (omega arith) (omega arith) in
-    let o : scopeNames (sets u (partsAt + i * rowSize + 5) (secondPlace i p ∷ [])) (offsets sc) ≡ scopeNames v (offsets sc) = settled-same _ _ _ i (offsets sc) (g .frame) s in
-    let l : scopeNames (sets u (partsAt + i * rowSize + 5) (secondPlace i p ∷ [])) (offsets sc) ≡ scopeNames u (offsets sc) = settled-same _ _ _ i (offsets sc) (y .frame) s in
+    let o : scopeNames (sets u (partsAt + i * rowSize + secondField) (secondPlace i p ∷ [])) (offsets sc) ≡ scopeNames v (offsets sc) = settled-same _ _ _ i (offsets sc) (g .frame) s in
+    let l : scopeNames (sets u (partsAt + i * rowSize + secondField) (secondPlace i p ∷ [])) (offsets sc) ≡ scopeNames u (offsets sc) = settled-same _ _ _ i (offsets sc) (y .frame) s in
     let own = own-past u i 5 (secondPlace i p ∷ []) (omega arith) ∙ own-above v u _ (secondPlace i p) i (b .grew .frame) (omega arith) in
     let v-same = entering-same w v (first .grown) i (offsets sc) x (settled-same w v _ i (offsets sc) (first .frame) s) in
     let u-same = entering-same w _ (start .grown) i (offsets sc) x (settled-same w _ _ i (offsets sc) (start .frame) s) in
-    let oe : scopeNames (sets u (partsAt + i * rowSize + 5) (secondPlace i p ∷ [])) (entering w i (offsets sc) x) ≡ scopeNames v (entering w i (offsets sc) x) = rw (← v-same) (entered-same v _ (g .grown) i (offsets sc) x own o) in
-    let rows : RowIs (sets u (partsAt + i * rowSize + 5) (secondPlace i p ∷ [])) i (finished (rowOf w i sc a) (secondPlace i p) 0 0) =
+    let oe : scopeNames (sets u (partsAt + i * rowSize + secondField) (secondPlace i p ∷ [])) (entering w i (offsets sc) x) ≡ scopeNames v (entering w i (offsets sc) x) = rw (← v-same) (entered-same v _ (g .grown) i (offsets sc) x own o) in
+    let rows : RowIs (sets u (partsAt + i * rowSize + secondField) (secondPlace i p ∷ [])) i (finished (rowOf w i sc a) (secondPlace i p) 0 0) =
     rw (← with-second a w i sc (secondPlace i p))
     (row-after u i (rowOf w i sc a) 5 (secondPlace i p ∷ []) (row-kept v u _ (secondPlace i p) i (rowOf w i sc a) (b .grew .frame) (omega arith) (row-kept _ v _ (firstPlace i) i (rowOf w i sc a) (r .grew .frame) (omega arith) (open-row a w i sc m e f h z)))
     (row-length w i sc a e) (omega arith) (let lg = b .grew .making .long in omega arith)) in
@@ -397,7 +397,7 @@ module _ (a : Part) (w v : List ℕ) (i d : ℕ) (sc : Scope) (m : Making w) (e 
       let k = size-some a in
       let y = row-grew v (r .later .making) i 6 (0 ∷ (suc i - size a) ∷ []) (omega arith) in
       let g = grew-then (suc i - size a) i (r .later) y (omega arith) (omega arith) (omega arith) (omega arith) in
-      let o : scopeNames (sets v (partsAt + i * rowSize + 6) (0 ∷ (suc i - size a) ∷ [])) (offsets sc) ≡ scopeNames v (offsets sc) = settled-same _ _ _ i (offsets sc) (y .frame) s in
+      let o : scopeNames (sets v (partsAt + i * rowSize + nextField) (0 ∷ (suc i - size a) ∷ [])) (offsets sc) ≡ scopeNames v (offsets sc) = settled-same _ _ _ i (offsets sc) (y .frame) s in
       record {
         stands = (
           open-head a w i sc m e f h (r .unmarked) _ (suc i - size a) 0 (suc i - size a) (omega arith) s g
@@ -418,9 +418,9 @@ module _ (a : Part) (w v : List ℕ) (i d : ℕ) (sc : Scope) (m : Making w) (e 
       let y = row-grew u (b .grew .making) i 6 (suc (i - size a) ∷ low ∷ []) (omega arith) in
       let g = grew-then (suc i - (size a + sizeP p)) i (b .grew) y (omega arith) (omega arith) (omega arith) (omega arith) in
       let big = grew-then (suc i - (size a + sizeP p)) i (r .later) g (omega arith) (omega arith) (omega arith) (omega arith) in
-      let o : scopeNames (sets u (partsAt + i * rowSize + 6) (suc (i - size a) ∷ low ∷ [])) (offsets sc) ≡ scopeNames v (offsets sc) = settled-same _ _ _ i (offsets sc) (g .frame) s in
-      let l : scopeNames (sets u (partsAt + i * rowSize + 6) (suc (i - size a) ∷ low ∷ [])) (offsets sc) ≡ scopeNames u (offsets sc) = settled-same _ _ _ i (offsets sc) (y .frame) s in
-      let full-length : length (finished (rowOf w i sc a) (secondOf i a) 0 0) ≡ 24 = length-sets (rowOf w i sc a) 5 (secondOf i a ∷ 0 ∷ 0 ∷ []) ∙ row-length w i sc a e in
+      let o : scopeNames (sets u (partsAt + i * rowSize + nextField) (suc (i - size a) ∷ low ∷ [])) (offsets sc) ≡ scopeNames v (offsets sc) = settled-same _ _ _ i (offsets sc) (g .frame) s in
+      let l : scopeNames (sets u (partsAt + i * rowSize + nextField) (suc (i - size a) ∷ low ∷ [])) (offsets sc) ≡ scopeNames u (offsets sc) = settled-same _ _ _ i (offsets sc) (y .frame) s in
+      let full-length : length (finished (rowOf w i sc a) (secondOf i a) 0 0) ≡ rowSize = length-sets (rowOf w i sc a) 5 (secondOf i a ∷ 0 ∷ 0 ∷ []) ∙ row-length w i sc a e in
       record {
         stands = (
           open-head a w i sc m e f h (r .unmarked) _ (suc i - (size a + sizeP p)) (suc (i - size a)) (suc i - (size a + sizeP p)) (omega arith) s big

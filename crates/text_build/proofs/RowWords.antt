@@ -12,16 +12,16 @@ use lib.Seq.{sets, getD-append-add}
 use Rattle.terms.specs.Terms.Part.{go}
 use Rattle.table.specs.declared.Head.{Head}
 use Rattle.table.specs.declared.Head.the-variants.{Stop, Go, Out, In, Call}
-use Rattle.table.specs.Words.{rowSize, partsAt, word, field, headAt, nextAt, lowAt, scopeAt}
+use Rattle.table.specs.Words.{rowSize, partsAt, word, field, headAt, nextAt, lowAt, scopeAt, argWords, countField, firstField, kindField, lowField, nameField, nextField, secondField, timerField, valueField}
 use Rattle.text_build.specs.declared.Scope.{Scope}
 use Rattle.text_build.specs.Growth.{Frame}
-use Rattle.text_build.specs.Rows.{Row}
+use Rattle.text_build.specs.Rows.{Row, ofCall}
 use Rattle.text_build.specs.Put.{offsets}
 use Rattle.table.proofs.Stores.{sets-under, sets-past, sets-in}
 
 -- the row at i holds the words r
 abbrev pub RowIs : List ℕ → ℕ → List ℕ → Type 0
-RowIs w i r = (k : ℕ) → k < 24 → field w i k ≡ getD r k 0
+RowIs w i r = (k : ℕ) → k < rowSize → field w i k ≡ getD r k 0
 
 -- j lies below k or not
 pub side : {A : Type 0} (j k : ℕ) → (j < k → A) → (k ≤ j → A) → A
@@ -32,7 +32,7 @@ side {A = A} j k x y = go (ltb j k) refl
     go false e = y (ltb-false j k e)
 
 -- some words of the row are written
-pub row-after : (w : List ℕ) (i : ℕ) (r : List ℕ) (k : ℕ) (vs : List ℕ) → RowIs w i r → length r ≡ 24 → k + length vs ≤ 24 → partsAt + i * rowSize + 24 ≤ length w
+pub row-after : (w : List ℕ) (i : ℕ) (r : List ℕ) (k : ℕ) (vs : List ℕ) → RowIs w i r → length r ≡ rowSize → k + length vs ≤ rowSize → partsAt + i * rowSize + rowSize ≤ length w
     → RowIs (sets w (partsAt + i * rowSize + k) vs) i (sets r k vs)
 row-after w i r k vs e n h b j l =
     side j k
@@ -46,10 +46,10 @@ row-after w i r k vs e n h b j l =
     (λ z. sets-past vs w (partsAt + i * rowSize + k) (partsAt + i * rowSize + j) (omega arith) ∙ e j l ∙ sym (sets-past vs r k j z)))
 
 -- a whole row
-pub row-new : (w : List ℕ) (i : ℕ) (r : List ℕ) → length r ≡ 24 → partsAt + i * rowSize + 24 ≤ length w → RowIs (sets w (partsAt + i * rowSize + 0) r) i r
+pub row-new : (w : List ℕ) (i : ℕ) (r : List ℕ) → length r ≡ rowSize → partsAt + i * rowSize + rowSize ≤ length w → RowIs (sets w (partsAt + i * rowSize + kindField) r) i r
 row-new w i r n b j l =
-    let p : partsAt + i * rowSize + j ≡ partsAt + i * rowSize + 0 + j = omega arith in
-    ap (word (sets w (partsAt + i * rowSize + 0) r)) p ∙ sets-in r w (partsAt + i * rowSize + 0) j (omega arith) (omega arith)
+    let p : partsAt + i * rowSize + j ≡ partsAt + i * rowSize + kindField + j = omega arith in
+    ap (word (sets w (partsAt + i * rowSize + kindField) r)) p ∙ sets-in r w (partsAt + i * rowSize + kindField) j (omega arith) (omega arith)
 
 -- rows below are written
 pub row-kept : (w v : List ℕ) (low j i : ℕ) (r : List ℕ) → Frame w v low j → j < i → RowIs w i r → RowIs v i r
@@ -82,10 +82,10 @@ pub past-eight : (xs : List ℕ) → length xs ≡ 8 → (ys : List ℕ) (k : �
 past-eight xs h ys k = ap (λ m. getD (xs ++ ys) (m + k) 0) (sym h) ∙ getD-append-add xs ys k 0
 
 -- the head of a row, by its kind
-unfoldable pub headBy : ℕ → ℕ → ℕ → ℕ → ℕ → ℕ → List ℕ → Head
-headBy k c t v p q xs =
+unfoldable pub headBy : ℕ → ℕ → ℕ → ℕ → ℕ → ℕ → Head
+headBy k c t v p q =
     cond (eqb k 1) (Go t v p) (cond (eqb k 2) (Out c t v p q) (cond (eqb k 3) (In c t v p q)
-    (cond (eqb k 4) (Call c v (getD xs 0 0) (getD xs 1 0) (getD xs 2 0) (getD xs 3 0)) Stop)))
+    (cond (eqb k 4) (Call c v) Stop)))
 
 module _ (w : List ℕ) (i k c t v p q n l : ℕ) (sc : Scope) (x₀ x₁ x₂ x₃ : ℕ) (e : RowIs w i (full k c t v p q n l sc (x₀ ∷ x₁ ∷ x₂ ∷ x₃ ∷ []))) (m : Eight sc) where
   -- the words from 17 on
@@ -107,16 +107,21 @@ module _ (w : List ℕ) (i k c t v p q n l : ℕ) (sc : Scope) (x₀ x₁ x₂ x
   scope-is : scopeAt w i ≡ offsets sc
   unfolding scopeAt
   scope-is =
-      rw (e 8 (omega arith), e 9 (omega arith), e 10 (omega arith), e 11 (omega arith), e 12 (omega arith), e 13 (omega arith), e 14 (omega arith), e 15 (omega arith), e 16 (omega arith), le-leb (sc .n) 8 (m .few))
+      rw (e countField (omega arith), e 9 (omega arith), e 10 (omega arith), e 11 (omega arith), e 12 (omega arith), e 13 (omega arith), e 14 (omega arith), e 15 (omega arith), e 16 (omega arith), le-leb (sc .n) 8 (m .few))
       (ap (take (sc .n)) (eight-of (sc .at) (m .slots) rest))
 
-  pub row-holds : leb k 4 ≡ true → Row w i (headBy k c t v p q (x₀ ∷ x₁ ∷ x₂ ∷ x₃ ∷ [])) n l (offsets sc)
+  args-hold : argWords w i ≡ x₀ ∷ x₁ ∷ x₂ ∷ x₃ ∷ []
+  args-hold = rw (tail₀, tail₁, tail₂, tail₃)
+
+  pub row-holds : leb k 4 ≡ true → {xs : List ℕ} → ofCall (headBy k c t v p q) (x₀ ∷ x₁ ∷ x₂ ∷ x₃ ∷ []) ≡ ofCall (headBy k c t v p q) xs
+      → Row w i (headBy k c t v p q) xs n l (offsets sc)
   unfolding headAt headBy nextAt lowAt
-  row-holds small = record {
-    kind = rw (e 0 (omega arith)) small;
-    head = rw (e 0 (omega arith), e 1 (omega arith), e 2 (omega arith), e 3 (omega arith), e 4 (omega arith), e 5 (omega arith), tail₀, tail₁, tail₂, tail₃);
-    next = e 6 (omega arith);
-    low = e 7 (omega arith);
-    few = rw (e 8 (omega arith)) (le-leb (sc .n) 8 (m .few));
+  row-holds small a = record {
+    kind = rw (e kindField (omega arith)) small;
+    head = rw (e kindField (omega arith), e nameField (omega arith), e timerField (omega arith), e valueField (omega arith), e firstField (omega arith), e secondField (omega arith));
+    args = ap (ofCall (headBy k c t v p q)) args-hold ∙ a;
+    next = e nextField (omega arith);
+    low = e lowField (omega arith);
+    few = rw (e countField (omega arith)) (le-leb (sc .n) 8 (m .few));
     scope = scope-is;
   }

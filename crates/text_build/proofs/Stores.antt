@@ -10,7 +10,7 @@ use Rattle.text_build.specs.declared.Scope.{Scope}
 use Rattle.text_build.specs.Tables.{keyWords}
 use Rattle.text_build.specs.Put.{rowWords}
 use Rattle.text_build.proofs.Writes.{sets-append}
-use Rattle.table.specs.Words.{rowSize, partsAt}
+use Rattle.table.specs.Words.{rowSize, partsAt, kindField}
 
 pub eight-stores : (l : List ℕ) (o : ℕ) (xs : List ℕ) → length xs ≡ 8
     → set (set (set (set (set (set (set (set l o (getD xs 0 0)) (o + 1) (getD xs 1 0)) (o + 2) (getD xs 2 0)) (o + 3) (getD xs 3 0)) (o + 4) (getD xs 4 0)) (o + 5) (getD xs 5 0)) (o + 6) (getD xs 6 0)) (o + 7) (getD xs 7 0) ≡ sets l o xs
@@ -36,7 +36,7 @@ eight-stores l o (a ∷ b ∷ c ∷ d ∷ e ∷ f ∷ g ∷ h ∷ x ∷ xs) q = 
 -- a row written in three runs
 pub row-stores : (l : List ℕ) (i k c t v p : ℕ) (sc : Scope) (x : Key) → length (sc .at) ≡ 8
     → sets (sets (sets l (partsAt + i * rowSize) (k ∷ c ∷ t ∷ v ∷ p ∷ 0 ∷ 0 ∷ 0 ∷ sc .n ∷ [])) (partsAt + i * rowSize + 9) (sc .at)) (partsAt + i * rowSize + 17) (x .a ∷ x .b ∷ x .c ∷ x .d ∷ 0 ∷ 0 ∷ 0 ∷ [])
-    ≡ sets l (partsAt + i * rowSize + 0) (rowWords k c t v p sc (keyWords x))
+    ≡ sets l (partsAt + i * rowSize + kindField) (rowWords k c t v p sc (keyWords x))
 unfolding rowWords
 row-stores l i k c t v p sc x q =
     let last : List ℕ = x .a ∷ x .b ∷ x .c ∷ x .d ∷ 0 ∷ 0 ∷ 0 ∷ [] in

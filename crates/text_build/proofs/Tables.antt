@@ -1,5 +1,6 @@
 -- A name looked up or added: the ways of `number` to its answer, and what the table holds afterwards.
 -- The law: the names that a table holds become the same with the new one behind them, unless it is among them (`into` of the numbering by first place).
+use Rattle.table.specs.Words.{nameSize}
 use Prim.Native.Nat.{ℕ, suc, _+_, _-_, _*_, _≤_, _<_}
 use native.Mathlib.Omega.{arith}
 use mathlib.Core.List.{List, [], _∷_}
@@ -46,7 +47,7 @@ module _ (w : List ℕ) (o at : ℕ) (k : Key) (n j : ℕ) (g : n ≡ heldIn w a
     last : n ≡ j
     last = let b = number-within w o n (keyName k) in omega arith
 
-    pub enlisted-new : n < 64 → Enlisted w (set (sets w (o + n * 4) (keyWords k)) at (n + 1)) o at k n
+    pub enlisted-new : n < 64 → Enlisted w (set (sets w (o + n * nameSize) (keyWords k)) at (n + 1)) o at k n
     unfolding addKey
     enlisted-new l = record { place = last ∙ place-is; after = sym (way false (le-ltb j n h) ∙ rw (lt-ltb n 64 l)) }
 

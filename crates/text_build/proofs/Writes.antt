@@ -25,7 +25,7 @@ frame-then low i f g a b c d = record {
 }
 
 -- some words of the row at i
-pub frame-row : (w : List ℕ) (i k : ℕ) (vs : List ℕ) → k + length vs ≤ 24 → Frame w (sets w (partsAt + i * rowSize + k) vs) i i
+pub frame-row : (w : List ℕ) (i k : ℕ) (vs : List ℕ) → k + length vs ≤ rowSize → Frame w (sets w (partsAt + i * rowSize + k) vs) i i
 frame-row w i k vs h = record {
   long = length-sets w (partsAt + i * rowSize + k) vs;
   parts = sets-under vs w (partsAt + i * rowSize + k) 0 (omega arith);

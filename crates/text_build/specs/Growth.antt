@@ -44,7 +44,7 @@ pub record Grown (w v : List ℕ) : Type 0 where
 
 -- the rows from `low` up to i are the same
 abbrev pub SameRows : List ℕ → List ℕ → ℕ → ℕ → Type 0
-SameRows w v low i = (j k : ℕ) → low ≤ j → j ≤ i → k < 24 → field v j k ≡ field w j k
+SameRows w v low i = (j k : ℕ) → low ≤ j → j ≤ i → k < rowSize → field v j k ≡ field w j k
 
 -- ── what a write of the rows from `low` up to i, and of names, leaves: definitions, the other rows, and the number of parts and definitions ──
 pub record Frame (w v : List ℕ) (low i : ℕ) : Type 0 where

@@ -13,7 +13,7 @@ use Rattle.terms.specs.Terms.{Value, Part, Process}
 use Rattle.terms.specs.Terms.Value.{loc, var}
 use Rattle.terms.specs.Terms.Part.{stop, go, out, inp, call}
 use Rattle.terms.specs.Terms.Process.{one, _∥_}
-use Rattle.table.specs.Words.{rowSize, chansAt, locsAt, partsAt, defName, ownAt}
+use Rattle.table.specs.Words.{rowSize, chansAt, locsAt, partsAt, defName, ownAt, kindField, nextField, secondField}
 use Rattle.table.specs.Meaning.{listFrom}
 use Rattle.table.specs.Tests.{keyName}
 use Rattle.table.specs.Valid.{index}
@@ -92,15 +92,15 @@ rowOf w i sc (call d vs) = rowWords 4 (idNumber w d) 0 (min (length vs) 5) 0 sc 
 
 -- names, then the row
 unfoldable pub opened : List ℕ → ℕ → Scope → Part → List ℕ
-opened w i sc a = sets (enterPart w a) (partsAt + i * rowSize + 0) (rowOf w i sc a)
+opened w i sc a = sets (enterPart w a) (partsAt + i * rowSize + kindField) (rowOf w i sc a)
 
 -- the place of Q
 unfoldable pub setSecond : List ℕ → ℕ → ℕ → List ℕ
-setSecond w i q = sets w (partsAt + i * rowSize + 5) (q ∷ [])
+setSecond w i q = sets w (partsAt + i * rowSize + secondField) (q ∷ [])
 
 -- the next part and the least place
 unfoldable pub linked : List ℕ → ℕ → ℕ → ℕ → List ℕ
-linked w i n l = sets w (partsAt + i * rowSize + 6) (n ∷ l ∷ [])
+linked w i n l = sets w (partsAt + i * rowSize + nextField) (n ∷ l ∷ [])
 
 -- ── the scope of an input's P: its name is entered if it is not there; a ninth is not, and the word 4 says so (question 4) ──
 unfoldable pub innerScope : List ℕ → ℕ → Scope → Name → Scope

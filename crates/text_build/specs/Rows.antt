@@ -19,7 +19,7 @@ use Rattle.terms.specs.Letters.{isSmall}
 use Rattle.text.specs.Questions.{Place}
 use Rattle.table.specs.declared.Head.{Head}
 use Rattle.table.specs.declared.Head.the-variants.{Stop, Go, Out, In, Call}
-use Rattle.table.specs.Words.{locsIn, chansIn, defsIn, nameAt, locName, chanName, defName, arityOf, field, headAt, nextAt, lowAt, ownAt, boundAt, scopeAt}
+use Rattle.table.specs.Words.{locsIn, chansIn, defsIn, nameAt, locName, chanName, defName, arityOf, field, headAt, nextAt, lowAt, ownAt, boundAt, scopeAt, argWords, countField, kindField}
 use Rattle.table.specs.Meaning.{listFrom}
 use Rattle.table.specs.Valid.{index}
 use Rattle.table.specs.Size.{size, sizeP}
@@ -51,6 +51,9 @@ valueWord w ys (var x) = 64 + index ys x
 abbrev pub argWord : List ℕ → List Name → List Value → ℕ → ℕ
 argWord w ys vs k = getD (map (valueWord w ys) vs) k 0
 
+abbrev pub fourWords : List ℕ → List Name → List Value → List ℕ
+fourWords w ys vs = argWord w ys vs 0 ∷ argWord w ys vs 1 ∷ argWord w ys vs 2 ∷ argWord w ys vs 3 ∷ []
+
 -- the place of a part's P, and that of its Q
 abbrev pub firstPlace : ℕ → ℕ
 firstPlace i = i - 1
@@ -64,20 +67,35 @@ headOf w i ys stop = Stop
 headOf w i ys (go t v p) = Go (timerWord t) (valueWord w ys v) (firstPlace i)
 headOf w i ys (out c t v p q) = Out (index (chansOf w) c) (timerWord t) (valueWord w ys v) (firstPlace i) (secondPlace i p)
 headOf w i ys (inp c t y p q) = In (index (chansOf w) c) (timerWord t) (index ys y) (firstPlace i) (secondPlace i p)
-headOf w i ys (call d vs) =
-    Call (index (idsOf w) d) (min (length vs) 5) (argWord w ys vs 0) (argWord w ys vs 1) (argWord w ys vs 2) (argWord w ys vs 3)
+headOf w i ys (call d vs) = Call (index (idsOf w) d) (min (length vs) 5)
 
 -- the scope of the P of an input at i that binds y: its name is entered if it is not there
 unfoldable pub entering : List ℕ → ℕ → List ℕ → Name → List ℕ
 entering w i os y = cond (ltb (index (scopeNames w os) y) (length os)) os (os ++ (ownAt i ∷ []))
 
--- the row at i holds the head h, the next part n, the least place l, and the scope os
-pub record Row (w : List ℕ) (i : ℕ) (h : Head) (n l : ℕ) (os : List ℕ) : Type 0 where
-  pub kind : leb (field w i 0) 4 ≡ true
+-- the words for the arguments of a call, and none of another part
+unfoldable pub argsOf : List ℕ → List Name → Part → List ℕ
+argsOf w ys stop = []
+argsOf w ys (go t v p) = []
+argsOf w ys (out c t v p q) = []
+argsOf w ys (inp c t y p q) = []
+argsOf w ys (call d vs) = fourWords w ys vs
+
+unfoldable pub ofCall : Head → List ℕ → List ℕ
+ofCall Stop xs = []
+ofCall (Go t v p) xs = []
+ofCall (Out c t v p q) xs = []
+ofCall (In c t k p q) xs = []
+ofCall (Call d n) xs = xs
+
+-- the row at i holds the head h with the arguments xs if it is a call, the next part n, the least place l, and the scope os
+pub record Row (w : List ℕ) (i : ℕ) (h : Head) (xs : List ℕ) (n l : ℕ) (os : List ℕ) : Type 0 where
+  pub kind : leb (field w i kindField) 4 ≡ true
   pub head : headAt w i ≡ h
+  pub args : ofCall h (argWords w i) ≡ ofCall h xs
   pub next : nextAt w i ≡ n
   pub low : lowAt w i ≡ l
-  pub few : leb (field w i 8) 8 ≡ true
+  pub few : leb (field w i countField) 8 ≡ true
   pub scope : scopeAt w i ≡ os
 
 -- ── the rows of a process ──
@@ -92,9 +110,9 @@ abbrev mutual
 
   -- the process stands at i, with the names at os in scope
   pub Stands : List ℕ → Process → ℕ → List ℕ → Type 0
-  Stands w (one a) i os = Row w i (headOf w i (scopeNames w os) a) 0 (suc i - size a) os × Below w a i os
+  Stands w (one a) i os = Row w i (headOf w i (scopeNames w os) a) (argsOf w (scopeNames w os) a) 0 (suc i - size a) os × Below w a i os
   Stands w (a ∥ p) i os =
-      Row w i (headOf w i (scopeNames w os) a) (suc (i - size a)) (suc i - (size a + sizeP p)) os × Below w a i os × Stands w p (i - size a) os
+      Row w i (headOf w i (scopeNames w os) a) (argsOf w (scopeNames w os) a) (suc (i - size a)) (suc i - (size a + sizeP p)) os × Below w a i os × Stands w p (i - size a) os
 
 -- ── what the script must hold for the part of a place, so that its numbers stand for its names ──
 unfoldable pub timed : Timer → Bool

@@ -9,7 +9,7 @@ use lib.ListN.{set}
 use lib.Seq.{sets}
 use Rattle.terms.specs.Names.{Name}
 use Rattle.table.specs.declared.Key.{Key}
-use Rattle.table.specs.Words.{word}
+use Rattle.table.specs.Words.{word, nameSize}
 use Rattle.table.specs.Meaning.{listFrom}
 use Rattle.table.specs.Tests.{keyName, rowName}
 use Rattle.table.specs.Valid.{index}
@@ -27,7 +27,7 @@ numberIn w o n x = index (listFrom 0 n (rowName w o 4)) x
 
 -- a name that is not there goes behind the last of n; a 65th is not entered, and the word 4 says so
 unfoldable pub addKey : List ℕ → ℕ → ℕ → ℕ → Key → List ℕ
-addKey w o at n k = cond (ltb n 64) (set (sets w (o + n * 4) (keyWords k)) at (n + 1)) (set w 4 1)
+addKey w o at n k = cond (ltb n 64) (set (sets w (o + n * nameSize) (keyWords k)) at (n + 1)) (set w 4 1)
 
 unfoldable pub enlist : List ℕ → ℕ → ℕ → Key → List ℕ
 enlist w o at k = cond (ltb (numberIn w o (heldIn w at) (keyName k)) (heldIn w at)) w (addKey w o at (heldIn w at) k)

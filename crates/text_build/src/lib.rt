@@ -37,9 +37,13 @@ ghost use Rattle.table.specs.Tests.{keyName, rowName};
 ghost use Rattle.text_build.specs.Keys.{Byte, quadOf, keyOf};
 ghost use Rattle.text_build.specs.Put.{rowWords, setSecond, linked};
 ghost use Rattle.text_build.specs.Tables.{keyWords, heldIn, Enlisted};
-ghost use Rattle.table.specs.Words.{rowSize, lastName, partsAt};
+ghost use Rattle.table.specs.Words.{rowSize, lastName, partsAt, kindField};
+use table::LOW_FIELD;
+use table::NAME_SIZE;
+use table::NEXT_FIELD;
 use table::PARTS;
 use table::ROW_SIZE;
+use table::SECOND_FIELD;
 use table::Script;
 
 // ---- names ----
@@ -110,7 +114,7 @@ pub fn held_in(w: &Script, at: usize) -> usize
 
 // The number of the name k among the first n from the word o on, d words apart; n if it is none of them.
 pub fn find(w: &Script, o: usize, d: usize, n: usize, k: table::Key) -> usize
-    requires { ⌜ (o < 2000) × (d ≤ 24) × (n ≤ 64) ⌝ }
+    requires { ⌜ (o < 2000) × (d ≤ rowSize) × (n ≤ 64) ⌝ }
     ensures { λ r. ⌜ r ≡ index (listFrom 0 n (rowName (now (w .entry)) o d)) (keyName k) ⌝ }
 {
     let mut j = 0;
@@ -135,7 +139,7 @@ pub fn number(w: &mut Script, o: usize, at: usize, k: table::Key) -> usize
         return j;
     }
     if n < 64 {
-        put_key(w, o + n * 4, k);
+        put_key(w, o + n * NAME_SIZE, k);
         w[at] = (n + 1) as u32;
         return n;
     }
@@ -202,7 +206,7 @@ pub fn put_row(
     x: table::Key,
 )
     requires { ⌜ (i < 4096) × (sc .n ≤ 8) ⌝ }
-    ensures { λ r. ⌜ now (w .exit) ≡ sets (now (w .entry)) (partsAt + i * rowSize + 0) (rowWords k c t v p sc (keyWords x)) ⌝ }
+    ensures { λ r. ⌜ now (w .exit) ≡ sets (now (w .entry)) (partsAt + i * rowSize + kindField) (rowWords k c t v p sc (keyWords x)) ⌝ }
 {
     let o = PARTS + i * ROW_SIZE;
     let n = sc.n as u32;
@@ -217,7 +221,7 @@ pub fn set_second(w: &mut Script, i: usize, q: u32)
     requires { ⌜ i < 4096 ⌝ }
     ensures { λ r. ⌜ now (w .exit) ≡ setSecond (now (w .entry)) i q ⌝ }
 {
-    w[PARTS + i * ROW_SIZE + 5] = q;
+    w[PARTS + i * ROW_SIZE + SECOND_FIELD] = q;
 }
 
 // The next part and the least place in the row at i.
@@ -225,6 +229,6 @@ pub fn link(w: &mut Script, i: usize, n: u32, l: u32)
     requires { ⌜ i < 4096 ⌝ }
     ensures { λ r. ⌜ now (w .exit) ≡ linked (now (w .entry)) i n l ⌝ }
 {
-    w[PARTS + i * ROW_SIZE + 6] = n;
-    w[PARTS + i * ROW_SIZE + 7] = l;
+    w[PARTS + i * ROW_SIZE + NEXT_FIELD] = n;
+    w[PARTS + i * ROW_SIZE + LOW_FIELD] = l;
 }

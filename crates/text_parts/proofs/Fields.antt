@@ -7,10 +7,10 @@ use mathlib.Core.List.{List, [], _∷_}
 use mathlib.Core.Path.{_≡_, refl, ap, sym, _∙_}
 use lib.ListN.{length, drop}
 use Rattle.terms.specs.Names.{Name, bytes, sameName}
-use Rattle.terms.specs.Terms.Timer.{ticks, inf}
 use Rattle.terms.specs.Terms.Value.{loc, var}
 use Rattle.terms.specs.Letters.{isSmall, isLocation, isIdentifier}
 use Rattle.text.specs.Tokens.{Token, lex, number, isTicks, opens, closes, comma}
+use Rattle.text.specs.Syntax.Span.{exactly, forever}
 use Rattle.text.specs.Grammar.{Rest, Reader, bind, when, the, aWord, named, next, more, joined, sepBy, bracketed, listOf, aTimer, aValue, Head, headOf, _>>_}
 use Rattle.text.specs.Grammar.Rest.{ok, bad}
 use Rattle.text.specs.Grammar.Head.{stops, goes, sends, receives, calls, nothing}
@@ -18,7 +18,7 @@ use Rattle.text.proofs.Unbounded.{Less, name-less, the-less, word-less, small-l
 use Rattle.text_words.specs.Bytes.{mapped, skim}
 use Rattle.text_words.specs.Sorts.{isTimer}
 use Rattle.text_words.proofs.WordSorts.{identifier-is}
-use Rattle.text_parts.specs.Openings.{leaf, single, double, openForm, anOpening, fieldForm, goForm, pairForm, commForm}
+use Rattle.text_parts.specs.Openings.{leaf, single, double, commOpen, openForm, anOpening, fieldForm, goForm, pairForm, commForm}
 use Rattle.text_parts.specs.Counting.{namesForm, namesCount, listCount}
 use Rattle.text_parts.specs.Answers.{listed}
 use Rattle.text_parts.specs.declared.Names.{Names}
@@ -30,12 +30,12 @@ timer-field : (ts : List Token) → skim aTimer ts ≡ skim (named isTimer) ts
 unfolding aTimer isTimer
 timer-field ts = go (aWord ts)
   where
-    test : (w : Name) (us : List Token) (a b : Bool) → mapped (λ x. tt {0}) (cond a (λ ts. ok inf ts) (when b (ticks (number w))) us) ≡ mapped (λ x. tt {0}) (when (a || b) w us)
+    test : (w : Name) (us : List Token) (a b : Bool) → mapped (λ x. tt {0}) (cond a (λ ts. ok forever ts) (when b (exactly (number w))) us) ≡ mapped (λ x. tt {0}) (when (a || b) w us)
     test w us true b = refl
     test w us false true = refl
     test w us false false = refl
 
-    go : (x : Rest Name) → mapped (λ x. tt {0}) (bind x (λ w. cond (sameName w (bytes "inf")) (λ ts. ok inf ts) (when (isTicks w) (ticks (number w))))) ≡ mapped (λ x. tt {0}) (bind x (λ w. when (sameName w (bytes "inf") || isTicks w) w))
+    go : (x : Rest Name) → mapped (λ x. tt {0}) (bind x (λ w. cond (sameName w (bytes "inf")) (λ ts. ok forever ts) (when (isTicks w) (exactly (number w))))) ≡ mapped (λ x. tt {0}) (bind x (λ w. when (sameName w (bytes "inf") || isTicks w) w))
     go (ok w us) = test w us (sameName w (bytes "inf")) (isTicks w)
     go bad = refl
 
@@ -75,21 +75,20 @@ open-go ts =
     field (skim aTimer a) (skim (named isTimer) a) _ _ (timer-field a) λ b.
     field (skim aValue b) (skim (named isIdentifier) b) _ _ (value-field b) λ c. refl
 
-pub open-out : (ts : List Token) → openForm sends ts ≡ commForm isIdentifier ts
-open-out ts =
+-- `out` and `in` alike: their third field is read by r
+comm-field : {A : Type 0} (r : Reader A) (p : Name → Bool) → ((ts : List Token) → skim r ts ≡ skim (named p) ts) → (ts : List Token) → commOpen r ts ≡ commForm p ts
+comm-field r p h ts =
     bind-same (the opens ts) _ _ λ u a.
     field (skim (named isSmall) a) (skim (named isSmall) a) _ _ refl λ b.
     field (skim aTimer b) (skim (named isTimer) b) _ _ (timer-field b) (λ c.
-    field (skim aValue c) (skim (named isIdentifier) c) _ _ (value-field c) λ d. refl)
-    ∙ pair-double isIdentifier b
+    field (skim r c) (skim (named p) c) _ _ (h c) λ d. refl)
+    ∙ pair-double p b
+
+pub open-out : (ts : List Token) → openForm sends ts ≡ commForm isIdentifier ts
+open-out ts = comm-field aValue isIdentifier value-field ts
 
 pub open-in : (ts : List Token) → openForm receives ts ≡ commForm isSmall ts
-open-in ts =
-    bind-same (the opens ts) _ _ λ u a.
-    field (skim (named isSmall) a) (skim (named isSmall) a) _ _ refl λ b.
-    field (skim aTimer b) (skim (named isTimer) b) _ _ (timer-field b) (λ c.
-    field (skim (named isSmall) c) (skim (named isSmall) c) _ _ refl λ d. refl)
-    ∙ pair-double isSmall b
+open-in ts = comm-field (named isSmall) isSmall (λ ts. refl) ts
 
 -- ── names joined by commas ──
 -- readers that read alike do so in lists

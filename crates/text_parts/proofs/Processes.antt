@@ -6,19 +6,35 @@ use mathlib.Core.List.{List}
 use mathlib.Core.Path.{_≡_, refl, ap, _∙_}
 use lib.ListN.{length}
 use Rattle.terms.specs.Names.{Name}
-use Rattle.terms.specs.Terms.{Part, Process}
 use Rattle.terms.specs.Letters.{isSmall}
 use Rattle.text.specs.Tokens.{Token, opens, closes, comma, bar}
-use Rattle.text.specs.Grammar.{Rest, Reader, bind, named, the, aWord, next, listOf, aTimer, aValue, Head, headOf, partForm, moreParts, part, process}
+use Rattle.text.specs.Syntax.{Span, Part, Process}
+use Rattle.text.specs.Syntax.Part.{out, inp}
+use Rattle.text.specs.Grammar.{Rest, Reader, bind, named, the, aWord, next, listOf, aTimer, aValue, Head, headOf, commForm, partForm, moreParts, part, process}
 use Rattle.text.specs.Grammar.Rest.{ok, bad}
 use Rattle.text.specs.Grammar.Head.{stops, goes, sends, receives, calls, nothing}
 use Rattle.text.proofs.Unbounded.{Less, part-is, process-is, part-less, process-less}
 use Rattle.text_words.specs.Bytes.{mapped}
-use Rattle.text_parts.specs.Openings.{openForm, anOpening}
-use Rattle.text_parts.specs.Counts.{joined, partCount, processCount}
+use Rattle.text_parts.specs.Openings.{commOpen, openForm, anOpening}
+use Rattle.text_parts.specs.Counts.{joined, wrapped, partCount, processCount}
 use Rattle.text_parts.specs.Counting.{partCounts, processCounts, closeForm}
 use Rattle.text_parts.proofs.Gathering.{moreOf}
 use Rattle.text_parts.proofs.Rests.{mapped-bind, mapped-after, mapped-give, mapped-less, over, sign-over}
+
+comm-counts : {A : Type 0} (P : Reader Process) (r : Reader A) (k : Name → Span → A → Process → Process → Part) → ((c : Name) (t : Span) (x : A) (p q : Process) → partCount (k c t x p q) ≡ wrapped (joined (processCount p) (processCount q)))
+    → (ts : List Token) → mapped partCount (commForm r k P ts) ≡ bind (commOpen r ts) (closeForm (λ us. mapped processCount (P us)))
+comm-counts P r k g ts =
+    sign-over partCount (the opens ts) _ _ _ λ o a.
+    over partCount (named isSmall a) _ _ _ λ m b.
+    sign-over partCount (the comma b) _ _ _ λ o c.
+    over partCount (aTimer c) _ _ _ λ t d.
+    sign-over partCount (the comma d) _ _ _ λ o e.
+    over partCount (r e) _ _ _ λ v f.
+    sign-over partCount (the comma f) _ _ _ λ o h.
+    mapped-bind partCount processCount (P h) _ _ λ p i.
+    mapped-after partCount (the comma i) _ _ λ o j.
+    mapped-bind partCount processCount (P j) _ _ λ q l.
+    rw (← g m t v p q) (mapped-give partCount (the closes l) _)
 
 form-counts : (P : Reader Process) (h : Head) (w : Name) (ts : List Token) → mapped partCount (partForm P h w ts) ≡ bind (openForm h ts) (closeForm (λ us. mapped processCount (P us)))
 unfolding partCount
@@ -31,30 +47,8 @@ form-counts P goes w ts =
     sign-over partCount (the comma d) _ _ _ λ o e.
     mapped-bind partCount processCount (P e) _ _ λ p f.
     mapped-give partCount (the closes f) _
-form-counts P sends w ts =
-    sign-over partCount (the opens ts) _ _ _ λ o a.
-    over partCount (named isSmall a) _ _ _ λ m b.
-    sign-over partCount (the comma b) _ _ _ λ o c.
-    over partCount (aTimer c) _ _ _ λ t d.
-    sign-over partCount (the comma d) _ _ _ λ o e.
-    over partCount (aValue e) _ _ _ λ v f.
-    sign-over partCount (the comma f) _ _ _ λ o g.
-    mapped-bind partCount processCount (P g) _ _ λ p i.
-    mapped-after partCount (the comma i) _ _ λ o j.
-    mapped-bind partCount processCount (P j) _ _ λ q k.
-    mapped-give partCount (the closes k) _
-form-counts P receives w ts =
-    sign-over partCount (the opens ts) _ _ _ λ o a.
-    over partCount (named isSmall a) _ _ _ λ m b.
-    sign-over partCount (the comma b) _ _ _ λ o c.
-    over partCount (aTimer c) _ _ _ λ t d.
-    sign-over partCount (the comma d) _ _ _ λ o e.
-    over partCount (named isSmall e) _ _ _ λ v f.
-    sign-over partCount (the comma f) _ _ _ λ o g.
-    mapped-bind partCount processCount (P g) _ _ λ p i.
-    mapped-after partCount (the comma i) _ _ λ o j.
-    mapped-bind partCount processCount (P j) _ _ λ q k.
-    mapped-give partCount (the closes k) _
+form-counts P sends w ts = comm-counts P aValue out (λ c t v p q. refl) ts
+form-counts P receives w ts = comm-counts P (named isSmall) inp (λ c t y p q. refl) ts
 form-counts P calls w ts = over partCount (listOf aValue ts) _ _ _ λ vs us. refl
 form-counts P nothing w ts = refl
 

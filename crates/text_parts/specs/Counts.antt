@@ -1,9 +1,9 @@
 -- The numbers of a process that questions 3 and 4 limit, added up part by part.
 -- Serves inner contracts only.
 use Prim.Native.Nat.{ℕ, _+_, min, max}
-use Rattle.terms.specs.Terms.{Part, Process}
-use Rattle.terms.specs.Terms.Part.{stop, go, out, inp, call}
-use Rattle.terms.specs.Terms.Process.{one, _∥_}
+use Rattle.text.specs.Syntax.{Part, Process}
+use Rattle.text.specs.Syntax.Part.{stop, go, out, inp, call}
+use Rattle.text.specs.Syntax.Process.{one, _∥_}
 
 -- the deepest nesting (outermost parts have 1), the parts at any depth, and the outermost parts
 pub record Count : Type 0 where

@@ -13,7 +13,18 @@ use Rattle.text_words.specs.Sorts.{isTimer}
 pub data Opening : Type 0 where
   leaf single double : Opening
 
--- the grammar's `partForm` up to the first process
+-- the grammar's `commForm` and `partForm` up to the first process
+abbrev pub commOpen : {A : Type 0} → Reader A → Reader Opening
+commOpen r = do
+  the opens
+  skim (named isSmall)
+  the comma
+  skim aTimer
+  the comma
+  skim r
+  the comma
+  give double
+
 abbrev pub openForm : Head → Reader Opening
 openForm stops = give leaf
 openForm goes = do
@@ -23,24 +34,8 @@ openForm goes = do
   skim aValue
   the comma
   give single
-openForm sends = do
-  the opens
-  skim (named isSmall)
-  the comma
-  skim aTimer
-  the comma
-  skim aValue
-  the comma
-  give double
-openForm receives = do
-  the opens
-  skim (named isSmall)
-  the comma
-  skim aTimer
-  the comma
-  skim (named isSmall)
-  the comma
-  give double
+openForm sends = commOpen aValue
+openForm receives = commOpen (named isSmall)
 openForm calls = do
   skim (listOf aValue)
   give leaf

@@ -3,15 +3,17 @@
 use Prim.Native.Nat.{ℕ, _+_, _-_, _*_, _≤_, _<_}
 use native.Mathlib.Omega.{arith}
 use mathlib.Core.List.{List, _∷_}
-use mathlib.Core.Path.{_≡_, refl, sym, ap, _∙_}
+use mathlib.Core.Path.{_≡_, refl, sym, ap, subst, _∙_}
 use borrow.Author.Tests.{lt-ltb, le-ltb}
 use lib.ListN.{length, drop, set}
 use lib.Seq.{sets}
 use Rattle.terms.specs.Names.{Name, sameName}
-use Rattle.terms.specs.Terms.{Timer, Value, Part, Process}
-use Rattle.terms.specs.Terms.Part.{stop, go, out, inp, call}
+use Rattle.terms.specs.Terms.{Value}
 use Rattle.text.specs.Tokens.{Token, lex}
 use Rattle.text.specs.Tokens.Token.{word}
+use Rattle.text.specs.Syntax.{Span, Part, Process}
+use Rattle.text.specs.Syntax.Part.{stop, go, out, inp, call}
+use Rattle.text.specs.Tree.{settle}
 use Rattle.text.specs.Grammar.{Head, headOf}
 use Rattle.text.specs.Grammar.Head.{stops, goes, sends, receives, calls, nothing}
 use Rattle.text.specs.Write.{partT}
@@ -21,7 +23,7 @@ use Rattle.text_words.specs.declared.Sort.{Sort}
 use Rattle.text_words.specs.Sorts.{sortOf, headIs}
 use Rattle.text_words.proofs.WordSorts.{head-is}
 use Rattle.table.specs.declared.Key.{Key}
-use Rattle.table.specs.Words.{rowSize, chansAt, ownsAt, partsAt, defName, ownAt}
+use Rattle.table.specs.Words.{rowSize, chansAt, ownsAt, partsAt, defName, ownAt, idsAt, kindField}
 use Rattle.table.specs.Meaning.{listFrom}
 use Rattle.table.specs.Tests.{keyName, rowName}
 use Rattle.table.specs.Valid.{index}
@@ -74,12 +76,12 @@ chan-few {w} {k = k} e = omega (arith, e .place, number-within w chansAt (heldIn
 
 -- ── each form ──
 module _ (s w v : List ℕ) (i : ℕ) (sc : Scope) (us : List Token) (pl : ℕ) (q : pl ≡ i - 1) where
-  pub stop-open : (at : ℕ) → lex (drop at s) ≡ us → (nk : Key) → nk ≡ noWords → v ≡ sets w (partsAt + i * rowSize + 0) (rowWords 0 0 0 0 0 sc (keyWords nk)) → OpenIs s w v i sc (record { end = at; kind = 0; inner = sc }) stop us
+  pub stop-open : (at : ℕ) → lex (drop at s) ≡ us → (nk : Key) → nk ≡ noWords → v ≡ sets w (partsAt + i * rowSize + kindField) (rowWords 0 0 0 0 0 sc (keyWords nk)) → OpenIs s w v i sc (record { end = at; kind = 0; inner = sc }) stop us
   unfolding opened enterPart rowOf
   stop-open at g nk z e = record { left = g; kind = refl; inner = refl; after = e ∙ rw z }
 
-  pub go-open : (t : Timer) (x : Value) (p : Process) → WellPart (go t x p) → (r : Pair) → PairIs s r t (nameOf x) (rest (go t x p) us) → {u : List ℕ} {m : ℕ} → ValueBy w u sc (r .key) (r .capital) m
-      → (nk : Key) → nk ≡ noWords → v ≡ sets u (partsAt + i * rowSize + 0) (rowWords 1 0 (r .t) m pl sc (keyWords nk)) → OpenIs s w v i sc (record { end = r .end; kind = 1; inner = sc }) (go t x p) us
+  pub go-open : (t : Span) (x : Value) (p : Process) → WellPart (settle (go t x p)) → (r : Pair) → PairIs s r t (nameOf x) (rest (go t x p) us) → {u : List ℕ} {m : ℕ} → ValueBy w u sc (r .key) (r .capital) m
+      → (nk : Key) → nk ≡ noWords → v ≡ sets u (partsAt + i * rowSize + kindField) (rowWords 1 0 (r .t) m pl sc (keyWords nk)) → OpenIs s w v i sc (record { end = r .end; kind = 1; inner = sc }) (go t x p) us
   unfolding opened enterPart rowOf
   go-open t x p f r a b nk z e = record {
     left = a .left;
@@ -88,8 +90,8 @@ module _ (s w v : List ℕ) (i : ℕ) (sc : Scope) (us : List Token) (pl : ℕ) 
     after = e ∙ rw (value-after x (f .1) (a .key) (a .capital) b, a .timer, value-is x (f .1) (a .key) (a .capital) b, q, z);
   }
 
-  pub out-open : (c : Name) (t : Timer) (x : Value) (p p′ : Process) → WellPart (out c t x p p′) → (r : Front) → FrontIs s r c t (nameOf x) (rest (out c t x p p′) us) → {u u′ : List ℕ} {m n : ℕ} → Enlisted w u chansAt 2 (r .chan) n → ValueBy u u′ sc (r .key) (r .capital) m
-      → (nk : Key) → nk ≡ noWords → v ≡ sets u′ (partsAt + i * rowSize + 0) (rowWords 2 n (r .t) m pl sc (keyWords nk)) → OpenIs s w v i sc (record { end = r .end; kind = 2; inner = sc }) (out c t x p p′) us
+  pub out-open : (c : Name) (t : Span) (x : Value) (p p′ : Process) → WellPart (settle (out c t x p p′)) → (r : Front) → FrontIs s r c t (nameOf x) (rest (out c t x p p′) us) → {u u′ : List ℕ} {m n : ℕ} → Enlisted w u chansAt 2 (r .chan) n → ValueBy u u′ sc (r .key) (r .capital) m
+      → (nk : Key) → nk ≡ noWords → v ≡ sets u′ (partsAt + i * rowSize + kindField) (rowWords 2 n (r .t) m pl sc (keyWords nk)) → OpenIs s w v i sc (record { end = r .end; kind = 2; inner = sc }) (out c t x p p′) us
   unfolding opened enterPart rowOf chanNumber enterChan
   out-open c t x p p′ f r a {u} d b nk z e =
       let g : u ≡ enlist w chansAt 2 (keyOf c) = d .after ∙ ap (enlist w chansAt 2) (a .chan) in
@@ -100,9 +102,9 @@ module _ (s w v : List ℕ) (i : ℕ) (sc : Scope) (us : List Token) (pl : ℕ) 
         after = e ∙ rw (value-after x (f .2) (a .key) (a .capital) b, a .timer, value-is x (f .2) (a .key) (a .capital) b, q, z, d .place, a .chan, g);
       }
 
-  pub in-open : (c : Name) (t : Timer) (y : Name) (p p′ : Process) (r : Front) → FrontIs s r c t y (rest (inp c t y p p′) us) → {j : ℕ} → j ≡ index (scopeNames w (offsets sc)) (keyName (r .key)) → (k : Scope) → k ≡ enteredBy sc i j
+  pub in-open : (c : Name) (t : Span) (y : Name) (p p′ : Process) (r : Front) → FrontIs s r c t y (rest (inp c t y p p′) us) → {j : ℕ} → j ≡ index (scopeNames w (offsets sc)) (keyName (r .key)) → (k : Scope) → k ≡ enteredBy sc i j
       → {u u′ : List ℕ} {m n : ℕ} → Marked w u sc (r .key) j m → Enlisted u u′ chansAt 2 (r .chan) n
-      → v ≡ sets u′ (partsAt + i * rowSize + 0) (rowWords 3 n (r .t) m pl sc (keyWords (r .key))) → OpenIs s w v i sc (record { end = r .end; kind = 2; inner = k }) (inp c t y p p′) us
+      → v ≡ sets u′ (partsAt + i * rowSize + kindField) (rowWords 3 n (r .t) m pl sc (keyWords (r .key))) → OpenIs s w v i sc (record { end = r .end; kind = 2; inner = k }) (inp c t y p p′) us
   unfolding opened enterPart rowOf chanNumber enterChan innerScope scopeMark slotOf
   in-open c t y p p′ r a {j} h k l {u} {u′} b d e =
       let o : j ≡ index (scopeNames w (offsets sc)) (keyName (keyOf y)) = h ∙ ap (λ x. index (scopeNames w (offsets sc)) (keyName x)) (a .key) in
@@ -115,8 +117,8 @@ module _ (s w v : List ℕ) (i : ℕ) (sc : Scope) (us : List Token) (pl : ℕ) 
         after = e ∙ rw (n, d .place, a .chan, a .timer, b .slot, a .key, q, g);
       }
 
-  pub call-open : (d : Name) (vs : List Value) (r : Args) {u : List ℕ} → ArgsAre s w u sc r vs us → (x : Key) → x ≡ keyOf d → {n m : ℕ} → n ≡ heldIn w 3 → m ≡ index (listFrom 0 n (rowName w 10 24)) (keyName x)
-      → v ≡ sets u (partsAt + i * rowSize + 0) (rowWords 4 m 0 (r .n) 0 sc (keyWords (r .first))) → OpenIs s w v i sc (record { end = r .end; kind = 0; inner = sc }) (call d vs) us
+  pub call-open : (d : Name) (vs : List Value) (r : Args) {u : List ℕ} → ArgsAre s w u sc r vs us → (x : Key) → x ≡ keyOf d → {n m : ℕ} → n ≡ heldIn w 3 → m ≡ index (listFrom 0 n (rowName w idsAt rowSize)) (keyName x)
+      → v ≡ sets u (partsAt + i * rowSize + kindField) (rowWords 4 m 0 (r .n) 0 sc (keyWords (r .first))) → OpenIs s w v i sc (record { end = r .end; kind = 0; inner = sc }) (call d vs) us
   unfolding opened enterPart rowOf idNumber defName rowName
   call-open d vs r a x h {n} {m} g l e = record {
     left = a .left;
@@ -133,7 +135,7 @@ kindOf (out c t v p q) = sends
 kindOf (inp c t y p q) = receives
 kindOf (call d vs) = calls
 
-head-name : (a : Part) → WellPart a → headOf (headName a) ≡ kindOf a
+head-name : (a : Part) → WellPart (settle a) → headOf (headName a) ≡ kindOf a
 unfolding headOf sameName
 head-name stop f = refl
 head-name (go t v p) f = refl
@@ -145,70 +147,30 @@ module _ {s : List ℕ} {at : ℕ} {k : Sort} {x : Key} (y : TailAt s at k x) wh
   kind-is : headIs k ≡ kindOf (y .what)
   kind-is = ap headIs (y .sort) ∙ head-is (headName (y .what)) ∙ head-name (y .what) (y .well)
 
-  -- what is to be shown of a part, shown of each form that its first word allows
   module _ (P : Part → List Token → Type 0) where
-    pub by-stop : headIs k ≡ stops → ((us : List Token) → lex (drop at s) ≡ us → P stop us) → P (y .what) (y .left)
-    by-stop e f = go₁ (y .what) (y .is) (sym e ∙ kind-is)
-      where
-        go₁ : (a : Part) → lex (drop at s) ≡ tailT a (y .left) → stops ≡ kindOf a → P a (y .left)
-        go₁ stop g h = f (y .left) g
-        go₁ (go t v p) g h = let z : _≡_ {A = ℕ} 0 1 = cc in absurd (omega arith)
-        go₁ (out c t v p q) g h = let z : _≡_ {A = ℕ} 0 1 = cc in absurd (omega arith)
-        go₁ (inp c t y p q) g h = let z : _≡_ {A = ℕ} 0 1 = cc in absurd (omega arith)
-        go₁ (call d vs) g h = let z : _≡_ {A = ℕ} 0 1 = cc in absurd (omega arith)
+    -- what is to be shown of a part, for each form that its first word allows
+    abbrev pub Shown : Head → Type 0
+    Shown stops = (us : List Token) → lex (drop at s) ≡ us → P stop us
+    Shown goes = (t : Span) (v : Value) (p : Process) (us : List Token) → WellPart (settle (go t v p)) → lex (drop at s) ≡ tailT (go t v p) us → P (go t v p) us
+    Shown sends =
+        (c : Name) (t : Span) (v : Value) (p q : Process) (us : List Token) → WellPart (settle (out c t v p q)) → lex (drop at s) ≡ tailT (out c t v p q) us → P (out c t v p q) us
+    Shown receives =
+        (c : Name) (t : Span) (y : Name) (p q : Process) (us : List Token) → WellPart (settle (inp c t y p q)) → lex (drop at s) ≡ tailT (inp c t y p q) us → P (inp c t y p q) us
+    Shown calls = (z : ListAt s at) (d : Name) → x ≡ keyOf d → P (call d (z .what)) (z .left)
+    Shown nothing = Unit {0}
 
-    pub by-go : headIs k ≡ goes → ((t : Timer) (v : Value) (p : Process) (us : List Token) → WellPart (go t v p) → lex (drop at s) ≡ tailT (go t v p) us → P (go t v p) us) → P (y .what) (y .left)
-    by-go e f = go₁ (y .what) (y .well) (y .is) (sym e ∙ kind-is)
+    pub by : (h : Head) → headIs k ≡ h → Shown h → P (y .what) (y .left)
+    by h e f = go₁ (y .what) (y .well) (y .is) (y .key) (subst Shown (sym e ∙ kind-is) f)
       where
-        go₁ : (a : Part) → WellPart a → lex (drop at s) ≡ tailT a (y .left) → goes ≡ kindOf a → P a (y .left)
-        go₁ stop w g h = let z : _≡_ {A = ℕ} 0 1 = cc in absurd (omega arith)
-        go₁ (go t v p) w g h = f t v p (y .left) w g
-        go₁ (out c t v p q) w g h = let z : _≡_ {A = ℕ} 0 1 = cc in absurd (omega arith)
-        go₁ (inp c t y p q) w g h = let z : _≡_ {A = ℕ} 0 1 = cc in absurd (omega arith)
-        go₁ (call d vs) w g h = let z : _≡_ {A = ℕ} 0 1 = cc in absurd (omega arith)
-
-    pub by-out : headIs k ≡ sends → ((c : Name) (t : Timer) (v : Value) (p q : Process) (us : List Token) → WellPart (out c t v p q) → lex (drop at s) ≡ tailT (out c t v p q) us → P (out c t v p q) us) → P (y .what) (y .left)
-    by-out e f = go₁ (y .what) (y .well) (y .is) (sym e ∙ kind-is)
-      where
-        go₁ : (a : Part) → WellPart a → lex (drop at s) ≡ tailT a (y .left) → sends ≡ kindOf a → P a (y .left)
-        go₁ stop w g h = let z : _≡_ {A = ℕ} 0 1 = cc in absurd (omega arith)
-        go₁ (go t v p) w g h = let z : _≡_ {A = ℕ} 0 1 = cc in absurd (omega arith)
-        go₁ (out c t v p q) w g h = f c t v p q (y .left) w g
-        go₁ (inp c t y p q) w g h = let z : _≡_ {A = ℕ} 0 1 = cc in absurd (omega arith)
-        go₁ (call d vs) w g h = let z : _≡_ {A = ℕ} 0 1 = cc in absurd (omega arith)
-
-    pub by-in : headIs k ≡ receives → ((c : Name) (t : Timer) (x : Name) (p q : Process) (us : List Token) → WellPart (inp c t x p q) → lex (drop at s) ≡ tailT (inp c t x p q) us → P (inp c t x p q) us) → P (y .what) (y .left)
-    by-in e f = go₁ (y .what) (y .well) (y .is) (sym e ∙ kind-is)
-      where
-        go₁ : (a : Part) → WellPart a → lex (drop at s) ≡ tailT a (y .left) → receives ≡ kindOf a → P a (y .left)
-        go₁ stop w g h = let z : _≡_ {A = ℕ} 0 1 = cc in absurd (omega arith)
-        go₁ (go t v p) w g h = let z : _≡_ {A = ℕ} 0 1 = cc in absurd (omega arith)
-        go₁ (out c t v p q) w g h = let z : _≡_ {A = ℕ} 0 1 = cc in absurd (omega arith)
-        go₁ (inp c t x p q) w g h = f c t x p q (y .left) w g
-        go₁ (call d vs) w g h = let z : _≡_ {A = ℕ} 0 1 = cc in absurd (omega arith)
-
-    pub by-call : headIs k ≡ calls → ((z : ListAt s at) (d : Name) → x ≡ keyOf d → P (call d (z .what)) (z .left)) → P (y .what) (y .left)
-    by-call e f = go₁ (y .what) (y .well) (y .is) (y .key) (sym e ∙ kind-is)
-      where
-        go₁ : (a : Part) → WellPart a → lex (drop at s) ≡ tailT a (y .left) → x ≡ keyOf (headName a) → calls ≡ kindOf a → P a (y .left)
-        go₁ stop w g j h = let z : _≡_ {A = ℕ} 0 1 = cc in absurd (omega arith)
-        go₁ (go t v p) w g j h = let z : _≡_ {A = ℕ} 0 1 = cc in absurd (omega arith)
-        go₁ (out c t v p q) w g j h = let z : _≡_ {A = ℕ} 0 1 = cc in absurd (omega arith)
-        go₁ (inp c t y p q) w g j h = let z : _≡_ {A = ℕ} 0 1 = cc in absurd (omega arith)
-        go₁ (call d vs) w g j h = f (record { what = vs; left = y .left; is = g; well = w .1; over = y .over }) d j
-
-    pub by-nothing : headIs k ≡ nothing → P (y .what) (y .left)
-    by-nothing e = go₁ (y .what) (sym e ∙ kind-is)
-      where
-        go₁ : (a : Part) → nothing ≡ kindOf a → P a (y .left)
-        go₁ stop h = let z : _≡_ {A = ℕ} 0 1 = cc in absurd (omega arith)
-        go₁ (go t v p) h = let z : _≡_ {A = ℕ} 0 1 = cc in absurd (omega arith)
-        go₁ (out c t v p q) h = let z : _≡_ {A = ℕ} 0 1 = cc in absurd (omega arith)
-        go₁ (inp c t y p q) h = let z : _≡_ {A = ℕ} 0 1 = cc in absurd (omega arith)
-        go₁ (call d vs) h = let z : _≡_ {A = ℕ} 0 1 = cc in absurd (omega arith)
+        go₁ : (a : Part) → WellPart (settle a) → lex (drop at s) ≡ tailT a (y .left) → x ≡ keyOf (headName a) → Shown (kindOf a) → P a (y .left)
+        go₁ stop w g j f = f (y .left) g
+        go₁ (go t v p) w g j f = f t v p (y .left) w g
+        go₁ (out c t v p q) w g j f = f c t v p q (y .left) w g
+        go₁ (inp c t z p q) w g j f = f c t z p q (y .left) w g
+        go₁ (call d vs) w g j f = f (record { what = vs; left = y .left; is = g; well = w .1; over = y .over }) d j
 
   pub list-at : headIs k ≡ calls → ListAt s at
-  list-at e = by-call (λ a us. ListAt s at) e (λ z d j. z)
+  list-at e = by (λ a us. ListAt s at) calls e (λ z d j. z)
 
 -- ── a part's first word ──
 pub head-word : (a : Part) (us : List Token) → partT a us ≡ word (headName a) ∷ tailT a us

@@ -11,11 +11,12 @@ use lib.ListN.{length, take, drop, getD}
 use Rattle.terms.specs.Names.{Name, bytes, sameName}
 use Rattle.terms.specs.declared.Made.the-variants.{Valid, TooLarge}
 use Rattle.terms.specs.Clock.{madeOf}
-use Rattle.terms.specs.Terms.{Timer}
-use Rattle.terms.specs.Terms.Timer.{ticks, inf}
 use Rattle.terms.specs.Characters.Class.{small, digit, bracket, blank, other}
 use Rattle.text.specs.Tokens.{Token, lex, digits, number}
 use Rattle.text.specs.Tokens.Token.{word, sign}
+use Rattle.text.specs.Syntax.{Span}
+use Rattle.text.specs.Syntax.Span.{exactly, forever}
+use Rattle.text.specs.Tree.{timerOf}
 use Rattle.text.specs.Grammar.{the, aWord, next}
 use Rattle.text.specs.Grammar.Rest.{ok, bad}
 use Rattle.text.specs.Write.{timerT}
@@ -77,18 +78,6 @@ module _ (s : List ℕ) (at a e : ℕ) (skipped : drop a s ≡ afterBlanks (drop
   pub peel-none : {A : Type 0} → e ≤ a → A
   peel-none h = clash (sym (word-none s at a e skipped r h) ∙ ap aWord g)
 
--- ── capitals ──
-pub not-capital : (b : ℕ) → within 65 90 b ≡ false → isCapital (classOf b) ≡ false
-unfolding classOf
-not-capital b c = rw c (go (within 97 122 b) (within 48 57 b) (eqb b 40 || (eqb b 41 || (eqb b 91 || eqb b 93))) (eqb b 32 || eqb b 10))
-  where
-    go : (s d x y : Bool) → isCapital (cond s small (cond d digit (cond x bracket (cond y blank other)))) ≡ false
-    go true d x y = refl
-    go false true x y = refl
-    go false false true y = refl
-    go false false false true = refl
-    go false false false false = refl
-
 module _ (p : Class → Bool) where
   pub first-none : (w : Name) → length w ≡ 0 → false ≡ firstIs p w
   first-none [] e = refl
@@ -99,26 +88,26 @@ module _ (p : Class → Bool) where
   first-of (b ∷ w) n r e = e
 
 -- ── timers ──
-abbrev pub timerName : Timer → Name
-timerName (ticks n) = digits n
-timerName inf = bytes "inf"
+abbrev pub timerName : Span → Name
+timerName (exactly n) = digits n
+timerName forever = bytes "inf"
 
-pub timer-word : (t : Timer) (us : List Token) → timerT t us ≡ word (timerName t) ∷ us
-timer-word (ticks n) us = refl
-timer-word inf us = refl
+pub timer-word : (t : Span) (us : List Token) → timerT t us ≡ word (timerName t) ∷ us
+timer-word (exactly n) us = refl
+timer-word forever us = refl
 
-pub timer-inf : (t : Timer) (us : List Token) (w : Name) → WellTimer t → word w ∷ us ≡ timerT t us → sameName w (bytes "inf") ≡ true → 1_000_001 ≡ timerWord t
+pub timer-inf : (t : Span) (us : List Token) (w : Name) → WellTimer (timerOf t) → word w ∷ us ≡ timerT t us → sameName w (bytes "inf") ≡ true → 1_000_001 ≡ timerWord (timerOf t)
 unfolding timerWord
-timer-inf (ticks n) us w f g e = let i : w ≡ digits n = cc in absurd (false≢true (sym (digits-not-inf n) ∙ ap (λ x. sameName x (bytes "inf")) (sym i) ∙ e))
-timer-inf inf us w f g e = refl
+timer-inf (exactly n) us w f g e = let i : w ≡ digits n = cc in absurd (false≢true (sym (digits-not-inf n) ∙ ap (λ x. sameName x (bytes "inf")) (sym i) ∙ e))
+timer-inf forever us w f g e = refl
 
-pub timer-ticks : (t : Timer) (us : List Token) (w : Name) → WellTimer t → word w ∷ us ≡ timerT t us → sameName w (bytes "inf") ≡ false → (r : ℕ) → (number w ≤ 1_000_000 → r ≡ number w) → r ≡ timerWord t
+pub timer-ticks : (t : Span) (us : List Token) (w : Name) → WellTimer (timerOf t) → word w ∷ us ≡ timerT t us → sameName w (bytes "inf") ≡ false → (r : ℕ) → (number w ≤ 1_000_000 → r ≡ number w) → r ≡ timerWord (timerOf t)
 unfolding timerWord sameName
-timer-ticks (ticks n) us w f g e r k =
+timer-ticks (exactly n) us w f g e r k =
     let i : w ≡ digits n = cc in
     let j : number w ≡ n = ap number i ∙ digits-number n in
     k (omega arith) ∙ j
-timer-ticks inf us w f g e r k = let i : w ≡ bytes "inf" = cc in absurd (false≢true (sym e ∙ ap (λ x. sameName x (bytes "inf")) i))
+timer-ticks forever us w f g e r k = let i : w ≡ bytes "inf" = cc in absurd (false≢true (sym e ∙ ap (λ x. sameName x (bytes "inf")) i))
 
 -- the timer's constructor takes the number of a timer of a text, and keeps it
 made-is : (n : ℕ) (x : CodeTimer) → madeOf n ≡ Valid x → x .raw ≡ n
@@ -137,18 +126,18 @@ made-not n e = go (leb n 1_000_000) refl e
     go true f e = let z : _≡_ {A = ℕ} 0 1 = cc in absurd (omega arith)
     go false f e = leb-false n 1_000_000 f
 
-module _ (t : Timer) (us : List Token) (w : Name) (f : WellTimer t) (g : word w ∷ us ≡ timerT t us) (e : sameName w (bytes "inf") ≡ false) (n : ℕ) (k : number w ≤ 1_000_000 → n ≡ number w) where
-  pub timer-made : (x : CodeTimer) → madeOf n ≡ Valid x → x .raw ≡ timerWord t
+module _ (t : Span) (us : List Token) (w : Name) (f : WellTimer (timerOf t)) (g : word w ∷ us ≡ timerT t us) (e : sameName w (bytes "inf") ≡ false) (n : ℕ) (k : number w ≤ 1_000_000 → n ≡ number w) where
+  pub timer-made : (x : CodeTimer) → madeOf n ≡ Valid x → x .raw ≡ timerWord (timerOf t)
   timer-made x m = timer-ticks t us w f g e (x .raw) (λ h. made-is n x m ∙ k h)
 
-  pub timer-large : madeOf n ≡ TooLarge → 0 ≡ timerWord t
+  pub timer-large : madeOf n ≡ TooLarge → 0 ≡ timerWord (timerOf t)
   unfolding timerWord sameName
   timer-large m = go t f g
     where
-      go : (t : Timer) → WellTimer t → word w ∷ us ≡ timerT t us → 0 ≡ timerWord t
-      go (ticks j) f g =
+      go : (t : Span) → WellTimer (timerOf t) → word w ∷ us ≡ timerT t us → 0 ≡ timerWord (timerOf t)
+      go (exactly j) f g =
           let i : w ≡ digits j = cc in
           let q : number w ≡ j = ap number i ∙ digits-number j in
           let r = k (omega arith) in
           absurd (omega (arith, made-not n m))
-      go inf f g = let i : w ≡ bytes "inf" = cc in absurd (false≢true (sym e ∙ ap (λ x. sameName x (bytes "inf")) i))
+      go forever f g = let i : w ≡ bytes "inf" = cc in absurd (false≢true (sym e ∙ ap (λ x. sameName x (bytes "inf")) i))

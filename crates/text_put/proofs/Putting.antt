@@ -10,11 +10,13 @@ use borrow.Author.Tests.{ltb-true}
 use lib.Dec.{ltb}
 use lib.ListN.{length, drop, set}
 use Rattle.terms.specs.Names.{Name}
-use Rattle.terms.specs.Terms.{Part, Process}
-use Rattle.terms.specs.Terms.Part.{stop, go, out, inp, call}
-use Rattle.terms.specs.Terms.Process.{one, _∥_}
+use Rattle.terms.specs.Terms as T
 use Rattle.text.specs.Tokens.{Token, lex, closes, comma, bar}
 use Rattle.text.specs.Tokens.Token.{word, sign}
+use Rattle.text.specs.Syntax.{Part, Process}
+use Rattle.text.specs.Syntax.Part.{stop, go, out, inp, call}
+use Rattle.text.specs.Syntax.Process.{one, _∥_}
+use Rattle.text.specs.Tree.{settle, settleP}
 use Rattle.text.specs.Grammar.{the, next}
 use Rattle.text.specs.Write.{valueT, partT, processT}
 use Rattle.text.specs.WellFormed.{WellPart, WellProcess}
@@ -56,24 +58,43 @@ inner-few w i sc y h = go₁ (ltb (slotOf w sc y) (sc .n)) (ltb (sc .n) 8) refl
     go₁ false true e = let l = ltb-true (sc .n) 8 e in omega arith
     go₁ false false e = h
 
-pub within-few : (w : List ℕ) (i : ℕ) (sc : Scope) (a : Part) → sc .n ≤ 8 → within w i sc a .n ≤ 8
-within-few w i sc stop h = h
-within-few w i sc (go t v p) h = h
-within-few w i sc (out c t v p q) h = h
-within-few w i sc (inp c t y p q) h = inner-few w i sc y h
-within-few w i sc (call d vs) h = h
+pub within-few : (w : List ℕ) (i : ℕ) (sc : Scope) (a : T.Part) → sc .n ≤ 8 → within w i sc a .n ≤ 8
+within-few w i sc T.stop h = h
+within-few w i sc (T.go t v p) h = h
+within-few w i sc (T.out c t v p q) h = h
+within-few w i sc (T.inp c t y p q) h = inner-few w i sc y h
+within-few w i sc (T.call d vs) h = h
+
+-- ── a part of two processes: an output, an input ──
+record Two (a : Part) : Type 0 where
+  first : Process
+  second : Process
+  is : (us : List Token) → rest a us ≡ processT first (sign comma ∷ processT second (sign closes ∷ us))
+  well : WellPart (settle a) → WellProcess (settleP first) × WellProcess (settleP second)
+  size-is : size (settle a) ≡ suc (sizeP (settleP first) + sizeP (settleP second))
+  puts : (w : List ℕ) (i : ℕ) (sc : Scope)
+      → putPart (settle a) i sc w
+      ≡ setSecond (put (settleP second) (i - 1 - sizeP (settleP first)) sc (put (settleP first) (i - 1) (within w i sc (settle a)) (opened (noted w sc (settle a)) i sc (settle a)))) i (i - 1 - sizeP (settleP first))
+
+two : (a : Part) → (arms a ≡ 0 → ⊥) → (arms a ≡ 1 → ⊥) → Two a
+unfolding putPart size
+two stop n m = absurd (n refl)
+two (go t v p) n m = absurd (m refl)
+two (out c t v p q) n m = record { first = p; second = q; is = λ us. refl; well = λ w. (w .3, w .4); size-is = refl; puts = λ w i sc. refl }
+two (inp c t y p q) n m = record { first = p; second = q; is = λ us. refl; well = λ w. (w .3, w .4); size-is = refl; puts = λ w i sc. refl }
+two (call d vs) n m = absurd (n refl)
 
 -- ── the part reader ──
 module _ {s : List ℕ} {at : ℕ} (x : PartAt s at) {w u : List ℕ} {i : ℕ} {sc : Scope} {o : Open} (f : OpenIs s w u i sc o (x .what) (x .left)) where
   pub inner-small : sc .n ≤ 8 → o .inner .n ≤ 8
-  inner-small h = let k = within-few w i sc (x .what) h in rw (f .inner) k
+  inner-small h = let k = within-few w i sc (settle (x .what)) h in rw (f .inner) k
 
   -- no process
   pub part-leaf : o .kind ≡ 0 → PartPut s w u i sc (record { end = o .end; low = i }) (x .what) (x .left)
   unfolding putPart size
   part-leaf z = go₁ (x .what) (f .left) (sym (f .kind) ∙ z) (f .after)
     where
-      go₁ : (a : Part) → lex (drop (o .end) s) ≡ rest a (x .left) → arms a ≡ 0 → u ≡ opened (noted w sc a) i sc a → PartPut s w u i sc (record { end = o .end; low = i }) a (x .left)
+      go₁ : (a : Part) → lex (drop (o .end) s) ≡ rest a (x .left) → arms a ≡ 0 → u ≡ opened (noted w sc (settle a)) i sc (settle a) → PartPut s w u i sc (record { end = o .end; low = i }) a (x .left)
       go₁ stop g e h = record { left = g; after = h; low = omega arith }
       go₁ (go t v p) g e h = absurd (omega arith)
       go₁ (out c t v p q) g e h = absurd (omega arith)
@@ -84,7 +105,7 @@ module _ {s : List ℕ} {at : ℕ} (x : PartAt s at) {w u : List ℕ} {i : ℕ} 
   pub first-at : (o .kind ≡ 0 → ⊥) → ProcessAt s (o .end)
   first-at n = go₁ (x .what) (x .well) (f .left) (f .kind)
     where
-      go₁ : (a : Part) → WellPart a → lex (drop (o .end) s) ≡ rest a (x .left) → o .kind ≡ arms a → ProcessAt s (o .end)
+      go₁ : (a : Part) → WellPart (settle a) → lex (drop (o .end) s) ≡ rest a (x .left) → o .kind ≡ arms a → ProcessAt s (o .end)
       go₁ stop h g e = absurd (n e)
       go₁ (go t v p) h g e = record { what = p; left = sign closes ∷ x .left; is = g; well = h .2; over = refl; last = refl }
       go₁ (out c t v p q) h g e = record { what = p; left = _; is = g; well = h .3; over = refl; last = refl }
@@ -103,12 +124,12 @@ module _ {s : List ℕ} {at : ℕ} (x : PartAt s at) {w u : List ℕ} {i : ℕ} 
     unfolding putPart size
     part-one z e c = go₁ (x .what) (x .well) (f .left) (sym (f .kind) ∙ z) (f .inner) (f .after)
       where
-        go₁ : (a : Part) → WellPart a → lex (drop (o .end) s) ≡ rest a (x .left) → arms a ≡ 1 → o .inner ≡ within w i sc a → u ≡ opened (noted w sc a) i sc a
+        go₁ : (a : Part) → WellPart (settle a) → lex (drop (o .end) s) ≡ rest a (x .left) → arms a ≡ 1 → o .inner ≡ within w i sc (settle a) → u ≡ opened (noted w sc (settle a)) i sc (settle a)
             → PartPut s w u′ i sc (record { end = e; low = r .low }) a (x .left)
         go₁ stop l g k b d = absurd (omega arith)
         go₁ (go t v p) l g k b d =
             let y = h (record { what = p; left = sign closes ∷ x .left; is = g; well = l .2; over = refl; last = refl }) in
-            let m = sizeP-some p in
+            let m = sizeP-some (settleP p) in
             record { left = peel-sign s e closes (y .left) c; after = y .after ∙ rw (b, d); low = y .low ∙ omega arith }
         go₁ (out c t v p q) l g k b d = absurd (omega arith)
         go₁ (inp c t y p q) l g k b d = absurd (omega arith)
@@ -118,35 +139,18 @@ module _ {s : List ℕ} {at : ℕ} (x : PartAt s at) {w u : List ℕ} {i : ℕ} 
     first-low n = let y = h (first-at n) .low in omega arith
 
     module _ (n : o .kind ≡ 0 → ⊥) (m : o .kind ≡ 1 → ⊥) (q : ℕ) (c : ended s q ≡ the comma (lex (drop (r .end) s))) where
+      abbrev T₂ : Two (x .what)
+      T₂ = two (x .what) (λ z. n (f .kind ∙ z)) (λ z. m (f .kind ∙ z))
+
+      first-put : ProcessPut s u u′ (i - 1) (o .inner) r (T₂ .first) (sign comma ∷ processT (T₂ .second) (sign closes ∷ x .left))
+      first-put = h (record { what = T₂ .first; left = _; is = f .left ∙ T₂ .is (x .left); well = T₂ .well (x .well) .0; over = refl; last = refl })
+
       -- the second process
       pub second-at : ProcessAt s q
-      second-at = go₁ (x .what) (x .well) (f .left) (f .kind)
-        where
-          go₁ : (a : Part) → WellPart a → lex (drop (o .end) s) ≡ rest a (x .left) → o .kind ≡ arms a → ProcessAt s q
-          go₁ stop l g k = absurd (n k)
-          go₁ (go t v p) l g k = absurd (m k)
-          go₁ (out a t v p p′) l g k =
-              let y = h (record { what = p; left = _; is = g; well = l .3; over = refl; last = refl }) in
-              record { what = p′; left = sign closes ∷ x .left; is = peel-sign s q comma (y .left) c; well = l .4; over = refl; last = refl }
-          go₁ (inp a t z p p′) l g k =
-              let y = h (record { what = p; left = _; is = g; well = l .3; over = refl; last = refl }) in
-              record { what = p′; left = sign closes ∷ x .left; is = peel-sign s q comma (y .left) c; well = l .4; over = refl; last = refl }
-          go₁ (call d vs) l g k = absurd (n k)
+      second-at = record { what = T₂ .second; left = sign closes ∷ x .left; is = peel-sign s q comma (first-put .left) c; well = T₂ .well (x .well) .1; over = refl; last = refl }
 
       second-tokens : length (lex (drop q s)) < length (lex (drop (o .end) s))
-      second-tokens = go₁ (x .what) (x .well) (f .left) (f .kind)
-        where
-          both : (p p′ : Process) → WellProcess p → lex (drop (o .end) s) ≡ processT p (sign comma ∷ processT p′ (sign closes ∷ x .left)) → length (lex (drop q s)) < length (lex (drop (o .end) s))
-          both p p′ l g =
-              let y = h (record { what = p; left = _; is = g; well = l; over = refl; last = refl }) in
-              omega (arith, ap length (peel-sign s q comma (y .left) c), ap length g, process-longer p (sign comma ∷ processT p′ (sign closes ∷ x .left)))
-
-          go₁ : (a : Part) → WellPart a → lex (drop (o .end) s) ≡ rest a (x .left) → o .kind ≡ arms a → length (lex (drop q s)) < length (lex (drop (o .end) s))
-          go₁ stop l g k = absurd (n k)
-          go₁ (go t v p) l g k = absurd (m k)
-          go₁ (out a t v p p′) l g k = both p p′ (l .3) g
-          go₁ (inp a t z p p′) l g k = both p p′ (l .3) g
-          go₁ (call d vs) l g k = absurd (n k)
+      second-tokens = omega (arith, ap length (peel-sign s q comma (first-put .left) c), ap length (f .left ∙ T₂ .is (x .left)), process-longer (T₂ .first) (sign comma ∷ processT (T₂ .second) (sign closes ∷ x .left)))
 
       pub second-falls : length s - q < length s - at
       second-falls = bytes-fall s at q (omega (arith, second-tokens, tokens-fall n))
@@ -154,28 +158,19 @@ module _ {s : List ℕ} {at : ℕ} (x : PartAt s at) {w u : List ℕ} {i : ℕ} 
       -- two processes
       pub part-two : (k : ℕ) → k ≡ r .low - 1 → {u″ : List ℕ} {r′ : Placed} → ((y : ProcessAt s q) → ProcessPut s u′ u″ k sc r′ (y .what) (y .left)) → {v : List ℕ} → v ≡ setSecond u″ i k
           → (e : ℕ) → ended s e ≡ the closes (lex (drop (r′ .end) s)) → PartPut s w v i sc (record { end = e; low = r′ .low }) (x .what) (x .left)
-      unfolding putPart size
-      part-two k z {u″} {r′} h′ {v} b e d = go₁ (x .what) (x .well) (f .left) (f .kind) (f .inner) (f .after)
-        where
-          go₁ : (a : Part) → WellPart a → lex (drop (o .end) s) ≡ rest a (x .left) → o .kind ≡ arms a → o .inner ≡ within w i sc a → u ≡ opened (noted w sc a) i sc a
-              → PartPut s w v i sc (record { end = e; low = r′ .low }) a (x .left)
-          go₁ stop l g k j t = absurd (n k)
-          go₁ (go t v p) l g k j o = absurd (m k)
-          go₁ (out a t v p p′) l g j o t′ =
-              let y = h (record { what = p; left = _; is = g; well = l .3; over = refl; last = refl }) in
-              let y′ = h′ (record { what = p′; left = sign closes ∷ x .left; is = peel-sign s q comma (y .left) c; well = l .4; over = refl; last = refl }) in
-              let m₁ = sizeP-some p in
-              let m₂ = sizeP-some p′ in
-              let w₁ : k ≡ i - 1 - sizeP p = z ∙ ap (λ n. n - 1) (y .low) ∙ omega arith in
-              record { left = peel-sign s e closes (y′ .left) d; after = b ∙ rw (y′ .after, y .after, o, t′, w₁); low = y′ .low ∙ ap (λ n. suc n - sizeP p′) w₁ ∙ omega arith }
-          go₁ (inp a t x′ p p′) l g j o t′ =
-              let y = h (record { what = p; left = _; is = g; well = l .3; over = refl; last = refl }) in
-              let y′ = h′ (record { what = p′; left = sign closes ∷ x .left; is = peel-sign s q comma (y .left) c; well = l .4; over = refl; last = refl }) in
-              let m₁ = sizeP-some p in
-              let m₂ = sizeP-some p′ in
-              let w₁ : k ≡ i - 1 - sizeP p = z ∙ ap (λ n. n - 1) (y .low) ∙ omega arith in
-              record { left = peel-sign s e closes (y′ .left) d; after = b ∙ rw (y′ .after, y .after, o, t′, w₁); low = y′ .low ∙ ap (λ n. suc n - sizeP p′) w₁ ∙ omega arith }
-          go₁ (call d vs) l g k j t = absurd (n k)
+      unfolding second-at
+      part-two k z {u″} {r′} h′ {v} b e d =
+          let p = settleP (T₂ .first) in
+          let p′ = settleP (T₂ .second) in
+          let y = h′ second-at in
+          let m₁ = sizeP-some p in
+          let m₂ = sizeP-some p′ in
+          let w₁ : k ≡ i - 1 - sizeP p = z ∙ ap (λ n. n - 1) (first-put .low) ∙ omega arith in
+          record {
+            left = peel-sign s e closes (y .left) d;
+            after = rw (T₂ .puts w i sc, b, y .after, first-put .after, f .inner, f .after, w₁);
+            low = y .low ∙ ap (λ n. suc n - sizeP p′) w₁ ∙ omega (arith, T₂ .size-is);
+          }
 
 -- ── the process reader ──
 module _ {s : List ℕ} {at : ℕ} (x : ProcessAt s at) where
@@ -183,7 +178,7 @@ module _ {s : List ℕ} {at : ℕ} (x : ProcessAt s at) where
   unfolding processT
   part-at = go₁ (x .what) (x .well) (x .is)
     where
-      go₁ : (p : Process) → WellProcess p → lex (drop at s) ≡ processT p (x .left) → PartAt s at
+      go₁ : (p : Process) → WellProcess (settleP p) → lex (drop at s) ≡ processT p (x .left) → PartAt s at
       go₁ (one a) l g = record { what = a; left = x .left; is = g; well = l; over = x .over }
       go₁ (a ∥ p) l g = record { what = a; left = sign bar ∷ processT p (x .left); is = g; well = l .0; over = refl }
 
@@ -196,7 +191,7 @@ module _ {s : List ℕ} {at : ℕ} (x : ProcessAt s at) where
     unfolding put sizeP processT
     process-last z {v} e = go₁ (x .what) (x .well) (x .is)
       where
-        go₁ : (p : Process) → WellProcess p → lex (drop at s) ≡ processT p (x .left) → ProcessPut s w v i sc r p (x .left)
+        go₁ : (p : Process) → WellProcess (settleP p) → lex (drop at s) ≡ processT p (x .left) → ProcessPut s w v i sc r p (x .left)
         go₁ (one a) l g =
             let y = h (record { what = a; left = x .left; is = g; well = l; over = x .over }) in
             record { left = y .left; after = e ∙ rw (y .after, y .low); low = y .low }
@@ -209,7 +204,7 @@ module _ {s : List ℕ} {at : ℕ} (x : ProcessAt s at) where
       unfolding processT
       process-next = go₁ (x .what) (x .well) (x .is)
         where
-          go₁ : (p : Process) → WellProcess p → lex (drop at s) ≡ processT p (x .left) → ProcessAt s b
+          go₁ : (p : Process) → WellProcess (settleP p) → lex (drop at s) ≡ processT p (x .left) → ProcessAt s b
           go₁ (one a) l g =
               let y = h (record { what = a; left = x .left; is = g; well = l; over = x .over }) in
               absurd (false≢true (sym (x .last) ∙ ap (next bar) (sym (y .left)) ∙ sign-next s b bar (lex (drop (r .end) s)) c z))
@@ -224,7 +219,7 @@ module _ {s : List ℕ} {at : ℕ} (x : ProcessAt s at) where
       unfolding processT
       next-falls = bytes-fall s at b (go₁ (x .what) (x .well) (x .is))
         where
-          go₁ : (p : Process) → WellProcess p → lex (drop at s) ≡ processT p (x .left) → length (lex (drop b s)) < length (lex (drop at s))
+          go₁ : (p : Process) → WellProcess (settleP p) → lex (drop at s) ≡ processT p (x .left) → length (lex (drop b s)) < length (lex (drop at s))
           go₁ (one a) l g =
               let y = h (record { what = a; left = x .left; is = g; well = l; over = x .over }) in
               absurd (false≢true (sym (x .last) ∙ ap (next bar) (sym (y .left)) ∙ sign-next s b bar (lex (drop (r .end) s)) c z))
@@ -237,16 +232,16 @@ module _ {s : List ℕ} {at : ℕ} (x : ProcessAt s at) where
       unfolding put sizeP processT
       process-more j m {u′} {r′} h′ {v} e = go₁ (x .what) (x .well) (x .is)
         where
-          go₁ : (p : Process) → WellProcess p → lex (drop at s) ≡ processT p (x .left) → ProcessPut s w v i sc r′ p (x .left)
+          go₁ : (p : Process) → WellProcess (settleP p) → lex (drop at s) ≡ processT p (x .left) → ProcessPut s w v i sc r′ p (x .left)
           go₁ (one a) l g =
               let y = h (record { what = a; left = x .left; is = g; well = l; over = x .over }) in
               absurd (false≢true (sym (x .last) ∙ ap (next bar) (sym (y .left)) ∙ sign-next s b bar (lex (drop (r .end) s)) c z))
           go₁ (a ∥ p) l g =
               let y = h (record { what = a; left = sign bar ∷ processT p (x .left); is = g; well = l .0; over = refl }) in
               let y′ = h′ (record { what = p; left = x .left; is = peel-sign s b bar (y .left) c; well = l .1; over = x .over; last = x .last }) in
-              let m₁ = size-some a in
-              let m₂ = sizeP-some p in
-              let k : j ≡ i - size a = m ∙ ap (λ n. n - 1) (y .low) ∙ omega arith in
-              let o : r′ .low ≡ suc i - (size a + sizeP p) = y′ .low ∙ ap (λ n. suc n - sizeP p) k ∙ omega arith in
-              let t : j + 1 ≡ suc (i - size a) = ap (λ n. n + 1) k ∙ add-one (i - size a) in
+              let m₁ = size-some (settle a) in
+              let m₂ = sizeP-some (settleP p) in
+              let k : j ≡ i - size (settle a) = m ∙ ap (λ n. n - 1) (y .low) ∙ omega arith in
+              let o : r′ .low ≡ suc i - (size (settle a) + sizeP (settleP p)) = y′ .low ∙ ap (λ n. suc n - sizeP (settleP p)) k ∙ omega arith in
+              let t : j + 1 ≡ suc (i - size (settle a)) = ap (λ n. n + 1) k ∙ add-one (i - size (settle a)) in
               record { left = y′ .left; after = e ∙ rw (t, o, y′ .after, y .after, k); low = o }

@@ -7,12 +7,14 @@ use mathlib.Core.Path.{_≡_}
 use lib.Dec.{ltb}
 use lib.ListN.{length, drop, set}
 use Rattle.terms.specs.Names.{Name}
-use Rattle.terms.specs.Terms.{Timer, Value}
+use Rattle.terms.specs.Terms.{Value}
 use Rattle.terms.specs.Terms.Value.{loc, var}
 use Rattle.terms.specs.Characters.{isCapital}
 use Rattle.terms.specs.Letters.{firstIs}
 use Rattle.text.specs.Tokens.{Token, lex, opens, closes, comma}
 use Rattle.text.specs.Tokens.Token.{sign}
+use Rattle.text.specs.Syntax.{Span}
+use Rattle.text.specs.Tree.{timerOf}
 use Rattle.text.specs.Grammar.{next}
 use Rattle.text.specs.Write.{valueT, joinedT, listT}
 use Rattle.text.specs.WellFormed.{Each, WellValue}
@@ -37,20 +39,20 @@ pub record NameIs (s : List ℕ) (r : Named) (x : Name) (us : List Token) : Type
   pub key : r .key ≡ keyOf x
   pub capital : r .capital ≡ firstIs isCapital x
 
-pub record TimerIs (s : List ℕ) (r : Timed) (t : Timer) (us : List Token) : Type 0 where
+pub record TimerIs (s : List ℕ) (r : Timed) (t : Span) (us : List Token) : Type 0 where
   pub left : lex (drop (r .end) s) ≡ us
-  pub timer : r .t ≡ timerWord t
+  pub timer : r .t ≡ timerWord (timerOf t)
 
-pub record PairIs (s : List ℕ) (r : Pair) (t : Timer) (x : Name) (us : List Token) : Type 0 where
+pub record PairIs (s : List ℕ) (r : Pair) (t : Span) (x : Name) (us : List Token) : Type 0 where
   pub left : lex (drop (r .end) s) ≡ us
-  pub timer : r .t ≡ timerWord t
+  pub timer : r .t ≡ timerWord (timerOf t)
   pub key : r .key ≡ keyOf x
   pub capital : r .capital ≡ firstIs isCapital x
 
-pub record FrontIs (s : List ℕ) (r : Front) (c : Name) (t : Timer) (x : Name) (us : List Token) : Type 0 where
+pub record FrontIs (s : List ℕ) (r : Front) (c : Name) (t : Span) (x : Name) (us : List Token) : Type 0 where
   pub left : lex (drop (r .end) s) ≡ us
   pub chan : r .chan ≡ keyOf c
-  pub timer : r .t ≡ timerWord t
+  pub timer : r .t ≡ timerWord (timerOf t)
   pub key : r .key ≡ keyOf x
   pub capital : r .capital ≡ firstIs isCapital x
 

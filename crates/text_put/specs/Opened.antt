@@ -6,10 +6,13 @@ use mathlib.Core.Bool.{false}
 use mathlib.Core.Path.{_≡_}
 use lib.ListN.{drop}
 use Rattle.terms.specs.Names.{Name, bytes}
-use Rattle.terms.specs.Terms.{Value, Part, Process}
-use Rattle.terms.specs.Terms.Part.{stop, go, out, inp, call}
+use Rattle.terms.specs.Terms as T
+use Rattle.terms.specs.Terms.{Value}
 use Rattle.text.specs.Tokens.{Token, lex, opens, closes, comma, bar}
 use Rattle.text.specs.Tokens.Token.{word, sign}
+use Rattle.text.specs.Syntax.{Part, Process}
+use Rattle.text.specs.Syntax.Part.{stop, go, out, inp, call}
+use Rattle.text.specs.Tree.{settle, settleP}
 use Rattle.text.specs.Grammar.{next}
 use Rattle.text.specs.Write.{timerT, valueT, listT, partT, processT}
 use Rattle.text.specs.WellFormed.{WellPart, WellProcess}
@@ -28,14 +31,14 @@ pub record PartAt (s : List ℕ) (at : ℕ) : Type 0 where
   pub what : Part
   pub left : List Token
   pub is : lex (drop at s) ≡ partT what left
-  pub well : WellPart what
+  pub well : WellPart (settle what)
   pub over : next opens left ≡ false
 
 pub record ProcessAt (s : List ℕ) (at : ℕ) : Type 0 where
   pub what : Process
   pub left : List Token
   pub is : lex (drop at s) ≡ processT what left
-  pub well : WellProcess what
+  pub well : WellProcess (settleP what)
   pub over : next opens left ≡ false
   pub last : next bar left ≡ false
 
@@ -67,7 +70,7 @@ pub record TailAt (s : List ℕ) (at : ℕ) (k : Sort) (x : Key) : Type 0 where
   pub what : Part
   pub left : List Token
   pub is : lex (drop at s) ≡ tailT what left
-  pub well : WellPart what
+  pub well : WellPart (settle what)
   pub over : next opens left ≡ false
   pub sort : k ≡ sortOf (headName what)
   pub key : x ≡ keyOf (headName what)
@@ -81,27 +84,27 @@ arms (inp c t y p q) = 2
 arms (call d vs) = 0
 
 -- the scope of a part's P
-abbrev pub within : List ℕ → ℕ → Scope → Part → Scope
-within w i sc stop = sc
-within w i sc (go t v p) = sc
-within w i sc (out c t v p q) = sc
-within w i sc (inp c t y p q) = innerScope w i sc y
-within w i sc (call d vs) = sc
+abbrev pub within : List ℕ → ℕ → Scope → T.Part → Scope
+within w i sc T.stop = sc
+within w i sc (T.go t v p) = sc
+within w i sc (T.out c t v p q) = sc
+within w i sc (T.inp c t y p q) = innerScope w i sc y
+within w i sc (T.call d vs) = sc
 
 -- the script before a part's row is written: a ninth name in scope is noted
-abbrev pub noted : List ℕ → Scope → Part → List ℕ
-noted w sc stop = w
-noted w sc (go t v p) = w
-noted w sc (out c t v p q) = w
-noted w sc (inp c t y p q) = scopeMark w sc y
-noted w sc (call d vs) = w
+abbrev pub noted : List ℕ → Scope → T.Part → List ℕ
+noted w sc T.stop = w
+noted w sc (T.go t v p) = w
+noted w sc (T.out c t v p q) = w
+noted w sc (T.inp c t y p q) = scopeMark w sc y
+noted w sc (T.call d vs) = w
 
--- the part's row is written, with its names entered
+-- the row of the part's term is written, with its names entered
 pub record OpenIs (s w v : List ℕ) (i : ℕ) (sc : Scope) (r : Open) (a : Part) (us : List Token) : Type 0 where
   pub left : lex (drop (r .end) s) ≡ rest a us
   pub kind : r .kind ≡ arms a
-  pub inner : r .inner ≡ within w i sc a
-  pub after : v ≡ opened (noted w sc a) i sc a
+  pub inner : r .inner ≡ within w i sc (settle a)
+  pub after : v ≡ opened (noted w sc (settle a)) i sc (settle a)
 
 -- the call of d behind its identifier, whose letters are x
 abbrev pub CallIs : (s w v : List ℕ) → ℕ → Scope → Key → Open → Name → List Value → List Token → Type 0
@@ -110,10 +113,10 @@ CallIs s w v i sc x r d vs us = x ≡ keyOf d → OpenIs s w v i sc r (call d vs
 -- ── put ──
 pub record PartPut (s w v : List ℕ) (i : ℕ) (sc : Scope) (r : Placed) (a : Part) (us : List Token) : Type 0 where
   pub left : lex (drop (r .end) s) ≡ us
-  pub after : v ≡ putPart a i sc w
-  pub low : r .low ≡ suc i - size a
+  pub after : v ≡ putPart (settle a) i sc w
+  pub low : r .low ≡ suc i - size (settle a)
 
 pub record ProcessPut (s w v : List ℕ) (i : ℕ) (sc : Scope) (r : Placed) (p : Process) (us : List Token) : Type 0 where
   pub left : lex (drop (r .end) s) ≡ us
-  pub after : v ≡ put p i sc w
-  pub low : r .low ≡ suc i - sizeP p
+  pub after : v ≡ put (settleP p) i sc w
+  pub low : r .low ≡ suc i - sizeP (settleP p)

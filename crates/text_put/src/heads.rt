@@ -4,10 +4,12 @@ ghost use mathlib.Core.Path.{_≡_};
 ghost use Prim.Native.Nat.{_-_, _+_, _*_, _≤_, _<_};
 ghost use lib.ListN.{drop};
 ghost use Rattle.terms.specs.Names.{Name};
-ghost use Rattle.terms.specs.Terms.{Timer, Value, Process};
-ghost use Rattle.terms.specs.Terms.Part.{go, out, inp};
+ghost use Rattle.terms.specs.Terms.{Value};
 ghost use Rattle.text.specs.Tokens.{Token, lex, opens, comma};
 ghost use Rattle.text.specs.Tokens.Token.{word, sign};
+ghost use Rattle.text.specs.Syntax.{Span, Process};
+ghost use Rattle.text.specs.Syntax.Part.{go, out, inp};
+ghost use Rattle.text.specs.Tree.{timerOf, settle};
 ghost use Rattle.text.specs.Write.{timerT};
 ghost use Rattle.text.specs.WellFormed.{WellTimer, WellPart};
 ghost use Rattle.table.specs.Tests.{keyName};
@@ -24,6 +26,7 @@ use super::values::value_in;
 use super::words::name_at;
 use super::words::pair_at;
 use table::CHANNELS;
+use table::IDENTIFIERS;
 use table::Key;
 use table::OWNS;
 use table::ROW_SIZE;
@@ -57,7 +60,7 @@ fn no_key() -> Key
 // `go(t,v,` behind its first word.
 fn open_go(s: &[u8], at: usize, w: &mut Script, i: usize, sc: Scope) -> Open
     requires { ⌜ (i < 4096) × (sc .n ≤ 8) ⌝ }
-    ensures { λ r. ⌜ ((t : Timer) (v : Value) (p : Process) (us : List Token) → WellPart (go t v p) → lex (drop at (now (s .entry))) ≡ tailT (go t v p) us → OpenIs (now (s .entry)) (now (w .entry)) (now (w .exit)) i sc r (go t v p) us) ⌝ }
+    ensures { λ r. ⌜ ((t : Span) (v : Value) (p : Process) (us : List Token) → WellPart (settle (go t v p)) → lex (drop at (now (s .entry))) ≡ tailT (go t v p) us → OpenIs (now (s .entry)) (now (w .entry)) (now (w .exit)) i sc r (go t v p) us) ⌝ }
 {
     let a = text_words::eat(s, at, b'(');
     let f = pair_at(s, a);
@@ -74,7 +77,7 @@ fn open_go(s: &[u8], at: usize, w: &mut Script, i: usize, sc: Scope) -> Open
 
 // `(c,t,x,`
 fn front_at(s: &[u8], at: usize) -> Front
-    ensures { λ r. ⌜ ((c : Name) (t : Timer) (x : Name) (us : List Token) → WellTimer t → lex (drop at (now (s .entry))) ≡ sign opens ∷ word c ∷ sign comma ∷ timerT t (sign comma ∷ word x ∷ sign comma ∷ us) → FrontIs (now (s .entry)) r c t x us) ⌝ }
+    ensures { λ r. ⌜ ((c : Name) (t : Span) (x : Name) (us : List Token) → WellTimer (timerOf t) → lex (drop at (now (s .entry))) ≡ sign opens ∷ word c ∷ sign comma ∷ timerT t (sign comma ∷ word x ∷ sign comma ∷ us) → FrontIs (now (s .entry)) r c t x us) ⌝ }
 {
     let a = text_words::eat(s, at, b'(');
     let c = name_at(s, a);
@@ -94,7 +97,7 @@ fn front_at(s: &[u8], at: usize) -> Front
 // `out(c,t,v,` behind its first word.
 fn open_out(s: &[u8], at: usize, w: &mut Script, i: usize, sc: Scope) -> Open
     requires { ⌜ (i < 4096) × (sc .n ≤ 8) ⌝ }
-    ensures { λ r. ⌜ ((c : Name) (t : Timer) (v : Value) (p q : Process) (us : List Token) → WellPart (out c t v p q) → lex (drop at (now (s .entry))) ≡ tailT (out c t v p q) us → OpenIs (now (s .entry)) (now (w .entry)) (now (w .exit)) i sc r (out c t v p q) us) ⌝ }
+    ensures { λ r. ⌜ ((c : Name) (t : Span) (v : Value) (p q : Process) (us : List Token) → WellPart (settle (out c t v p q)) → lex (drop at (now (s .entry))) ≡ tailT (out c t v p q) us → OpenIs (now (s .entry)) (now (w .entry)) (now (w .exit)) i sc r (out c t v p q) us) ⌝ }
 {
     let f = front_at(s, at);
     let k = f.chan;
@@ -146,7 +149,7 @@ fn noted(w: &mut Script, sc: Scope, k: Key, j: usize) -> usize
 // `in(c,t,y,` behind its first word.
 fn open_in(s: &[u8], at: usize, w: &mut Script, i: usize, sc: Scope) -> Open
     requires { ⌜ (i < 4096) × (sc .n ≤ 8) ⌝ }
-    ensures { λ r. ⌜ ((c : Name) (t : Timer) (y : Name) (p q : Process) (us : List Token) → WellPart (inp c t y p q) → lex (drop at (now (s .entry))) ≡ tailT (inp c t y p q) us → OpenIs (now (s .entry)) (now (w .entry)) (now (w .exit)) i sc r (inp c t y p q) us) ⌝ }
+    ensures { λ r. ⌜ ((c : Name) (t : Span) (y : Name) (p q : Process) (us : List Token) → WellPart (settle (inp c t y p q)) → lex (drop at (now (s .entry))) ≡ tailT (inp c t y p q) us → OpenIs (now (s .entry)) (now (w .entry)) (now (w .exit)) i sc r (inp c t y p q) us) ⌝ }
 {
     let f = front_at(s, at);
     let k = f.chan;
@@ -170,7 +173,7 @@ fn open_call(s: &[u8], at: usize, w: &mut Script, i: usize, sc: Scope, x: Key) -
     ensures { λ r. ⌜ ((y : ListAt (now (s .entry)) at) (d : Name) → CallIs (now (s .entry)) (now (w .entry)) (now (w .exit)) i sc x r d (y .what) (y .left)) ⌝ }
 {
     let n = text_build::held_in(w, 3);
-    let d = text_build::find(w, 10, 24, n, x);
+    let d = text_build::find(w, IDENTIFIERS, ROW_SIZE, n, x);
     let g = args(s, at, w, sc);
     let k = g.first;
     put_row(w, i, 4, d as u32, 0, g.n, 0, sc, k);

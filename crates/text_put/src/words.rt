@@ -3,11 +3,12 @@ ghost use mathlib.Core.List.{List, _∷_};
 ghost use mathlib.Core.Path.{_≡_};
 ghost use lib.ListN.{drop};
 ghost use Rattle.terms.specs.Names.{Name};
-ghost use Rattle.terms.specs.Terms.{Timer};
 ghost use Rattle.terms.specs.Characters.{isCapital};
 ghost use Rattle.terms.specs.Letters.{firstIs};
 ghost use Rattle.text.specs.Tokens.{Token, lex, comma};
 ghost use Rattle.text.specs.Tokens.Token.{word, sign};
+ghost use Rattle.text.specs.Syntax.{Span};
+ghost use Rattle.text.specs.Tree.{timerOf};
 ghost use Rattle.text.specs.Write.{timerT};
 ghost use Rattle.text.specs.WellFormed.{WellTimer};
 ghost use Rattle.text_build.specs.Rows.{timerWord};
@@ -57,7 +58,7 @@ pub fn name_at(s: &[u8], at: usize) -> Named
 
 // The word of a timer in a row, by the timer's own constructor: a text that has the form has no number above its range.
 fn timer_of(w: &[u8]) -> u32
-    ensures { λ r. ⌜ ((t : Timer) (us : List Token) → WellTimer t → word (now (w .entry)) ∷ us ≡ timerT t us → r ≡ timerWord t) ⌝ }
+    ensures { λ r. ⌜ ((t : Span) (us : List Token) → WellTimer (timerOf t) → word (now (w .entry)) ∷ us ≡ timerT t us → r ≡ timerWord (timerOf t)) ⌝ }
 {
     if text_words::is_same(w, b"inf") {
         return terms::Timer::INF.raw;
@@ -70,7 +71,7 @@ fn timer_of(w: &[u8]) -> u32
 
 // The next word, as a timer.
 pub fn timer_at(s: &[u8], at: usize) -> Timed
-    ensures { λ r. ⌜ ((t : Timer) (us : List Token) → WellTimer t → lex (drop at (now (s .entry))) ≡ timerT t us → TimerIs (now (s .entry)) r t us) ⌝ }
+    ensures { λ r. ⌜ ((t : Span) (us : List Token) → WellTimer (timerOf t) → lex (drop at (now (s .entry))) ≡ timerT t us → TimerIs (now (s .entry)) r t us) ⌝ }
 {
     let a = text_words::skip_blanks(s, at);
     let e = text_words::word_end(s, a);
@@ -83,7 +84,7 @@ pub fn timer_at(s: &[u8], at: usize) -> Timed
 
 // A timer and a name, each with its comma.
 pub fn pair_at(s: &[u8], at: usize) -> Pair
-    ensures { λ r. ⌜ ((t : Timer) (x : Name) (us : List Token) → WellTimer t → lex (drop at (now (s .entry))) ≡ timerT t (sign comma ∷ word x ∷ sign comma ∷ us) → PairIs (now (s .entry)) r t x us) ⌝ }
+    ensures { λ r. ⌜ ((t : Span) (x : Name) (us : List Token) → WellTimer (timerOf t) → lex (drop at (now (s .entry))) ≡ timerT t (sign comma ∷ word x ∷ sign comma ∷ us) → PairIs (now (s .entry)) r t x us) ⌝ }
 {
     let t = timer_at(s, at);
     let a = text_words::eat(s, t.end, b',');

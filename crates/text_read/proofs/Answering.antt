@@ -7,29 +7,29 @@ use mathlib.Core.List.{List, [], _∷_, map}
 use mathlib.Core.Path.{_≡_, refl, sym, ap, _∙_}
 use borrow.Author.Tests.{leb-true, eqb-true}
 use lib.Dec.{leb}
-use lib.ListN.{length, take, drop, set}
-use Rattle.terms.specs.Terms.{Def, Network}
-use Rattle.terms.specs.Terms.Def.{define}
+use lib.ListN.{length, take, drop, set, replicate}
+use Rattle.terms.specs.Terms.{Network}
 use Rattle.terms.specs.Rules.{Answer, _>>=_}
 use Rattle.terms.specs.Rules.Answer.{refused, accepted}
 use Rattle.terms.specs.Same.{every}
 use Rattle.terms.proofs.Names.{and-inv}
 use Rattle.text.specs.Tokens.{lex}
-use Rattle.text.specs.Tree.{Located, Tree, networkOf}
+use Rattle.text.specs.Syntax as syntax
+use Rattle.text.specs.Syntax.{Text}
+use Rattle.text.specs.Tree.{Located, Tree, settleAt, settled, networkOf}
 use Rattle.text.specs.Tree.Located.{at}
 use Rattle.text.specs.Grammar.{Rest, text}
 use Rattle.text.specs.Grammar.Rest.{ok, bad}
 use Rattle.text.specs.Write.{networkT}
 use Rattle.text.specs.WellFormed.{Each, NonEmpty, WellLocated, WellTree}
-use Rattle.text.specs.Questions.{ask, _>>_, places, short, whole, form, shallow, fits, definedOnce, callsMet, bound, read, nesting, definitionCount, parameterCount, partCount, componentCount, channels, locations, scopeSize}
+use Rattle.text.specs.Questions.{ask, _>>_, places, short, whole, form, shallow, fits, definedOnce, callsMet, bound, asked as askedOf, read, nesting, definitionCount, parameterCount, partCount, componentCount, channels, locations, scopeSize}
 use Rattle.text.proofs.Exact.{form-tokens}
 use Rattle.text_scan.specs.declared.Scanned.{Scanned}
 use Rattle.text_scan.specs.Answers.{unreadScan, scanned, scanOf}
 use Rattle.text_scan.proofs.Limits.{capped-within}
 use Rattle.table.specs.declared.State.{State}
-use Rattle.table.specs.Words.{compSize, rowSize, partsAt, scriptWords, word}
-use Rattle.table.specs.Size.{sizeP}
-use Rattle.table.specs.Meaning.{compsOf}
+use Rattle.table.specs.Words.{rowSize, partsAt, scriptWords, stateWords, word}
+use Rattle.table.specs.Meaning.{PastKept, compsOf}
 use Rattle.text_build.specs.Rows.{placeKnown}
 use Rattle.text_build.proofs.Places.{sizeP-some}
 use Rattle.text_tree.specs.Pass.{Within, Blank, heads, afterBodies, brackets, spots, started, top, defined, behind, scriptOf, spotsOf}
@@ -47,14 +47,14 @@ use Rattle.text_tree.proofs.AskedKnown.{known}
 use Rattle.text_read.specs.declared.Passed.{Passed}
 use Rattle.text_read.specs.declared.Entry.{Entry}
 use Rattle.text_read.specs.declared.Reading.{Reading}
-use Rattle.text_read.specs.Ready.{Ready, BodiesPut, bodiesBy, Filled, defined as definedBy}
+use Rattle.text_read.specs.Ready.{Ready, treeIn, BodiesPut, bodiesBy, Filled, defined as definedBy}
 use Rattle.text_read.specs.Located.{NetworkAt, NetworkPut}
 use Rattle.text_read.specs.Spread.{Spread}
 use Rattle.text_read.specs.Answer.{StateIs, limits, asked, refusal, locationsIn, channelsIn, Took, readsAs, Answered, Entered, partsOf}
 use Rattle.text_read.proofs.Spreading.{spread-all}
 use Rattle.text_read.proofs.Quiet.{Quiet, quiet-then, bodies-quiet, brackets-quiet, bodies-same}
 use Rattle.text_read.specs.Front.{Front}
-use Rattle.text_read.proofs.Beyond.{Beyond, filled-beyond}
+use Rattle.text_read.proofs.Beyond.{Beyond, after-low, filled-beyond}
 use Rattle.text_read.proofs.Kept.{front-blank}
 
 -- ── 1 to 4 by the scan ──
@@ -62,10 +62,10 @@ use Rattle.text_read.proofs.Kept.{front-blank}
 pub record Passing (s : List ℕ) : Type 0 where
   pub ready : Ready s
   pub short-is : short s ≡ true
-  pub form-is : form s ≡ accepted (ready .tree)
-  pub shallow-is : shallow (ready .tree) ≡ true
-  pub parts-are : scanOf s .parts ≡ partCount (ready .tree)
-  pub defs-are : scanOf s .definitions ≡ definitionCount (ready .tree)
+  pub form-is : form s ≡ accepted (ready .text)
+  pub shallow-is : shallow (treeIn ready) ≡ true
+  pub parts-are : scanOf s .parts ≡ partCount (treeIn ready)
+  pub defs-are : scanOf s .definitions ≡ definitionCount (treeIn ready)
 
 fits-not : (a b c d x y z : Bool) → (a && (b && (c && d))) ≡ false → (a && b && c && x && y && d && z) ≡ false
 fits-not false b c d x y z e = refl
@@ -92,42 +92,43 @@ module _ (t : Tree) where
       let c = and-inv (leb (partCount t) 4_096) _ (b .1) in
       record { definitions = leb-true _ _ (a .0); parameters = leb-true _ _ (b .0); parts = leb-true _ _ (c .0); components = leb-true _ _ (c .1) }
 
-  limits-of : limits (scanned (accepted t)) ≡ cond (shallow t) (cond counts 0 4) 3
-  unfolding counts shallow
-  limits-of = rw (capped-within 32 (nesting t), capped-within 32 (definitionCount t), capped-within 4 (parameterCount t), capped-within 4_096 (partCount t), capped-within 256 (componentCount t))
+limits-of : (x : Text) → limits (scanned (accepted x)) ≡ cond (shallow (settled x)) (cond (counts (settled x)) 0 4) 3
+unfolding counts shallow
+limits-of x =
+    let t = settled x in
+    rw (capped-within 32 (nesting t), capped-within 32 (definitionCount t), capped-within 4 (parameterCount t), capped-within 4_096 (partCount t), capped-within 256 (componentCount t))
 
 module _ (s : List ℕ) where
   pub limited : (limits (scanOf s) ≡ 0 → ⊥) → read s ≡ refused (limits (scanOf s))
-  unfolding scanOf read form
+  unfolding scanOf read askedOf form
   limited n = go₁ (short s) (text (lex s)) n
     where
-      tree : (t : Tree) → (limits (scanned (accepted t)) ≡ 0 → ⊥) → (a b : Bool) → shallow t ≡ a → counts t ≡ b
-          → (ask 3 (shallow t) >> (ask 4 (fits t) >> (ask 5 (definedOnce (t .defs)) >> (ask 6 (callsMet t) >> (ask 7 (bound t) >> accepted (networkOf t)))))) ≡ refused (limits (scanned (accepted t)))
-      tree t n false b e f = rw (limits-of t, e)
-      tree t n true false e f = rw (limits-of t, e, f, counts-not t f)
-      tree t n true true e f = absurd (n (rw (limits-of t, e, f)))
+      tree : (x : Text) → (limits (scanned (accepted x)) ≡ 0 → ⊥) → (a b : Bool) → shallow (settled x) ≡ a → counts (settled x) ≡ b → askedOf (settled x) ≡ refused (limits (scanned (accepted x)))
+      tree x n false b e f = rw (limits-of x, e)
+      tree x n true false e f = rw (limits-of x, e, f, counts-not (settled x) f)
+      tree x n true true e f = absurd (n (rw (limits-of x, e, f)))
 
-      go₁ : (y : Bool) (x : Rest Tree) → (limits (cond y (scanned (whole x)) (unreadScan false)) ≡ 0 → ⊥)
-          → (ask 1 y >> (whole x >>= λ t. ask 3 (shallow t) >> (ask 4 (fits t) >> (ask 5 (definedOnce (t .defs)) >> (ask 6 (callsMet t) >> (ask 7 (bound t) >> accepted (networkOf t))))))) ≡ refused (limits (cond y (scanned (whole x)) (unreadScan false)))
+      go₁ : (y : Bool) (x : Rest Text) → (limits (cond y (scanned (whole x)) (unreadScan false)) ≡ 0 → ⊥)
+          → (ask 1 y >> (whole x >>= λ x. askedOf (settled x))) ≡ refused (limits (cond y (scanned (whole x)) (unreadScan false)))
       go₁ false x n = refl
       go₁ true bad n = refl
-      go₁ true (ok t us) n = tree t n (shallow t) (counts t) refl refl
+      go₁ true (ok x us) n = tree x n (shallow (settled x)) (counts (settled x)) refl refl
 
   pub passing : limits (scanOf s) ≡ 0 → Passing s
   unfolding scanOf
   passing z = go₁ (short s) (form s) refl refl z
     where
-      tree : (t : Tree) → short s ≡ true → form s ≡ accepted t → limits (scanned (accepted t)) ≡ 0 → (a b : Bool) → shallow t ≡ a → counts t ≡ b → Passing s
-      tree t p g z false b e f = let h : _≡_ {A = ℕ} 3 0 = sym (rw e at (limits-of t)) ∙ z in absurd (omega arith)
-      tree t p g z true false e f = let h : _≡_ {A = ℕ} 4 0 = sym (rw (e, f) at (limits-of t)) ∙ z in absurd (omega arith)
-      tree t p g z true true e f =
-          let k = form-tokens s t g in
-          let i = counts-within t f in
+      tree : (x : Text) → short s ≡ true → form s ≡ accepted x → limits (scanned (accepted x)) ≡ 0 → (a b : Bool) → shallow (settled x) ≡ a → counts (settled x) ≡ b → Passing s
+      tree x p g z false b e f = let h : _≡_ {A = ℕ} 3 0 = sym (rw e at (limits-of x)) ∙ z in absurd (omega arith)
+      tree x p g z true false e f = let h : _≡_ {A = ℕ} 4 0 = sym (rw (e, f) at (limits-of x)) ∙ z in absurd (omega arith)
+      tree x p g z true true e f =
+          let k = form-tokens s x g in
+          let i = counts-within (settled x) f in
           let l = i .parts in
           let m = i .definitions in
-          let q : scanOf s ≡ scanned (accepted t) = rw (p, g) in
+          let q : scanOf s ≡ scanned (accepted x) = rw (p, g) in
           record {
-            ready = record { tree = t; is = k .0; well = k .1; within = i };
+            ready = record { text = x; is = k .0; well = k .1; within = i };
             short-is = p;
             form-is = g;
             shallow-is = e;
@@ -135,80 +136,75 @@ module _ (s : List ℕ) where
             defs-are = ap (λ c. c .definitions) q ∙ omega arith;
           }
 
-      go₁ : (y : Bool) (x : Answer Tree) → short s ≡ y → form s ≡ x → limits (cond y (scanned x) (unreadScan false)) ≡ 0 → Passing s
+      go₁ : (y : Bool) (x : Answer Text) → short s ≡ y → form s ≡ x → limits (cond y (scanned x) (unreadScan false)) ≡ 0 → Passing s
       go₁ false x e g z = absurd (omega arith)
       go₁ true (refused n) e g z = absurd (omega arith)
-      go₁ true (accepted t) e g z = tree t e g z (shallow t) (counts t) refl refl
+      go₁ true (accepted x) e g z = tree x e g z (shallow (settled x)) (counts (settled x)) refl refl
 
 -- ── the network behind the definitions ──
-pub network-at : {s w v : List ℕ} {i : ℕ} (x : Ready s) (r : Passed) → BodiesPut s w v i r (x .tree) → NetworkAt s (r .end)
+pub network-at : {s w v : List ℕ} {i : ℕ} (x : Ready s) (r : Passed) → BodiesPut s w v i r (x .text) → NetworkAt s (r .end)
 unfolding networkT
-network-at {s} x r b = go₁ (x .tree .located) (b .left-is) (x .well .located-well) (x .well .some-located)
+network-at {s} x r b = go₁ (x .text .located) (b .left-is) (x .well .located-well) (x .well .some-located)
   where
-    go₁ : (ls : List Located) → lex (drop (r .end) s) ≡ networkT ls → Each WellLocated ls → NonEmpty ls → NetworkAt s (r .end)
+    go₁ : (ls : List syntax.Located) → lex (drop (r .end) s) ≡ networkT ls → Each WellLocated (map settleAt ls) → NonEmpty (map settleAt ls) → NetworkAt s (r .end)
     go₁ [] e w n = absurd n
     go₁ (l ∷ ls) e w n = record { first = l; more = ls; is = e; well = w }
 
-behind-low : (ds : List Def) (i : ℕ) → afterBodies ds i ≤ i
-unfolding afterBodies
-behind-low [] i = omega arith
-behind-low (define x us p ∷ ds) i = let h = behind-low ds (i - sizeP p) in omega arith
+pub behind-small : {s w v : List ℕ} {i : ℕ} (x : Ready s) (r : Passed) → BodiesPut s w v i r (x .text) → i < 4_096 → r .place < 4_096
+behind-small {i = i} x r b h = let e = b .place in let l = after-low (treeIn x .defs) i in omega arith
 
-pub behind-small : {s w v : List ℕ} {i : ℕ} (x : Ready s) (r : Passed) → BodiesPut s w v i r (x .tree) → i < 4_096 → r .place < 4_096
-behind-small {i = i} x r b h = let e = b .place in let l = behind-low (x .tree .defs) i in omega arith
-
-pub network-of : {s w v v′ : List ℕ} {i : ℕ} (x : Ready s) (r : Passed) → BodiesPut s w v i r (x .tree) → {out after : List (List ℕ)} {n : ℕ} → ((y : NetworkAt s (r .end)) → NetworkPut v v′ (r .place) out after n (y .first ∷ y .more)) → NetworkPut v v′ (r .place) out after n (x .tree .located)
+pub network-of : {s w v v′ : List ℕ} {i : ℕ} (x : Ready s) (r : Passed) → BodiesPut s w v i r (x .text) → {out after : List (List ℕ)} {n : ℕ} → ((y : NetworkAt s (r .end)) → NetworkPut v v′ (r .place) out after n (y .first ∷ y .more)) → NetworkPut v v′ (r .place) out after n (x .text .located)
 unfolding networkT
-network-of {s} {v = v} {v′ = v′} x r b {out} {after} {n} h = go₁ (x .tree .located) (b .left-is) (x .well .located-well) (x .well .some-located)
+network-of {s} {v = v} {v′ = v′} x r b {out} {after} {n} h = go₁ (x .text .located) (b .left-is) (x .well .located-well) (x .well .some-located)
   where
-    go₁ : (ls : List Located) → lex (drop (r .end) s) ≡ networkT ls → Each WellLocated ls → NonEmpty ls → NetworkPut v v′ (r .place) out after n ls
+    go₁ : (ls : List syntax.Located) → lex (drop (r .end) s) ≡ networkT ls → Each WellLocated (map settleAt ls) → NonEmpty (map settleAt ls) → NetworkPut v v′ (r .place) out after n ls
     go₁ [] e w m = absurd m
     go₁ (l ∷ ls) e w m = h (record { first = l; more = ls; is = e; well = w })
 
-pub filled : {s w u v v′ : List ℕ} (parts defs i : ℕ) → i ≡ parts - 1 → (x : Ready s) → u ≡ heads (x .tree .defs) 0 i (set (set w 0 parts) 3 defs) → (r : Passed) → BodiesPut s u v i r (x .tree)
-    → {out after : List (List ℕ)} {n : ℕ} → NetworkPut v v′ (r .place) out after n (x .tree .located) → Filled w v′ parts defs out after n (x .tree)
+pub filled : {s w u v v′ : List ℕ} (parts defs i : ℕ) → i ≡ parts - 1 → (x : Ready s) → u ≡ heads (treeIn x .defs) 0 i (set (set w 0 parts) 3 defs) → (r : Passed) → BodiesPut s u v i r (x .text)
+    → {out after : List (List ℕ)} {n : ℕ} → NetworkPut v v′ (r .place) out after n (x .text .located) → Filled w v′ parts defs out after n (treeIn x)
 filled parts defs i e x g r b p = record {
   script = p .script ∙ rw (b .place, b .after, g, e);
   gathered = rw (b .place, b .after, g, e) at (p .gathered);
 }
 
 -- ── the script and the places that were written ──
-module _ {s : List ℕ} (x : Ready s) {w v : List ℕ} {parts n : ℕ} (blank : Blank w (partCount (x .tree))) (p : parts ≡ partCount (x .tree)) (d : n ≡ definitionCount (x .tree)) {out after : List (List ℕ)} {r : ℕ} (f : Filled w v parts n out after r (x .tree)) where
-  started-is : set (set w 0 parts) 3 n ≡ started w (x .tree)
+module _ {s : List ℕ} (x : Ready s) {w v : List ℕ} {parts n : ℕ} (blank : Blank w (partCount (treeIn x))) (p : parts ≡ partCount (treeIn x)) (d : n ≡ definitionCount (treeIn x)) {out after : List (List ℕ)} {r : ℕ} (f : Filled w v parts n out after r (treeIn x)) where
+  started-is : set (set w 0 parts) 3 n ≡ started w (treeIn x)
   unfolding started
-  started-is = ap (λ q. set (set w 0 q) 3 n) p ∙ ap (λ q. set (set w 0 (partCount (x .tree))) 3 q) d
+  started-is = ap (λ q. set (set w 0 q) 3 n) p ∙ ap (λ q. set (set w 0 (partCount (treeIn x))) 3 q) d
 
-  defined-is : definedBy w parts n (x .tree) ≡ defined w (x .tree)
+  defined-is : definedBy w parts n (treeIn x) ≡ defined w (treeIn x)
   unfolding defined definitionCount parameterCount
   defined-is =
-      let t = x .tree in
+      let t = treeIn x in
       let few = few-params (t .defs) (x .within .parameters) in
       let m = x .within .definitions in
       ap (λ q. bodiesBy (t .defs) 0 (parts - 1) (heads (t .defs) 0 (parts - 1) q)) started-is
       ∙ ap (λ q. bodiesBy (t .defs) 0 (q - 1) (heads (t .defs) 0 (q - 1) (started w t))) p
       ∙ bodies-same (t .defs) 0 (top t) (heads (t .defs) 0 (top t) (started w t)) few (omega arith) (heads-stand (t .defs) (started w t) 0 (top t) (started-long w t blank) (omega arith) few (x .well .defs-well))
 
-  pub script-is : v ≡ scriptOf w (x .tree)
+  pub script-is : v ≡ scriptOf w (treeIn x)
   unfolding scriptOf
-  script-is = f .script ∙ ap (λ q. brackets (x .tree .located) (afterBodies (x .tree .defs) (q - 1)) (definedBy w parts n (x .tree))) p ∙ ap (brackets (x .tree .located) (behind (x .tree))) defined-is
+  script-is = f .script ∙ ap (λ q. brackets (treeIn x .located) (afterBodies (treeIn x .defs) (q - 1)) (definedBy w parts n (treeIn x))) p ∙ ap (brackets (treeIn x .located) (behind (treeIn x))) defined-is
 
-  spots-are : Spread out after 0 r (spotsOf w (x .tree))
+  spots-are : Spread out after 0 r (spotsOf w (treeIn x))
   unfolding spotsOf
-  spots-are = rw (ap (λ q. spots (x .tree .located) (afterBodies (x .tree .defs) (q - 1)) (definedBy w parts n (x .tree))) p ∙ ap (spots (x .tree .located) (behind (x .tree))) defined-is) at (f .gathered)
+  spots-are = rw (ap (λ q. spots (treeIn x .located) (afterBodies (treeIn x .defs) (q - 1)) (definedBy w parts n (treeIn x))) p ∙ ap (spots (treeIn x .located) (behind (treeIn x))) defined-is) at (f .gathered)
 
   -- all places have space
   module _ (wide : length out ≡ 256) where
-    all : (take r after ≡ spotsOf w (x .tree)) × (r ≡ length (spotsOf w (x .tree)))
-    all = let k = count-is w (x .tree) in let m = x .within .components in spread-all (omega arith) spots-are
+    all : (take r after ≡ spotsOf w (treeIn x)) × (r ≡ length (spotsOf w (treeIn x)))
+    all = let k = count-is w (treeIn x) in let m = x .within .components in spread-all (omega arith) spots-are
 
-    pub places-are : take r after ≡ spotsOf w (x .tree)
+    pub places-are : take r after ≡ spotsOf w (treeIn x)
     places-are = all .0
 
     pub places-few : r ≤ 256
-    places-few = let k = count-is w (x .tree) in let m = x .within .components in let e = all .1 in omega arith
+    places-few = let k = count-is w (treeIn x) in let m = x .within .components in let e = all .1 in omega arith
 
-    pub state-is : (st : State) → StateIs v (take r after) st → (st .n ≡ length (spotsOf w (x .tree))) × (compsOf st ≡ map (compOf (scriptOf w (x .tree))) (spotsOf w (x .tree)))
-    state-is st g = (g .count ∙ ap length places-are, g .comps ∙ ap (map (compOf v)) places-are ∙ ap (λ q. map (compOf q) (spotsOf w (x .tree))) script-is)
+    pub state-is : (st : State) → StateIs v (take r after) st → (st .n ≡ length (spotsOf w (treeIn x))) × (compsOf st ≡ map (compOf (scriptOf w (treeIn x))) (spotsOf w (treeIn x)))
+    state-is st g = (g .count ∙ ap length places-are, g .comps ∙ ap (map (compOf v)) places-are ∙ ap (λ q. map (compOf q) (spotsOf w (treeIn x))) script-is)
 
 -- the numbers of parts and definitions stay as they are
 script-quiet : (z : List ℕ) (t : Tree) → Quiet (heads (t .defs) 0 (top t) (started z t)) (scriptOf z t)
@@ -222,21 +218,21 @@ pub defs-kept : (z : List ℕ) (t : Tree) → Blank z (partCount t) → word (sc
 defs-kept z t b = script-quiet z t .same 3 (omega arith) (λ e. omega arith) (λ e. omega arith) (λ e. omega arith) ∙ heads-under (t .defs) (started z t) 0 (top t) 3 (omega arith) ∙ started-defs z t b
 
 -- ── 4 to 7 by the script ──
-module _ {s : List ℕ} (x : Passing s) (base : List ℕ) (blank : Blank base (partCount (x .ready .tree))) where
+module _ {s : List ℕ} (x : Passing s) (base : List ℕ) (blank : Blank base (partCount (treeIn (x .ready)))) where
   abbrev T : Tree
-  T = x .ready .tree
+  T = treeIn (x .ready)
 
   abbrev S : List ℕ
   S = scriptOf base T
 
-  -- what an accepted text leaves: the words of the script w behind the last row, and zeros past the components
+  -- what an accepted text leaves: the words of the script w behind the last row, and zeros beside the components
   pub record Around (w : List ℕ) (st : State) : Type 0 where
     pub size : length S ≡ scriptWords
     pub behind : (o : ℕ) → partsAt + partCount T * rowSize ≤ o → word S o ≡ word w o
-    pub past : (k : ℕ) → st .n * compSize ≤ k → word (st .c) k ≡ 0
+    pub past : PastKept (st .n) (replicate stateWords 0) (st .c)
 
   read-is : read s ≡ (ask 4 (fits T) >> (ask 5 (definedOnce (T .defs)) >> (ask 6 (callsMet T) >> (ask 7 (bound T) >> accepted (networkOf T)))))
-  unfolding read
+  unfolding read askedOf
   read-is = rw (x .short-is, x .form-is, x .shallow-is)
 
   module _ (e : roomy S ≡ true) where
@@ -335,10 +331,10 @@ module _ (s : List ℕ) (c : Scanned) (e : c ≡ scanOf s) (q : ℕ) (l : q ≡ 
     pub pass : Passing s
     pass = passing s (sym limits-is ∙ z)
 
-    parts-now : c .parts ≡ partCount (pass .ready .tree)
+    parts-now : c .parts ≡ partCount (treeIn (pass .ready))
     parts-now = ap (λ x. x .parts) e ∙ pass .parts-are
 
-    defs-now : c .definitions ≡ definitionCount (pass .ready .tree)
+    defs-now : c .definitions ≡ definitionCount (treeIn (pass .ready))
     defs-now = ap (λ x. x .definitions) e ∙ pass .defs-are
 
     pub may-fill : (c .parts ≤ 4_096) × (c .definitions ≤ 32) × Ready s
@@ -350,36 +346,36 @@ module _ (s : List ℕ) (c : Scanned) (e : c ≡ scanOf s) (q : ℕ) (l : q ≡ 
         (omega arith, omega arith, pass .ready)
 
     -- what lies behind the rows stays
-    beyond-now : {w₀ v : List ℕ} {out after : List (List ℕ)} {n : ℕ} → ((x : Ready s) → Filled w₀ v (c .parts) (c .definitions) out after n (x .tree)) → Beyond (c .parts - 1) w₀ v
+    beyond-now : {w₀ v : List ℕ} {out after : List (List ℕ)} {n : ℕ} → ((x : Ready s) → Filled w₀ v (c .parts) (c .definitions) out after n (treeIn x)) → Beyond (c .parts - 1) w₀ v
     unfolding parameterCount definitionCount
     beyond-now {w₀} h =
-        let t = pass .ready .tree in
+        let t = treeIn (pass .ready) in
         rw (h (pass .ready) .script) (filled-beyond t w₀ (c .parts) (c .definitions) (few-params (t .defs) (pass .ready .within .parameters)) (pass .ready .within .definitions))
 
     -- into a script w whose first m words are set to zero, as many as the rows need and no more
-    module _ {w w₀ : List ℕ} (size : length w ≡ scriptWords) (m : ℕ) (enough : partsAt + c .parts * rowSize ≤ m) (zeros : Front m (λ o. 0) w w₀) {v : List ℕ} {out after : List (List ℕ)} {n : ℕ} (h : (x : Ready s) → Filled w₀ v (c .parts) (c .definitions) out after n (x .tree)) where
-      blank : Blank w₀ (partCount (pass .ready .tree))
+    module _ {w w₀ : List ℕ} (size : length w ≡ scriptWords) (m : ℕ) (enough : partsAt + c .parts * rowSize ≤ m) (zeros : Front m (λ o. 0) w w₀) {v : List ℕ} {out after : List (List ℕ)} {n : ℕ} (h : (x : Ready s) → Filled w₀ v (c .parts) (c .definitions) out after n (treeIn x)) where
+      blank : Blank w₀ (partCount (treeIn (pass .ready)))
       blank = rw parts-now at (front-blank m (c .parts) w w₀ size enough zeros)
 
       rest-now : m ≤ partsAt + c .parts * rowSize → (o : ℕ) → partsAt + c .parts * rowSize ≤ o → word v o ≡ word w o
-      rest-now l o b = beyond-now h .same o (omega (arith, parts-now, some-parts (pass .ready .tree) (pass .ready .well))) ∙ zeros .rest o (omega arith)
+      rest-now l o b = beyond-now h .same o (omega (arith, parts-now, some-parts (treeIn (pass .ready)) (pass .ready .well))) ∙ zeros .rest o (omega arith)
 
       long-now : length v ≡ length w
       long-now = beyond-now h .size ∙ zeros .size
 
-      now-script : v ≡ scriptOf w₀ (pass .ready .tree)
+      now-script : v ≡ scriptOf w₀ (treeIn (pass .ready))
       now-script = script-is (pass .ready) blank parts-now defs-now (h (pass .ready))
 
       pub may-ask : (word v 0 ≤ 4_096) × (word v 3 ≤ 32)
       may-ask =
-          let a = ap (λ x. word x 0) now-script ∙ parts-kept w₀ (pass .ready .tree) blank in
-          let b = ap (λ x. word x 3) now-script ∙ defs-kept w₀ (pass .ready .tree) blank in
+          let a = ap (λ x. word x 0) now-script ∙ parts-kept w₀ (treeIn (pass .ready)) blank in
+          let b = ap (λ x. word x 3) now-script ∙ defs-kept w₀ (treeIn (pass .ready)) blank in
           let f = pass .ready .within .parts in
           let g = pass .ready .within .definitions in
           (omega arith, omega arith)
 
       module _ (a : ℕ) (f : a ≡ asked v) where
-        asked-is : a ≡ asked (scriptOf w₀ (pass .ready .tree))
+        asked-is : a ≡ asked (scriptOf w₀ (treeIn (pass .ready)))
         asked-is = f ∙ ap asked now-script
 
         module _ (wide : length out ≡ 256) (fewest : m ≤ partsAt + c .parts * rowSize) where
@@ -412,7 +408,7 @@ Among (refused n) = (0 < n) × (n < 8)
 Among (accepted m) = Unit {0}
 
 pub among : (s : List ℕ) → Among (read s)
-unfolding read form
+unfolding read askedOf form
 among s = go (short s) (text (lex s))
   where
     tree : (t : Tree) (a b c d f : Bool) → Among (ask 3 a >> (ask 4 b >> (ask 5 c >> (ask 6 d >> (ask 7 f >> accepted (networkOf t))))))
@@ -423,7 +419,7 @@ among s = go (short s) (text (lex s))
     tree t true true true true false = (omega arith, omega arith)
     tree t true true true true true = tt
 
-    go : (y : Bool) (x : Rest Tree) → Among (ask 1 y >> (whole x >>= λ t. ask 3 (shallow t) >> (ask 4 (fits t) >> (ask 5 (definedOnce (t .defs)) >> (ask 6 (callsMet t) >> (ask 7 (bound t) >> accepted (networkOf t)))))))
+    go : (y : Bool) (x : Rest Text) → Among (ask 1 y >> (whole x >>= λ x. askedOf (settled x)))
     go false x = (omega arith, omega arith)
     go true bad = (omega arith, omega arith)
-    go true (ok t us) = tree t (shallow t) (fits t) (definedOnce (t .defs)) (callsMet t) (bound t)
+    go true (ok x us) = let t = settled x in tree t (shallow t) (fits t) (definedOnce (t .defs)) (callsMet t) (bound t)

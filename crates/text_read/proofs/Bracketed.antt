@@ -3,16 +3,16 @@
 use Prim.Native.Nat.{ℕ, suc, _+_, _-_, _≤_, _<_}
 use native.Mathlib.Omega.{arith}
 use mathlib.Core.Bool.{true, false, false≢true}
-use mathlib.Core.List.{List, [], _∷_, _++_, append-assoc, append-nil}
+use mathlib.Core.List.{List, [], _∷_, _++_, map, append-assoc, append-nil}
 use mathlib.Core.Path.{_≡_, refl, sym, ap, _∙_}
 use lib.ListN.{length, drop}
 use Rattle.terms.specs.Names.{Name}
-use Rattle.terms.specs.Terms.{Process}
-use Rattle.terms.specs.Terms.Process.{one, _∥_}
 use Rattle.text.specs.Tokens.{Token, lex, left, right, bar, dot}
 use Rattle.text.specs.Tokens.Token.{word, sign}
-use Rattle.text.specs.Tree.{Located}
-use Rattle.text.specs.Tree.Located.{at}
+use Rattle.text.specs.Syntax.{Process, Located}
+use Rattle.text.specs.Syntax.Process.{one, _∥_}
+use Rattle.text.specs.Syntax.Located.{at}
+use Rattle.text.specs.Tree.{settle, settleP, settleAt}
 use Rattle.text.specs.Grammar.{the, next}
 use Rattle.text.specs.Write.{joinedT, processT, locatedT}
 use Rattle.text.specs.WellFormed.{Each, WellProcess, WellLocated}
@@ -49,7 +49,7 @@ module _ {s : List ℕ} {o : ℕ} (x : ProcessAt s o) {w u : List ℕ} {i l : �
   unfolding partSpots processT
   outer-last z {v} e = record { placed = process-last x h b c z e; gathered = go₁ (x .what) (x .well) (x .is) }
     where
-      go₁ : (p : Process) → WellProcess p → lex (drop o s) ≡ processT p (x .left) → Spread out out′ n m (partSpots l p i)
+      go₁ : (p : Process) → WellProcess (settleP p) → lex (drop o s) ≡ processT p (x .left) → Spread out out′ n m (partSpots l (settleP p) i)
       go₁ (one a) f k = g
       go₁ (a ∥ p) f k =
           let y = h (record { what = a; left = sign bar ∷ processT p (x .left); is = k; well = f .0; over = refl }) in
@@ -60,15 +60,15 @@ module _ {s : List ℕ} {o : ℕ} (x : ProcessAt s o) {w u : List ℕ} {i l : �
   unfolding partSpots processT
   outer-more z j q {u′} {out″} {r′} h′ {v} e = record { placed = process-more x h b c z j q (λ y. h′ y .placed) e; gathered = go₁ (x .what) (x .well) (x .is) }
     where
-      go₁ : (p : Process) → WellProcess p → lex (drop o s) ≡ processT p (x .left) → Spread out out″ n (r′ .n) (partSpots l p i)
+      go₁ : (p : Process) → WellProcess (settleP p) → lex (drop o s) ≡ processT p (x .left) → Spread out out″ n (r′ .n) (partSpots l (settleP p) i)
       go₁ (one a) f k =
           let y = h (record { what = a; left = x .left; is = k; well = f; over = x .over }) in
           absurd (false≢true (sym (x .last) ∙ ap (next bar) (sym (y .left)) ∙ sign-next s b bar (lex (drop (r .end) s)) c z))
       go₁ (a ∥ p) f k =
           let y = h (record { what = a; left = sign bar ∷ processT p (x .left); is = k; well = f .0; over = refl }) in
           let y′ = h′ (record { what = p; left = x .left; is = peel-sign s b bar (y .left) c; well = f .1; over = x .over; last = x .last }) in
-          let t = size-some a in
-          let d : j ≡ i - size a = q ∙ ap (λ n. n - 1) (y .low) ∙ omega arith in
+          let t = size-some (settle a) in
+          let d : j ≡ i - size (settle a) = q ∙ ap (λ n. n - 1) (y .low) ∙ omega arith in
           spread-then few g (rw d at (y′ .gathered))
 
 -- ── a located process ──
@@ -95,11 +95,11 @@ module _ {s : List ℕ} {o : ℕ} (x : LocatedAt s o) where
       unfolding putLocated locNumber enterLoc body-at
       located-put e f q g =
           let y = h body-at in
-          let t = sizeP-some (x .body) in
+          let t = sizeP-some (settleP (x .body)) in
           let k : l ≡ numberIn w locsAt (heldIn w 1) (keyName (keyOf (x .name))) = d .place ∙ ap (λ z. numberIn w locsAt (heldIn w 1) (keyName z)) (a .key) in
           record {
             left-is = peel-sign s e right (y .placed .left) f;
-            script = y .placed .after ∙ ap (put (x .body) i noScope) (d .after ∙ ap (enlist w locsAt 1) (a .key));
+            script = y .placed .after ∙ ap (put (settleP (x .body)) i noScope) (d .after ∙ ap (enlist w locsAt 1) (a .key));
             place = g ∙ ap (λ z. z - 1) (y .placed .low) ∙ omega arith;
             gathered = rw k at (y .gathered);
           }
@@ -107,9 +107,9 @@ module _ {s : List ℕ} {o : ℕ} (x : LocatedAt s o) where
 -- ── all of them ──
 pub record Going (s : List ℕ) (o here : ℕ) (w v : List ℕ) (i j : ℕ) (out after : List (List ℕ)) (n : ℕ) (x : NetworkAt s o) : Type 0 where
   pub rest : NetworkAt s here
-  pub script : brackets (x .first ∷ x .more) i w ≡ brackets (rest .first ∷ rest .more) j v
+  pub script : brackets (map settleAt (x .first ∷ x .more)) i w ≡ brackets (map settleAt (rest .first ∷ rest .more)) j v
   pub done : List (List ℕ)
-  pub spotted : spots (x .first ∷ x .more) i w ≡ done ++ spots (rest .first ∷ rest .more) j v
+  pub spotted : spots (map settleAt (x .first ∷ x .more)) i w ≡ done ++ spots (map settleAt (rest .first ∷ rest .more)) j v
   pub gathered : Spread out after 0 n done
 
 pub network-first : (s : List ℕ) (o : ℕ) (w : List ℕ) (i : ℕ) (out : List (List ℕ)) (x : NetworkAt s o) → Going s o o w w i i out out 0 x
@@ -149,15 +149,15 @@ module _ {s : List ℕ} {o here : ℕ} {w v : List ℕ} {i j : ℕ} {out after :
     put-first = h going-at
 
     here-spots : List (List ℕ)
-    here-spots = partSpots (locNumber v (nameOf (g .rest .first))) (bodyOf (g .rest .first)) j
+    here-spots = partSpots (locNumber v (nameOf (g .rest .first))) (settleP (bodyOf (g .rest .first))) j
 
-    first-script : (ys : List Located) → brackets (g .rest .first ∷ ys) j v ≡ brackets ys (r .low) v′
+    first-script : (ys : List Located) → brackets (map settleAt (g .rest .first ∷ ys)) j v ≡ brackets (map settleAt ys) (r .low) v′
     unfolding brackets
-    first-script ys = ap (λ y. brackets (y ∷ ys) j v) (at-is (g .rest .first)) ∙ rw (put-first .script, put-first .place)
+    first-script ys = ap (λ y. brackets (map settleAt (y ∷ ys)) j v) (at-is (g .rest .first)) ∙ rw (put-first .script, put-first .place)
 
-    first-spots : (ys : List Located) → spots (g .rest .first ∷ ys) j v ≡ here-spots ++ spots ys (r .low) v′
+    first-spots : (ys : List Located) → spots (map settleAt (g .rest .first ∷ ys)) j v ≡ here-spots ++ spots (map settleAt ys) (r .low) v′
     unfolding spots here-spots
-    first-spots ys = ap (λ y. spots (y ∷ ys) j v) (at-is (g .rest .first)) ∙ rw (put-first .script, put-first .place)
+    first-spots ys = ap (λ y. spots (map settleAt (y ∷ ys)) j v) (at-is (g .rest .first)) ∙ rw (put-first .script, put-first .place)
 
     gathered-now : Spread out after′ 0 (r .n) (g .done ++ here-spots)
     unfolding here-spots
@@ -172,8 +172,8 @@ module _ {s : List ℕ} {o here : ℕ} {w v : List ℕ} {i j : ℕ} {out after :
       where
         go₁ : (ys : List Located) → g .rest .more ≡ ys → NetworkPut w v′ i out after′ (r .n) (x .first ∷ x .more)
         go₁ [] q = record {
-          script = sym (g .script ∙ ap (λ ys. brackets (g .rest .first ∷ ys) j v) q ∙ first-script []);
-          gathered = rw (g .spotted ∙ ap (λ ys. g .done ++ spots (g .rest .first ∷ ys) j v) q ∙ ap (λ z. g .done ++ z) (first-spots [] ∙ append-nil here-spots)) gathered-now;
+          script = sym (g .script ∙ ap (λ ys. brackets (map settleAt (g .rest .first ∷ ys)) j v) q ∙ first-script []);
+          gathered = rw (g .spotted ∙ ap (λ ys. g .done ++ spots (map settleAt (g .rest .first ∷ ys)) j v) q ∙ ap (λ z. g .done ++ z) (first-spots [] ∙ append-nil here-spots)) gathered-now;
         }
         go₁ (y ∷ ys) q = absurd (peel-some s b bar (put-first .left-is ∙ ap behind q) c z)
 
@@ -182,13 +182,13 @@ module _ {s : List ℕ} {o here : ℕ} {w v : List ℕ} {i j : ℕ} {out after :
       unfolding behind
       going-on = go₁ (g .rest .more) refl (g .rest .well .1)
         where
-          go₁ : (ys : List Located) → g .rest .more ≡ ys → Each WellLocated (g .rest .more) → Going s o b w v′ i (r .low) out after′ (r .n) x
+          go₁ : (ys : List Located) → g .rest .more ≡ ys → Each WellLocated (map settleAt (g .rest .more)) → Going s o b w v′ i (r .low) out after′ (r .n) x
           go₁ [] q l = absurd (false≢true (ap (next bar) (sym (put-first .left-is ∙ ap behind q)) ∙ sign-next s b bar (lex (drop (r .end) s)) c z))
           go₁ (y ∷ ys) q l = record {
             rest = record { first = y; more = ys; is = peel-sign s b bar (put-first .left-is ∙ ap behind q) c; well = rw q at l };
-            script = g .script ∙ ap (λ ys. brackets (g .rest .first ∷ ys) j v) q ∙ first-script (y ∷ ys);
+            script = g .script ∙ ap (λ ys. brackets (map settleAt (g .rest .first ∷ ys)) j v) q ∙ first-script (y ∷ ys);
             done = g .done ++ here-spots;
-            spotted = g .spotted ∙ ap (λ ys. g .done ++ spots (g .rest .first ∷ ys) j v) q ∙ ap (λ z. g .done ++ z) (first-spots (y ∷ ys)) ∙ sym (append-assoc (g .done) here-spots (spots (y ∷ ys) (r .low) v′));
+            spotted = g .spotted ∙ ap (λ ys. g .done ++ spots (map settleAt (g .rest .first ∷ ys)) j v) q ∙ ap (λ z. g .done ++ z) (first-spots (y ∷ ys)) ∙ sym (append-assoc (g .done) here-spots (spots (map settleAt (y ∷ ys)) (r .low) v′));
             gathered = gathered-now;
           }
 

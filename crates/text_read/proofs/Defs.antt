@@ -3,21 +3,22 @@
 use Prim.Native.Nat.{ℕ, zero, suc, _+_, _-_, _*_, _≤_, _<_, min}
 use native.Mathlib.Omega.{arith}
 use mathlib.Core.Bool.{Bool, true, false, cond, false≢true}
-use mathlib.Core.List.{List, [], _∷_}
+use mathlib.Core.List.{List, [], _∷_, map}
 use mathlib.Core.Path.{_≡_, refl, sym, ap, _∙_}
 use borrow.Author.Tests.{lt-ltb, le-ltb}
 use lib.Dec.{ltb}
 use lib.ListN.{length, drop, set}
 use lib.Seq.{sets}
 use Rattle.terms.specs.Names.{Name}
-use Rattle.terms.specs.Terms.{Part, Process, Def}
-use Rattle.terms.specs.Terms.Part.{stop, go, out, inp, call}
-use Rattle.terms.specs.Terms.Process.{one, _∥_}
-use Rattle.terms.specs.Terms.Def.{define}
 use Rattle.terms.specs.Letters.{isSmall}
 use Rattle.text.specs.Tokens.{Token, lex, opens, closes, left, comma, bar, dot, equals}
 use Rattle.text.specs.Tokens.Token.{word, sign}
-use Rattle.text.specs.Tree.{Located}
+use Rattle.text.specs.Syntax.{Part, Process, Def, Located}
+use Rattle.text.specs.Syntax.Part.{stop, go, out, inp, call}
+use Rattle.text.specs.Syntax.Process.{one, _∥_}
+use Rattle.text.specs.Syntax.Def.{define}
+use Rattle.text.specs.Syntax.Located.{at as placed}
+use Rattle.text.specs.Tree.{settle, settleP, settleDef, settleAt}
 use Rattle.text.specs.Grammar.{Rest, the, next, named, listOf, process, netNext}
 use Rattle.text.specs.Grammar.Rest.{ok, bad}
 use Rattle.text.specs.Write.{nameT, joinedT, listT, processT, networkT, textT}
@@ -37,7 +38,7 @@ use Rattle.text_parts.specs.declared.Size.{Size}
 use Rattle.text.proofs.Exact.{clash}
 use Rattle.text_parts.proofs.Rests.{ended-is}
 use Rattle.table.specs.declared.Key.{Key}
-use Rattle.table.specs.Words.{rowSize, nameAt}
+use Rattle.table.specs.Words.{rowSize, nameAt, defsAt, firstParam, nameSize}
 use Rattle.table.specs.Tests.{keyName}
 use Rattle.table.specs.Valid.{index}
 use Rattle.table.specs.Size.{size, sizeP}
@@ -54,21 +55,20 @@ use Rattle.text_put.specs.Opened.{ProcessAt, ProcessPut}
 use Rattle.text_put.proofs.Peeling.{ended-ok, peel-sign, peel-some, sign-next}
 use Rattle.text_tree.specs.Pass.{putParams, putHead, heads, noScope, enterAt, paramsFrom, afterBodies}
 use Rattle.text_read.specs.declared.Passed.{Passed}
-use Rattle.text_read.specs.Ready.{Ready, DefAt, NamesAt, ParamsAt, HeadPut, BodyPut, bodiesBy, BodiesPut}
-use Rattle.text.specs.Tree.Located.{at as placed}
+use Rattle.text_read.specs.Ready.{Ready, treeIn, DefAt, NamesAt, ParamsAt, HeadPut, BodyPut, bodiesBy, BodiesPut}
 
 -- ── numbers that the first pass gives ──
 mutual
   unfolding partCount processCount size sizeP
 
-  part-size : (a : Part) → partCount a .parts ≡ size a
+  part-size : (a : Part) → partCount a .parts ≡ size (settle a)
   part-size stop = refl
   part-size (go t v p) = let e = process-size p in omega arith
   part-size (out c t v p q) = let e = process-size p in let f = process-size q in omega arith
   part-size (inp c t y p q) = let e = process-size p in let f = process-size q in omega arith
   part-size (call d vs) = refl
 
-  pub process-size : (p : Process) → processCount p .parts ≡ sizeP p
+  pub process-size : (p : Process) → processCount p .parts ≡ sizeP (settleP p)
   process-size (one a) = part-size a
   process-size (a ∥ p) = let e = part-size a in let f = process-size p in omega arith
 
@@ -77,7 +77,7 @@ mapped-inv f (ok a vs) {b} {us} e k = let j : vs ≡ us = cc in k a (ap (ok a) j
 mapped-inv f bad e k = clash e
 
 -- a process that is skipped: where it ends, and how many parts it has
-module _ (s : List ℕ) (at : ℕ) (r : Size) (p : Process) (us : List Token) (well : WellProcess p) (over : next opens us ≡ false) (last : next bar us ≡ false) (is : lex (drop at s) ≡ processT p us)
+module _ (s : List ℕ) (at : ℕ) (r : Size) (p : Process) (us : List Token) (well : WellProcess (settleP p)) (over : next opens us ≡ false) (last : next bar us ≡ false) (is : lex (drop at s) ≡ processT p us)
     (e : sized s r ≡ mapped capped (processCounts (lex (drop at s)))) where
   skip-is : sized s r ≡ ok (capped (processCount p)) us
   unfolding processCounts
@@ -87,7 +87,7 @@ module _ (s : List ℕ) (at : ℕ) (r : Size) (p : Process) (us : List Token) (w
   unfolding sized
   skip-left = mapped-inv (λ u. countOf r) (ended s (r .end)) skip-is (λ a g h. ended-ok s (r .end) g)
 
-  pub skip-parts : r .parts ≡ min (sizeP p) 4_097
+  pub skip-parts : r .parts ≡ min (sizeP (settleP p)) 4_097
   unfolding sized
   skip-parts = mapped-inv (λ u. countOf r) (ended s (r .end)) skip-is (λ a g h. ap (λ x. x .parts) h ∙ ap (λ n. min n 4_097) (process-size p))
 
@@ -129,9 +129,9 @@ module _ {s : List ℕ} {at here j : ℕ} {w v : List ℕ} {k : ℕ} {x : NamesA
   going-few = let h = g .rest .few in omega arith
 
   -- the first was read and written
-  module _ (r : Named) (a : NameIs s r (g .rest .first) (behind (g .rest .more) (g .rest .left))) {v′ : List ℕ} (b : v′ ≡ sets v (14 + k * rowSize + j * 4) (keyWords (r .key))) (e : ℕ) (c : ended s e ≡ the comma (lex (drop (r .end) s))) where
-    written : v′ ≡ sets v (14 + k * rowSize + j * 4) (keyWords (keyOf (g .rest .first)))
-    written = b ∙ ap (λ x. sets v (14 + k * rowSize + j * 4) (keyWords x)) (a .key)
+  module _ (r : Named) (a : NameIs s r (g .rest .first) (behind (g .rest .more) (g .rest .left))) {v′ : List ℕ} (b : v′ ≡ sets v (firstParam + k * rowSize + j * nameSize) (keyWords (r .key))) (e : ℕ) (c : ended s e ≡ the comma (lex (drop (r .end) s))) where
+    written : v′ ≡ sets v (firstParam + k * rowSize + j * nameSize) (keyWords (keyOf (g .rest .first)))
+    written = b ∙ ap (λ x. sets v (firstParam + k * rowSize + j * nameSize) (keyWords x)) (a .key)
 
     pub going-end : e ≡ 0 → v′ ≡ putParams w k 0 (x .first ∷ x .more)
     unfolding behind putParams
@@ -211,7 +211,7 @@ enter-few w sc o m h = go₁ (ltb (index (scopeNames w (offsets sc)) (nameAt w o
     go₁ true = omega arith
     go₁ false = omega arith
 
-pub scope-on : (w : List ℕ) (k n j : ℕ) (sc : Scope) → j < n → paramsFrom w k (j + 1) (n - (j + 1)) (enterAt w sc (14 + k * rowSize + j * 4)) ≡ paramsFrom w k j (n - j) sc
+pub scope-on : (w : List ℕ) (k n j : ℕ) (sc : Scope) → j < n → paramsFrom w k (j + 1) (n - (j + 1)) (enterAt w sc (firstParam + k * rowSize + j * nameSize)) ≡ paramsFrom w k j (n - j) sc
 unfolding paramsFrom
 scope-on w k n j sc h = let e : n - j ≡ suc (n - (j + 1)) = omega arith in rw e
 
@@ -226,7 +226,7 @@ params-grow : (w : List ℕ) (k n m : ℕ) (sc : Scope) → paramsFrom w k m n s
 unfolding paramsFrom
 params-grow w k zero m sc = omega arith
 params-grow w k (suc n) m sc =
-    let o = 14 + k * rowSize + m * 4 in
+    let o = firstParam + k * rowSize + m * nameSize in
     let h = params-grow w k n (m + 1) (enterAt w sc o) in
     let g = enter-few w sc o (sc .n) (omega arith) in
     omega arith
@@ -261,7 +261,7 @@ module _ {s : List ℕ} {at : ℕ} (x : DefAt s at) where
         body-at = record { what = x .body; left = sign dot ∷ x .left; is = peel-sign s e equals body-left c; well = x .well .2; over = refl; last = refl }
 
         -- the body is skipped
-        pub head-put : {w u v : List ℕ} (k i : ℕ) → u ≡ sets w (8 + k * rowSize) (n .count ∷ i ∷ keyWords (r .key)) → v ≡ putParams u k 0 (x .params) → (p : Size) → sized s p ≡ mapped capped (processCounts (lex (drop e s)))
+        pub head-put : {w u v : List ℕ} (k i : ℕ) → u ≡ sets w (defsAt + k * rowSize) (n .count ∷ i ∷ keyWords (r .key)) → v ≡ putParams u k 0 (x .params) → (p : Size) → sized s p ≡ mapped capped (processCounts (lex (drop e s)))
             → (d : ℕ) → ended s d ≡ the dot (lex (drop (p .end) s)) → (q : ℕ) → i < 4_096 → q ≡ i - p .parts → HeadPut s w v k i (record { end = d; place = q }) (x .name) (x .params) (x .body) (x .left)
         unfolding putHead body-at
         head-put {w} {u} {v} k i f g p h d j q small l =
@@ -269,7 +269,7 @@ module _ {s : List ℕ} {at : ℕ} (x : DefAt s at) where
             let m = skip-parts s e p (x .body) (sign dot ∷ x .left) (x .well .2) refl refl (y .is) h in
             record {
               left-is = peel-sign s d dot (skip-left s e p (x .body) (sign dot ∷ x .left) (x .well .2) refl refl (y .is) h) j;
-              after = g ∙ ap (λ z. putParams z k 0 (x .params)) (f ∙ ap (λ z. sets w (8 + k * rowSize) (z ∷ i ∷ keyWords (r .key))) param-count ∙ ap (λ z. sets w (8 + k * rowSize) (length (x .params) ∷ i ∷ keyWords z)) (a .key));
+              after = g ∙ ap (λ z. putParams z k 0 (x .params)) (f ∙ ap (λ z. sets w (defsAt + k * rowSize) (z ∷ i ∷ keyWords (r .key))) param-count ∙ ap (λ z. sets w (defsAt + k * rowSize) (length (x .params) ∷ i ∷ keyWords z)) (a .key));
               place = l ∙ omega arith;
             }
 
@@ -279,10 +279,10 @@ module _ {s : List ℕ} {at : ℕ} (x : DefAt s at) where
         unfolding body-at
         body-put {w} {v} k i sc f p h d j q l =
             let y = h body-at in
-            let m = sizeP-some (x .body) in
+            let m = sizeP-some (settleP (x .body)) in
             record {
               left-is = peel-sign s d dot (y .left) j;
-              after = y .after ∙ ap (λ z. put (x .body) i z w) (f ∙ ap (λ z. paramsFrom w k 0 z noScope) param-count);
+              after = y .after ∙ ap (λ z. put (settleP (x .body)) i z w) (f ∙ ap (λ z. paramsFrom w k 0 z noScope) param-count);
               place = l ∙ ap (λ z. z - 1) (y .low) ∙ omega arith;
             }
 
@@ -294,13 +294,13 @@ module _ {s : List ℕ} {at : ℕ} (x : DefAt s at) where
 pub record DefsAt (s : List ℕ) (here k : ℕ) (ls : List Located) : Type 0 where
   pub rest : List Def
   pub is : lex (drop here s) ≡ textT rest ls
-  pub well : Each WellDef rest
-  pub few : k + length rest ≤ 32
-  pub narrow : most (λ d. length (params d)) rest ≤ 4
+  pub well : Each WellDef (map settleDef rest)
+  pub few : k + length (map settleDef rest) ≤ 32
+  pub narrow : most (λ d. length (params d)) (map settleDef rest) ≤ 4
 
-pub defs-first : {s : List ℕ} (x : Ready s) → DefsAt s 0 0 (x .tree .located)
+pub defs-first : {s : List ℕ} (x : Ready s) → DefsAt s 0 0 (x .text .located)
 unfolding definitionCount parameterCount
-defs-first x = record { rest = x .tree .defs; is = x .is; well = x .well .defs-well; few = let h = x .within .definitions in omega arith; narrow = x .within .parameters }
+defs-first x = record { rest = x .text .defs; is = x .is; well = x .well .defs-well; few = let h = x .within .definitions in omega arith; narrow = x .within .parameters }
 
 module _ {s : List ℕ} {here k : ℕ} {ls : List Located} (g : DefsAt s here k ls) where
   -- a definition is next
@@ -316,16 +316,16 @@ module _ {s : List ℕ} {here k : ℕ} {ls : List Located} (g : DefsAt s here k 
     pub body-is : def .body ≡ body
     pub left-is : def .left ≡ textT more ls
 
-  pub turn : netNext (lex (drop here s)) ≡ false → NonEmpty ls → Turn
+  pub turn : netNext (lex (drop here s)) ≡ false → NonEmpty (map settleAt ls) → Turn
   unfolding textT networkT joinedT most
   turn e n = go₁ (g .rest) refl (g .is) (g .well) (g .narrow)
     where
-      network : (ls : List Located) → NonEmpty ls → netNext (networkT ls) ≡ true
+      network : (ls : List Located) → NonEmpty (map settleAt ls) → netNext (networkT ls) ≡ true
       network [] n = absurd n
       network (placed l p ∷ []) n = refl
       network (placed l p ∷ m ∷ ls) n = refl
 
-      go₁ : (ds : List Def) → g .rest ≡ ds → lex (drop here s) ≡ textT ds ls → Each WellDef ds → most (λ d. length (params d)) ds ≤ 4 → Turn
+      go₁ : (ds : List Def) → g .rest ≡ ds → lex (drop here s) ≡ textT ds ls → Each WellDef (map settleDef ds) → most (λ d. length (params d)) (map settleDef ds) ≤ 4 → Turn
       go₁ [] q i w m = absurd (false≢true (sym e ∙ ap netNext i ∙ network ls n))
       go₁ (define x us p ∷ ds) q i w m = record {
         name = x;
@@ -354,15 +354,15 @@ module _ {s : List ℕ} {here k : ℕ} {ls : List Located} (g : DefsAt s here k 
       go₁ (define x us p ∷ ds) i = absurd (false≢true (sym (ap netNext i ∙ list-next us (processT p (sign dot ∷ textT ds ls))) ∙ e))
 
   pub number-small : Turn → k < 32
-  number-small t = let f = g .few in let h = ap length (t .this) in omega arith
+  number-small t = let f = g .few in let h = ap (λ ds. length (map settleDef ds)) (t .this) in omega arith
 
   module _ (t : Turn) (e : ℕ) (h : lex (drop e s) ≡ t .def .left) where
     pub defs-on : DefsAt s e (k + 1) ls
     unfolding most
     defs-on =
         let f = g .few in
-        let l = ap length (t .this) in
-        let m = ap (most (λ d. length (params d))) (t .this) in
+        let l = ap (λ ds. length (map settleDef ds)) (t .this) in
+        let m = ap (λ ds. most (λ d. length (params d)) (map settleDef ds)) (t .this) in
         let n = g .narrow in
         record { rest = t .more; is = h ∙ t .left-is; well = (rw (t .this) at (g .well)) .1; few = omega arith; narrow = omega arith }
 
@@ -371,50 +371,50 @@ module _ {s : List ℕ} {here k : ℕ} {ls : List Located} (g : DefsAt s here k 
 
 -- ── heads ──
 pub record HeadsGoing (s : List ℕ) (here k j : ℕ) (w v : List ℕ) (i : ℕ) (x : Ready s) : Type 0 where
-  pub defs : DefsAt s here k (x .tree .located)
-  pub writes : heads (x .tree .defs) 0 i w ≡ heads (defs .rest) k j v
+  pub defs : DefsAt s here k (x .text .located)
+  pub writes : heads (treeIn x .defs) 0 i w ≡ heads (map settleDef (defs .rest)) k j v
 
 pub heads-first : {s : List ℕ} (w : List ℕ) (i : ℕ) (x : Ready s) → HeadsGoing s 0 0 i w w i x
 unfolding defs-first
 heads-first w i x = record { defs = defs-first x; writes = refl }
 
 module _ {s : List ℕ} {here k j : ℕ} {w v : List ℕ} {i : ℕ} {x : Ready s} (g : HeadsGoing s here k j w v i x) where
-  pub heads-end : netNext (lex (drop here s)) ≡ true → v ≡ heads (x .tree .defs) 0 i w
+  pub heads-end : netNext (lex (drop here s)) ≡ true → v ≡ heads (treeIn x .defs) 0 i w
   unfolding heads
-  heads-end e = sym (g .writes ∙ ap (λ ds. heads ds k j v) (over (g .defs) e))
+  heads-end e = sym (g .writes ∙ ap (λ ds. heads (map settleDef ds) k j v) (over (g .defs) e))
 
   pub heads-on : (t : Turn (g .defs)) (r : Passed) {v′ : List ℕ} → HeadPut s v v′ k j r (t .def .name) (t .def .params) (t .def .body) (t .def .left) → HeadsGoing s (r .end) (k + 1) (r .place) w v′ i x
   unfolding heads defs-on
   heads-on t r h = record {
     defs = defs-on (g .defs) t (r .end) (h .left-is);
-    writes = g .writes ∙ ap (λ ds. heads ds k j v) (t .this) ∙ rw (h .after, h .place, t .name-is, t .params-is, t .body-is);
+    writes = g .writes ∙ ap (λ ds. heads (map settleDef ds) k j v) (t .this) ∙ rw (h .after, h .place, t .name-is, t .params-is, t .body-is);
   }
 
 -- ── bodies ──
 pub record BodiesGoing (s : List ℕ) (here k j : ℕ) (w v : List ℕ) (i : ℕ) (x : Ready s) : Type 0 where
-  pub defs : DefsAt s here k (x .tree .located)
-  pub writes : bodiesBy (x .tree .defs) 0 i w ≡ bodiesBy (defs .rest) k j v
-  pub place : afterBodies (x .tree .defs) i ≡ afterBodies (defs .rest) j
+  pub defs : DefsAt s here k (x .text .located)
+  pub writes : bodiesBy (treeIn x .defs) 0 i w ≡ bodiesBy (map settleDef (defs .rest)) k j v
+  pub place : afterBodies (treeIn x .defs) i ≡ afterBodies (map settleDef (defs .rest)) j
 
 pub bodies-first : {s : List ℕ} (w : List ℕ) (i : ℕ) (x : Ready s) → BodiesGoing s 0 0 i w w i x
 unfolding defs-first
 bodies-first w i x = record { defs = defs-first x; writes = refl; place = refl }
 
 module _ {s : List ℕ} {here k j : ℕ} {w v : List ℕ} {i : ℕ} {x : Ready s} (g : BodiesGoing s here k j w v i x) where
-  pub bodies-end : netNext (lex (drop here s)) ≡ true → BodiesPut s w v i (record { end = here; place = j }) (x .tree)
+  pub bodies-end : netNext (lex (drop here s)) ≡ true → BodiesPut s w v i (record { end = here; place = j }) (x .text)
   unfolding bodiesBy afterBodies textT
   bodies-end e =
       let o = over (g .defs) e in
       record {
-        left-is = g .defs .is ∙ ap (λ ds. textT ds (x .tree .located)) o;
-        after = sym (g .writes ∙ ap (λ ds. bodiesBy ds k j v) o);
-        place = sym (g .place ∙ ap (λ ds. afterBodies ds j) o);
+        left-is = g .defs .is ∙ ap (λ ds. textT ds (x .text .located)) o;
+        after = sym (g .writes ∙ ap (λ ds. bodiesBy (map settleDef ds) k j v) o);
+        place = sym (g .place ∙ ap (λ ds. afterBodies (map settleDef ds) j) o);
       }
 
   pub bodies-on : (t : Turn (g .defs)) (r : Passed) {v′ : List ℕ} → BodyPut s v v′ k j r (t .def .params) (t .def .body) (t .def .left) → BodiesGoing s (r .end) (k + 1) (r .place) w v′ i x
   unfolding bodiesBy afterBodies defs-on
   bodies-on t r h = record {
     defs = defs-on (g .defs) t (r .end) (h .left-is);
-    writes = g .writes ∙ ap (λ ds. bodiesBy ds k j v) (t .this) ∙ rw (h .after, h .place, t .params-is, t .body-is);
-    place = g .place ∙ ap (λ ds. afterBodies ds j) (t .this) ∙ rw (h .place, t .body-is);
+    writes = g .writes ∙ ap (λ ds. bodiesBy (map settleDef ds) k j v) (t .this) ∙ rw (h .after, h .place, t .params-is, t .body-is);
+    place = g .place ∙ ap (λ ds. afterBodies (map settleDef ds) j) (t .this) ∙ rw (h .place, t .body-is);
   }

@@ -10,12 +10,13 @@ use Rattle.terms.specs.Names.{Name}
 use Rattle.terms.specs.Terms.{Network}
 use Rattle.terms.specs.Rules.{Answer}
 use Rattle.terms.specs.Rules.Answer.{refused, accepted}
-use Rattle.text.specs.Tree.{Tree}
+use Rattle.text.specs.Syntax.{Text}
+use Rattle.text.specs.Tree.{settled}
 use Rattle.text.specs.Questions.{form, channels, locations, read, partCount}
 use Rattle.text_scan.specs.declared.Scanned.{Scanned}
 use Rattle.table.specs.declared.State.{State}
-use Rattle.table.specs.Words.{compSize, rowSize, partsAt, scriptWords, stateWords, word, partsIn}
-use Rattle.table.specs.Meaning.{compsOf, networkOf}
+use Rattle.table.specs.Words.{rowSize, partsAt, scriptWords, stateWords, word, partsIn}
+use Rattle.table.specs.Meaning.{PastKept, compsOf, networkOf}
 use Rattle.table.specs.Valid.{valid}
 use Rattle.text_build.specs.Rows.{locsOf, chansOf}
 use Rattle.text_tree.specs.Asked.{roomy, apart, callsHeld, allBound, compOf}
@@ -23,11 +24,11 @@ use Rattle.text_read.specs.declared.Entry.{Entry}
 use Rattle.text_read.specs.declared.Reading.{Reading}
 
 -- ── components ──
--- the components at the places xs, and no others; the words past those in use are zero
+-- the components at the places xs, and no others; every other word is zero
 pub record StateIs (w : List ℕ) (xs : List (List ℕ)) (st : State) : Type 0 where
   pub count : st .n ≡ length xs
   pub comps : compsOf st ≡ map (compOf w) xs
-  pub past : (k : ℕ) → st .n * compSize ≤ k → word (st .c) k ≡ 0
+  pub past : PastKept (st .n) (replicate stateWords 0) (st .c)
 
 -- ── questions: 0, or the number of the first that is answered by no ──
 -- 1 to 3, and 4 as far as the scan knows it
@@ -47,22 +48,22 @@ abbrev pub refusal : ℕ → Reading
 refusal n = record { code = n; state = record { c = replicate stateWords 0; n = 0 } }
 
 -- the locations and channels of a text that has a form, numbered by first place
-abbrev pub locationsIn : Answer Tree → List Name
+abbrev pub locationsIn : Answer Text → List Name
 locationsIn (refused n) = []
-locationsIn (accepted t) = locations t
+locationsIn (accepted x) = locations (settled x)
 
-abbrev pub channelsIn : Answer Tree → List Name
+abbrev pub channelsIn : Answer Text → List Name
 channelsIn (refused n) = []
-channelsIn (accepted t) = channels t
+channelsIn (accepted x) = channels (settled x)
 
 -- how many parts it has
-abbrev pub partsOf : Answer Tree → ℕ
+abbrev pub partsOf : Answer Text → ℕ
 partsOf (refused n) = 0
-partsOf (accepted t) = partCount t
+partsOf (accepted x) = partCount (settled x)
 
 -- an accepted text s: the script v and the components stand for the network m, pass question 17, have the text's numbers, and as many rows as it has parts.
--- The words of the script behind the row of the last part are those of the script w before the call, and the words of the state past the components are zero:
--- only the places in use are free.
+-- The words of the script behind the row of the last part are those of the script w before the call, and the words of the state that are no component's are
+-- zero: only the places in use are free.
 pub record Took (s w v : List ℕ) (m : Network) (r : Reading) : Type 0 where
   pub code : r .code ≡ 0
   pub network : networkOf v (r .state) ≡ m
@@ -72,7 +73,7 @@ pub record Took (s w v : List ℕ) (m : Network) (r : Reading) : Type 0 where
   pub parts : partsIn v ≡ partsOf (form s)
   pub size : length v ≡ scriptWords
   pub behind : (o : ℕ) → partsAt + partsIn v * rowSize ≤ o → word v o ≡ word w o
-  pub past : (k : ℕ) → r .state .n * compSize ≤ k → word (r .state .c) k ≡ 0
+  pub past : PastKept (r .state .n) (replicate stateWords 0) (r .state .c)
 
 -- the code's answer r for the text s, and the lent script before and after, w and v, stand for the answer of the definition; a refusal leaves the script u
 abbrev pub readsAs : List ℕ → Answer Network → List ℕ → List ℕ → List ℕ → Reading → Type 0

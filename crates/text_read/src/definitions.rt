@@ -5,12 +5,17 @@ ghost use mathlib.Core.Path.{_≡_};
 ghost use lib.Seq.{sets};
 ghost use Rattle.text_build.specs.Tables.{keyWords};
 ghost use Rattle.text_tree.specs.Pass.{putParams, heads, noScope, enterAt, paramsFrom};
-ghost use Rattle.text_read.specs.Ready.{Ready, DefAt, NamesAt, ParamsAt, HeadPut, BodyPut, BodiesPut};
-ghost use Rattle.table.specs.Words.{rowSize};
+ghost use Rattle.text_read.specs.Ready.{Ready, treeIn, DefAt, NamesAt, ParamsAt, HeadPut, BodyPut, BodiesPut};
+ghost use Rattle.table.specs.Words.{rowSize, defsAt};
 use super::Passed;
+use table::DEFINITIONS;
+use table::FIRST_PARAM;
 use table::Key;
+use table::NAME_FIELD;
+use table::NAME_SIZE;
 use table::ROW_SIZE;
 use table::Script;
+use table::TIMER_FIELD;
 use text_build::Scope;
 use text_build::put_key;
 use text_put::parts::put_process;
@@ -31,11 +36,11 @@ pub fn less(i: usize, n: usize) -> usize
 // Number of parameters, place of the body and identifier of the definition k.
 fn put_front(w: &mut Script, k: usize, n: u32, i: u32, x: Key)
     requires { ⌜ k < 32 ⌝ }
-    ensures { λ r. ⌜ now (w .exit) ≡ sets (now (w .entry)) (8 + k * rowSize) (n ∷ i ∷ keyWords x) ⌝ }
+    ensures { λ r. ⌜ now (w .exit) ≡ sets (now (w .entry)) (defsAt + k * rowSize) (n ∷ i ∷ keyWords x) ⌝ }
 {
-    w[8 + k * ROW_SIZE] = n;
-    w[8 + k * ROW_SIZE + 1] = i;
-    put_key(w, 8 + k * ROW_SIZE + 2, x);
+    w[DEFINITIONS + k * ROW_SIZE] = n;
+    w[DEFINITIONS + k * ROW_SIZE + NAME_FIELD] = i;
+    put_key(w, DEFINITIONS + k * ROW_SIZE + TIMER_FIELD, x);
 }
 
 // The parameters of the definition k, from the first on.
@@ -48,7 +53,7 @@ fn params_from(s: &[u8], at: usize, w: &mut Script, k: usize)
     loop {
         let x = name_at(s, here);
         let y = x.key;
-        put_key(w, 14 + k * ROW_SIZE + j * 4, y);
+        put_key(w, FIRST_PARAM + k * ROW_SIZE + j * NAME_SIZE, y);
         let b = text_words::eat(s, x.end, b',');
         if b == 0 {
             return;
@@ -112,7 +117,7 @@ fn params_scope(w: &Script, k: usize, n: usize) -> Scope
     let mut sc = Scope { n: 0, at: [0; 8] };
     let mut j = 0;
     while j < n {
-        sc = entered(w, sc, 14 + k * ROW_SIZE + j * 4);
+        sc = entered(w, sc, FIRST_PARAM + k * ROW_SIZE + j * NAME_SIZE);
         j += 1;
     }
     sc
@@ -138,7 +143,7 @@ fn put_body(s: &[u8], at: usize, w: &mut Script, k: usize, i: usize) -> Passed
 // The heads of all definitions, the body of the first at i.
 pub(crate) fn put_heads(s: &[u8], w: &mut Script, i: usize)
     requires { ⌜ (i < 4096) × Ready (now s) ⌝ }
-    ensures { λ r. ⌜ ((x : Ready (now (s .entry))) → now (w .exit) ≡ heads (x .tree .defs) 0 i (now (w .entry))) ⌝ }
+    ensures { λ r. ⌜ ((x : Ready (now (s .entry))) → now (w .exit) ≡ heads (treeIn x .defs) 0 i (now (w .entry))) ⌝ }
 {
     let mut here = 0;
     let mut k = 0;
@@ -154,7 +159,7 @@ pub(crate) fn put_heads(s: &[u8], w: &mut Script, i: usize)
 // The bodies of all definitions: where the network begins, and the place of its first part.
 pub(crate) fn put_bodies(s: &[u8], w: &mut Script, i: usize) -> Passed
     requires { ⌜ (i < 4096) × Ready (now s) ⌝ }
-    ensures { λ r. ⌜ ((x : Ready (now (s .entry))) → BodiesPut (now (s .entry)) (now (w .entry)) (now (w .exit)) i r (x .tree)) ⌝ }
+    ensures { λ r. ⌜ ((x : Ready (now (s .entry))) → BodiesPut (now (s .entry)) (now (w .entry)) (now (w .exit)) i r (x .text)) ⌝ }
 {
     let mut here = 0;
     let mut k = 0;

@@ -16,7 +16,8 @@
 // proofs/Defs       definitions, one after the other
 // proofs/Spreading  places gathered in an array
 // proofs/Bracketed  located processes, one after the other
-// proofs/States     components made from their places, and zeros past them
+// proofs/States     components made from their places
+// proofs/Keeping    what each write of the passes keeps, all of them keep
 // proofs/Quiet      what the passes leave as it was below the rows
 // proofs/Beyond     and behind the last row
 // proofs/Kept       a script set to zero, and one put back
@@ -26,7 +27,7 @@ ghost use Prim.Native.Nat.{_+_, _*_, _≤_};
 ghost use lib.ListN.{length};
 ghost use Rattle.table.specs.Words.{rowSize, partsAt, partsIn, defsIn};
 ghost use Rattle.text_scan.specs.Answers.{scanOf};
-ghost use Rattle.text_read.specs.Ready.{Ready, Filled};
+ghost use Rattle.text_read.specs.Ready.{Ready, treeIn, Filled};
 ghost use Rattle.text_read.specs.Answer.{limits, asked, refusal, Entered, Tried, ReadsAs, ReadsOver};
 use definitions::less;
 use definitions::put_bodies;
@@ -40,8 +41,8 @@ use network::put_network;
 use state::accept;
 use state::no_state;
 use table::PARTS;
+use table::PARTS_END;
 use table::ROW_SIZE;
-use table::SCRIPT_WORDS;
 use table::Script;
 
 mod definitions;
@@ -126,7 +127,7 @@ fn asked(w: &Script) -> u32
 // The three passes over a text, into a script with zeros up to the last row: how many components there are.
 fn fill(s: &[u8], parts: usize, defs: usize, w: &mut Script, out: &mut [[u32; 2]]) -> usize
     requires { ⌜ (parts ≤ 4096) × (defs ≤ 32) × Ready (now s) ⌝ }
-    ensures { λ r. ⌜ ((x : Ready (now (s .entry))) → Filled (now (w .entry)) (now (w .exit)) parts defs (now (out .entry)) (now (out .exit)) r (x .tree)) ⌝ }
+    ensures { λ r. ⌜ ((x : Ready (now (s .entry))) → Filled (now (w .entry)) (now (w .exit)) parts defs (now (out .entry)) (now (out .exit)) r (treeIn x)) ⌝ }
 {
     w[0] = parts as u32;
     w[3] = defs as u32;
@@ -194,7 +195,7 @@ fn enter_many(text: &[u8], c: text_scan::Scanned, w: &mut Script, out: &mut [[u3
     requires { ⌜ (c ≡ scanOf (now text)) × (limits c ≡ 0) × (length (now out) ≡ 256) ⌝ }
     ensures { λ r. ⌜ Tried (now (text .entry)) (now (w .entry)) (now (w .exit)) (now (out .exit)) r ⌝ }
 {
-    let mut kept = [0u32; SCRIPT_WORDS];
+    let mut kept = [0u32; PARTS_END];
     enter_kept(text, c, w, out, &mut kept)
 }
 

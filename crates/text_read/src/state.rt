@@ -13,13 +13,14 @@ use table::ROW_SIZE;
 use table::STATE_WORDS;
 use table::Script;
 use table::State;
+use table::TIMER_FIELD;
 use table::comps::put_comp;
 
 // The component at the place i and the location l: unmarked, with the timer of its part.
 fn comp_of(w: &Script, l: u32, i: u32) -> Comp
     ensures { λ r. ⌜ r ≡ compOf (now (w .entry)) (l ∷ i ∷ []) ⌝ }
 {
-    let t = table::words::word(w, PARTS + table::words::wide(i) * ROW_SIZE + 2);
+    let t = table::words::word(w, PARTS + table::words::wide(i) * ROW_SIZE + TIMER_FIELD);
     Comp {
         loc: l,
         mark: 64,

@@ -11,7 +11,8 @@ use lib.ListN.{length}
 use Rattle.terms.specs.Rules.{Answer, ok as passes}
 use Rattle.terms.specs.Rules.Answer.{refused, accepted}
 use Rattle.text.specs.Tokens.{Token, lex}
-use Rattle.text.specs.Tree.{Tree}
+use Rattle.text.specs.Syntax.{Text}
+use Rattle.text.specs.Tree.{Tree, settled}
 use Rattle.text.specs.Grammar.{Rest, text}
 use Rattle.text.specs.Grammar.Rest.{ok, bad}
 use Rattle.text.specs.Questions.{form, whole, short, shallow, fits, nesting, definitionCount, parameterCount, partCount, componentCount, channels, locations, scopeSize}
@@ -40,7 +41,7 @@ module _ (s : List ℕ) where
       unfolding textCounts form
       scan-none z = sym (scan-short ∙ go (text (lex s)) (sym (totaled-bad s t z) ∙ e))
         where
-          go : (x : Rest Tree) → bad ≡ mapped cappedT (mapped treeTotals x) → scanned (whole x) ≡ unreadScan true
+          go : (x : Rest Text) → bad ≡ mapped cappedT (mapped treeTotals x) → scanned (whole x) ≡ unreadScan true
           go (ok r us) g = clash g
           go bad g = refl
 
@@ -48,10 +49,10 @@ module _ (s : List ℕ) where
       unfolding textCounts form
       scan-some n = sym (scan-short ∙ go (text (lex s)) (sym (totaled-ok s t n) ∙ e))
         where
-          go : (x : Rest Tree) {us : List Token} → ok (totalsOf t) us ≡ mapped cappedT (mapped treeTotals x) → scanned (whole x) ≡ record { short = true; form = true; nesting = t .nesting; definitions = t .definitions; parameters = t .parameters; parts = t .parts; components = t .components }
+          go : (x : Rest Text) {us : List Token} → ok (totalsOf t) us ≡ mapped cappedT (mapped treeTotals x) → scanned (whole x) ≡ record { short = true; form = true; nesting = t .nesting; definitions = t .definitions; parameters = t .parameters; parts = t .parts; components = t .components }
           go (ok r vs) g =
               let f : totalsOf t ≡ cappedT (treeTotals r) = cc in
-              let k : cappedT (numbers r) ≡ totalsOf t = sym (f ∙ ap cappedT (tree-numbers r)) in
+              let k : cappedT (numbers (settled r)) ≡ totalsOf t = sym (f ∙ ap cappedT (tree-numbers r)) in
               λ i. record { short = true; form = true; nesting = k i .nesting; definitions = k i .definitions; parameters = k i .parameters; parts = k i .parts; components = k i .components }
           go bad g = clash (sym g)
 
@@ -62,40 +63,3 @@ capped-within k n = go (leb n k) refl
     go : (y : Bool) → leb n k ≡ y → leb (min n (suc k)) k ≡ y
     go true e = let h = leb-true n k e in le-leb (min n (suc k)) k (omega arith)
     go false e = let h = leb-false n k e in lt-leb (min n (suc k)) k (omega arith)
-
-pub scan-1 : (s : List ℕ) → scanOf s .short ≡ short s
-unfolding scanOf
-scan-1 s = go (short s) (form s)
-  where
-    go : (y : Bool) (x : Answer Tree) → cond y (scanned x) (unreadScan false) .short ≡ y
-    go true (refused n) = refl
-    go true (accepted t) = refl
-    go false x = refl
-
-pub scan-2 : (s : List ℕ) → short s ≡ true → scanOf s .form ≡ passes (form s)
-unfolding scanOf
-scan-2 s e = rw e (go (form s))
-  where
-    go : (x : Answer Tree) → scanned x .form ≡ passes x
-    go (refused n) = refl
-    go (accepted t) = refl
-
-module _ (s : List ℕ) (t : Tree) (e : short s ≡ true) (g : form s ≡ accepted t) where
-  scan-of : scanOf s ≡ scanned (accepted t)
-  unfolding scanOf
-  scan-of = rw (e, g)
-
-  pub scan-3 : leb (scanOf s .nesting) 32 ≡ shallow t
-  unfolding shallow
-  scan-3 = ap (λ r. leb (r .nesting) 32) scan-of ∙ capped-within 32 (nesting t)
-
-  -- the limits that the scan does not know stand as they are
-  pub scan-4 : (leb (scanOf s .definitions) 32
-      && leb (scanOf s .parameters) 4
-      && leb (scanOf s .parts) 4_096
-      && leb (length (channels t)) 64
-      && leb (length (locations t)) 64
-      && leb (scanOf s .components) 256
-      && leb (scopeSize t) 8) ≡ fits t
-  unfolding fits
-  scan-4 = rw (scan-of, capped-within 32 (definitionCount t), capped-within 4 (parameterCount t), capped-within 4_096 (partCount t), capped-within 256 (componentCount t))

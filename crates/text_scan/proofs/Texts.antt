@@ -7,12 +7,12 @@ use mathlib.Core.List.{List, [], _∷_}
 use mathlib.Core.Path.{_≡_, refl, sym, ap, _∙_}
 use lib.ListN.{length, drop}
 use Rattle.terms.specs.Names.{Name}
-use Rattle.terms.specs.Terms.{Process, Def}
-use Rattle.terms.specs.Terms.Def.{define}
 use Rattle.terms.specs.Letters.{isSmall, isLocation, isIdentifier}
 use Rattle.text.specs.Tokens.{Token, lex, left, right, dot, bar, equals}
 use Rattle.text.specs.Tokens.Token.{word, sign}
-use Rattle.text.specs.Tree.{Located, Tree}
+use Rattle.text.specs.Syntax.{Process, Def, Located, Text}
+use Rattle.text.specs.Syntax.Def.{define}
+use Rattle.text.specs.Syntax.Located.{at as located-at}
 use Rattle.text.specs.Grammar.{Rest, bind, the, end, aWord, named, next, more, sepBy, listOf, process, aDef, aLocated, aNetwork, netNext, addDef, textForm, text, _>>_}
 use Rattle.text.specs.Grammar.Rest.{ok, bad}
 use Rattle.text.proofs.Unbounded.{Less, def-less, located-less, sepBy-is, text-is}
@@ -32,7 +32,6 @@ use Rattle.text_scan.specs.Totals.{Totals, noTotals, plus, ofBody, ofDef
 use Rattle.text_scan.specs.Counting.{bodyCounts, defCounts, locatedCounts, manyCounts, networkCounts, textCounts}
 use Rattle.text_scan.specs.Answers.{totalsOf, totaled, plusUpTo, plusTotals}
 use Rattle.text_scan.proofs.Places.{totals-same}
-use Rattle.text.specs.Tree.Located.{at as located-at}
 use Rattle.text_scan.specs.declared.Totals.{Totals as CodeTotals}
 
 -- ── numbers that stop ──
@@ -301,7 +300,7 @@ text-counts ts = ap (mapped treeTotals) (text-is ts) ∙ go (netNext ts)
     net (ok ls zs) = ap (λ n. ok n zs) (none-plus (sum ofLocated ls))
     net bad = refl
 
-    add : (d : Def) (x : Rest Tree) → mapped treeTotals (bind x (λ t zs. ok (addDef d t) zs)) ≡ mapped (plus (ofDef d)) (mapped treeTotals x)
+    add : (d : Def) (x : Rest Text) → mapped treeTotals (bind x (λ t zs. ok (addDef d t) zs)) ≡ mapped (plus (ofDef d)) (mapped treeTotals x)
     add d (ok t zs) = ap (λ n. ok n zs) (plus-assoc (ofDef d) (sum ofDef (t .defs)) (sum ofLocated (t .located)))
     add d bad = refl
 

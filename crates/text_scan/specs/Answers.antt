@@ -4,7 +4,8 @@ use mathlib.Core.Bool.{Bool, true, false, cond}
 use mathlib.Core.List.{List}
 use Rattle.terms.specs.Rules.{Answer}
 use Rattle.terms.specs.Rules.Answer.{refused, accepted}
-use Rattle.text.specs.Tree.{Tree}
+use Rattle.text.specs.Syntax.{Text}
+use Rattle.text.specs.Tree.{settled}
 use Rattle.text.specs.Grammar.{Rest}
 use Rattle.text.specs.Questions.{form, short, nesting, definitionCount, parameterCount, partCount, componentCount}
 use Rattle.text_words.specs.Bytes.{ended, mapped}
@@ -46,16 +47,16 @@ abbrev pub unreadScan : Bool → Scanned
 unreadScan short = record { short = short; form = false; nesting = 0; definitions = 0; parameters = 0; parts = 0; components = 0 }
 
 -- a text of the form: its numbers, each at most one past its limit
-abbrev pub scanned : Answer Tree → Scanned
+abbrev pub scanned : Answer Text → Scanned
 scanned (refused n) = unreadScan true
-scanned (accepted t) = record {
+scanned (accepted x) = record {
   short = true;
   form = true;
-  nesting = min (nesting t) 33;
-  definitions = min (definitionCount t) 33;
-  parameters = min (parameterCount t) 5;
-  parts = min (partCount t) 4097;
-  components = min (componentCount t) 257;
+  nesting = min (nesting (settled x)) 33;
+  definitions = min (definitionCount (settled x)) 33;
+  parameters = min (parameterCount (settled x)) 5;
+  parts = min (partCount (settled x)) 4097;
+  components = min (componentCount (settled x)) 257;
 }
 
 -- question 1, question 2, and the numbers

@@ -4,10 +4,9 @@
 use Prim.Native.Nat.{ℕ, _+_, min, max}
 use mathlib.Core.List.{List, [], _∷_}
 use lib.ListN.{length}
-use Rattle.terms.specs.Terms.{Def}
-use Rattle.terms.specs.Terms.Def.{define}
-use Rattle.text.specs.Tree.{Located, Tree}
-use Rattle.text.specs.Tree.Located.{at}
+use Rattle.text.specs.Syntax.{Def, Located, Text}
+use Rattle.text.specs.Syntax.Def.{define}
+use Rattle.text.specs.Syntax.Located.{at}
 use Rattle.text_parts.specs.Counts.{Count, processCount}
 
 pub record Totals : Type 0 where
@@ -47,8 +46,8 @@ unfoldable pub sum : {A : Type 0} → (A → Totals) → List A → Totals
 sum f [] = noTotals
 sum f (x ∷ xs) = plus (f x) (sum f xs)
 
-unfoldable pub treeTotals : Tree → Totals
-treeTotals t = plus (sum ofDef (t .defs)) (sum ofLocated (t .located))
+unfoldable pub treeTotals : Text → Totals
+treeTotals x = plus (sum ofDef (x .defs)) (sum ofLocated (x .located))
 
 abbrev pub cappedT : Totals → Totals
 cappedT x = record {

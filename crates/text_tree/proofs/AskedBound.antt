@@ -19,10 +19,10 @@ use Rattle.terms.proofs.Names.{and-inv, and-in}
 use Rattle.text.specs.Tree.{Tree}
 use Rattle.text.specs.Questions.{Place, params, most, parameterCount, isFor, callMet, callsMet, boundIn, boundAt, bound, places}
 use Rattle.table.specs.declared.Head.{Head}
-use Rattle.table.specs.Words.{locsIn, field, headAt, scopeAt, nameAt}
+use Rattle.table.specs.Words.{locsIn, field, headAt, scopeAt, nameAt, countField}
 use Rattle.table.specs.Valid.{index}
-use Rattle.table.proofs.ValidScopes.{any-length}
-use Rattle.text_build.specs.Rows.{Row, locsOf, scopeNames, valueWord, argWord, headOf, chanKnown}
+use Rattle.table.proofs.Rows.{any-length}
+use Rattle.text_build.specs.Rows.{Row, locsOf, scopeNames, valueWord, fourWords, headOf, chanKnown, ofCall, argsOf}
 use Rattle.text_build.specs.Growth.{locListed, valueListed, partListed, placeListed}
 use Rattle.text_build.proofs.Numbers.{member-index, args-in}
 use Rattle.text_tree.specs.Asked.{inScope, valuesBound, allBound}
@@ -52,9 +52,9 @@ few-met x vs (define y us p ∷ ds) m e = go (sameName x y && eqb (length us) (l
 
 module _ (w : List ℕ) (few : locsIn w ≤ 64) where
   -- how many names a row has in scope
-  row-count : (i n l : ℕ) (h : Head) (os : List ℕ) → Row w i h n l os → field w i 8 ≡ length (scopeNames w os)
-  row-count i n l h os r =
-      let e : length (scopeAt w i) ≡ field w i 8 = any-length w i ∙ rw (r .few) in
+  row-count : (i n l : ℕ) (h : Head) (xs os : List ℕ) → Row w i h xs n l os → field w i countField ≡ length (scopeNames w os)
+  row-count i n l h xs os r =
+      let e : length (scopeAt w i) ≡ field w i countField = any-length w i ∙ rw (r .few) in
       sym e ∙ ap length (r .scope) ∙ sym (length-map os (nameAt w))
 
   module _ (ys : List Name) where
@@ -70,7 +70,7 @@ module _ (w : List ℕ) (few : locsIn w ≤ 64) where
 
     -- the arguments of a call that a row holds
     args-bound : (vs : List Value) → length vs ≤ 4 → every (valueListed w) vs ≡ true
-        → every (boundIn ys) vs ≡ every (inScope (length ys)) (take (min (length vs) 5) (argWord w ys vs 0 ∷ argWord w ys vs 1 ∷ argWord w ys vs 2 ∷ argWord w ys vs 3 ∷ []))
+        → every (boundIn ys) vs ≡ every (inScope (length ys)) (take (min (length vs) 5) (fourWords w ys vs))
     args-bound vs n e =
         let m : min (length vs) 5 ≡ length vs = omega arith in
         values-bound vs e ∙ rw (m, args-in w ys vs n)
@@ -84,20 +84,20 @@ module _ (t : Tree) (w : List ℕ) (s : Whole t w) (m : parameterCount t ≤ 4) 
   abbrev met : Place → Bool
   met x = placeListed w x && callMet (t .defs) x
 
-  bound-agree : Agree w boundAt met (λ i. valuesBound (field w i 8) (headAt w i))
-  unfolding boundAt valuesBound headOf placeListed partListed callMet every parameterCount
+  bound-agree : Agree w boundAt met (λ i. valuesBound w i (field w i countField) (headAt w i))
+  unfolding boundAt valuesBound headOf argsOf ofCall placeListed partListed callMet every parameterCount
   bound-agree stop i n l d os h r = rw (r .head)
   bound-agree (go u v p) i n l d os h r =
-      rw (r .head, row-count w (s .making .locs) i n l _ os r) (one-bound w (s .making .locs) (scopeNames w os) v (and-inv (valueListed w v) _ h .0))
+      rw (r .head, row-count w (s .making .locs) i n l _ _ os r) (one-bound w (s .making .locs) (scopeNames w os) v (and-inv (valueListed w v) _ h .0))
   bound-agree (out c u v p q) i n l d os h r =
-      rw (r .head, row-count w (s .making .locs) i n l _ os r)
+      rw (r .head, row-count w (s .making .locs) i n l _ _ os r)
       (one-bound w (s .making .locs) (scopeNames w os) v (and-inv (chanKnown w c) _ (and-inv (chanKnown w c && valueListed w v) _ h .0) .1))
   bound-agree (inp c u y p q) i n l d os h r = rw (r .head)
   bound-agree (call x vs) i n l d os h r =
       let k = and-inv (every (valueListed w) vs) _ h in
-      rw (r .head, row-count w (s .making .locs) i n l _ os r)
+      rw (r .head, r .args, row-count w (s .making .locs) i n l _ _ os r)
       (args-bound w (s .making .locs) (scopeNames w os) vs (few-met x vs (t .defs) m (k .1)) (k .0))
 
   pub bound-is : callsMet t ≡ true → bound t ≡ allBound w
   unfolding callsMet bound allBound
-  bound-is e = places-rows w boundAt met (λ i. valuesBound (field w i 8) (headAt w i)) bound-agree t s (every-both (placeListed w) (callMet (t .defs)) (places t) (all-listed t w s) e)
+  bound-is e = places-rows w boundAt met (λ i. valuesBound w i (field w i countField) (headAt w i)) bound-agree t s (every-both (placeListed w) (callMet (t .defs)) (places t) (all-listed t w s) e)

@@ -14,7 +14,7 @@ use Rattle.terms.specs.Same.{every}
 use Rattle.text.specs.Questions.{Place, into, partPlaces, processPlaces}
 use Rattle.table.specs.Valid.{below}
 use Rattle.table.specs.Size.{size, sizeP}
-use Rattle.text_build.specs.Rows.{Row, Below, Stands, scopeNames, headOf, firstPlace, secondPlace, entering}
+use Rattle.text_build.specs.Rows.{Row, Below, Stands, scopeNames, headOf, firstPlace, secondPlace, entering, argsOf}
 use Rattle.text_build.proofs.Places.{PartFit, Fit, here, fit-first, fit-go, fit-out, fit-in, fit-par}
 use Rattle.text_build.proofs.Numbers.{names-entered}
 
@@ -68,14 +68,14 @@ mutual
 module _ (w : List ℕ) (f h : Place → Bool) (g : ℕ → Bool) where
   -- f and g agree at each place that passes h, and its row
   abbrev pub Agree : Type 0
-  Agree = (a : Part) (i n l d : ℕ) (os : List ℕ) → h (here h a d (scopeNames w os)) ≡ true → Row w i (headOf w i (scopeNames w os) a) n l os
+  Agree = (a : Part) (i n l d : ℕ) (os : List ℕ) → h (here h a d (scopeNames w os)) ≡ true → Row w i (headOf w i (scopeNames w os) a) (argsOf w (scopeNames w os) a) n l os
       → f (here f a d (scopeNames w os)) ≡ g i
 
   module _ (agree : Agree) where
     mutual
       unfolding partPlaces processPlaces size sizeP every down
 
-      part-rows : (a : Part) (i n l d : ℕ) (os : List ℕ) → Row w i (headOf w i (scopeNames w os) a) n l os → Below w a i os → PartFit h a d (scopeNames w os)
+      part-rows : (a : Part) (i n l d : ℕ) (os : List ℕ) → Row w i (headOf w i (scopeNames w os) a) (argsOf w (scopeNames w os) a) n l os → Below w a i os → PartFit h a d (scopeNames w os)
           → every f (partPlaces a d (scopeNames w os)) ≡ down g i (size a)
       part-rows stop i n l d os r b e = rw (agree stop i n l d os (fit-first h stop d _ e) r)
       part-rows (go t v p) i n l d os r b e =

@@ -19,10 +19,10 @@ use Rattle.text.specs.Tree.{Located, Tree}
 use Rattle.text.specs.Tree.Located.{at}
 use Rattle.text.specs.WellFormed.{Each, WellDef, WellLocated, WellTree}
 use Rattle.text.specs.Questions.{Place, firsts, partPlaces, processPlaces, defPlaces, locatedPlaces, places, locationsAt, channelsAt, locatedNames, channels, locations, most, definitionCount, parameterCount, partCount, componentCount, scopeSize, fits}
-use Rattle.table.specs.Words.{rowSize, partsAt, word, nameAt, locName, chanName, scopeAt}
+use Rattle.table.specs.Words.{rowSize, partsAt, word, nameAt, locName, chanName, scopeAt, countField}
 use Rattle.table.specs.Size.{size, sizeP}
 use Rattle.table.proofs.Tests.{length-listFrom, every-append}
-use Rattle.table.proofs.ValidScopes.{any-length, at-most}
+use Rattle.table.proofs.Rows.{any-length, at-most}
 use Rattle.text_build.specs.Rows.{Below, Stands, locsOf, chansOf, scopeNames, firstPlace, secondPlace, entering}
 use Rattle.text_build.specs.Growth.{Making}
 use Rattle.text_build.specs.Put.{offsets, enterLoc, put}
@@ -58,7 +58,7 @@ module _ (w : List ℕ) where
   row-few : (i : ℕ) (os : List ℕ) → scopeAt w i ≡ os → leb (length (scopeNames w os)) 8 ≡ true
   row-few i os e =
       let a : length (scopeNames w os) ≡ length (scopeAt w i) = length-map os (nameAt w) ∙ ap length (sym e) in
-      le-leb (length (scopeNames w os)) 8 (omega (arith, any-length w i, at-most (word w (partsAt + i * rowSize + 8))))
+      le-leb (length (scopeNames w os)) 8 (omega (arith, any-length w i, at-most (word w (partsAt + i * rowSize + countField))))
 
   mutual
     unfolding processPlaces partPlaces

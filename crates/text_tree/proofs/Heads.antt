@@ -12,7 +12,7 @@ use Rattle.terms.specs.Terms.Def.{define}
 use Rattle.terms.specs.Letters.{isSmall, isIdentifier}
 use Rattle.text.specs.WellFormed.{Is, Each, WellDef}
 use Rattle.text.specs.Questions.{params}
-use Rattle.table.specs.Words.{rowSize, locsAt, scriptWords, word, nameAt, arityOf, bodyOf, defName, paramsOf}
+use Rattle.table.specs.Words.{rowSize, locsAt, scriptWords, word, nameAt, arityOf, bodyOf, defName, paramsOf, bodiesAt, defsAt, firstParam, idsAt, nameSize}
 use Rattle.table.specs.Meaning.{listFrom}
 use Rattle.table.specs.Tests.{rowName}
 use Rattle.table.specs.Size.{sizeP}
@@ -34,31 +34,31 @@ name-same w v o e = rw (e o (omega arith) (omega arith), e (o + 1) (omega arith)
 params-long : (us : List Name) (w : List ℕ) (k j : ℕ) → length (putParams w k j us) ≡ length w
 unfolding putParams
 params-long [] w k j = refl
-params-long (u ∷ us) w k j = params-long us _ k (j + 1) ∙ length-sets w (14 + k * rowSize + j * 4) (keyWords (keyOf u))
+params-long (u ∷ us) w k j = params-long us _ k (j + 1) ∙ length-sets w (firstParam + k * rowSize + j * nameSize) (keyWords (keyOf u))
 
-params-under : (us : List Name) (w : List ℕ) (k j x : ℕ) → x < 14 + k * rowSize + j * 4 → word (putParams w k j us) x ≡ word w x
+params-under : (us : List Name) (w : List ℕ) (k j x : ℕ) → x < firstParam + k * rowSize + j * nameSize → word (putParams w k j us) x ≡ word w x
 unfolding putParams
 params-under [] w k j x h = refl
-params-under (u ∷ us) w k j x h = params-under us _ k (j + 1) x (omega arith) ∙ sets-under (keyWords (keyOf u)) w (14 + k * rowSize + j * 4) x h
+params-under (u ∷ us) w k j x h = params-under us _ k (j + 1) x (omega arith) ∙ sets-under (keyWords (keyOf u)) w (firstParam + k * rowSize + j * nameSize) x h
 
-params-past : (us : List Name) (w : List ℕ) (k j x : ℕ) → 14 + k * rowSize + (j + length us) * 4 ≤ x → word (putParams w k j us) x ≡ word w x
+params-past : (us : List Name) (w : List ℕ) (k j x : ℕ) → firstParam + k * rowSize + (j + length us) * nameSize ≤ x → word (putParams w k j us) x ≡ word w x
 unfolding putParams
 params-past [] w k j x h = refl
-params-past (u ∷ us) w k j x h = params-past us _ k (j + 1) x (omega arith) ∙ sets-past (keyWords (keyOf u)) w (14 + k * rowSize + j * 4) x (omega arith)
+params-past (u ∷ us) w k j x h = params-past us _ k (j + 1) x (omega arith) ∙ sets-past (keyWords (keyOf u)) w (firstParam + k * rowSize + j * nameSize) x (omega arith)
 
-params-written : (us : List Name) (w : List ℕ) (k j : ℕ) → 14 + k * rowSize + (j + length us) * 4 ≤ length w → Each (Is isSmall) us
-    → listFrom j (length us) (rowName (putParams w k j us) (14 + k * rowSize) 4) ≡ us
+params-written : (us : List Name) (w : List ℕ) (k j : ℕ) → firstParam + k * rowSize + (j + length us) * nameSize ≤ length w → Each (Is isSmall) us
+    → listFrom j (length us) (rowName (putParams w k j us) (firstParam + k * rowSize) 4) ≡ us
 unfolding putParams listFrom rowName
 params-written [] w k j h e = refl
 params-written (u ∷ us) w k j h e =
     let s : j + 1 ≡ suc j = omega arith in
-    let v : List ℕ = sets w (14 + k * rowSize + j * 4) (keyWords (keyOf u)) in
-    let a : nameAt (putParams v k (j + 1) us) (14 + k * rowSize + j * 4) ≡ u =
-    name-same v _ (14 + k * rowSize + j * 4) (λ x p q. params-under us v k (j + 1) x (omega arith))
-    ∙ name-written w (14 + k * rowSize + j * 4) (keyOf u) (omega arith) ∙ small-spelt u (e .0) in
-    let r : listFrom (j + 1) (length us) (rowName (putParams v k (j + 1) us) (14 + k * rowSize) 4) ≡ us =
-    params-written us v k (j + 1) (rw (length-sets w (14 + k * rowSize + j * 4) (keyWords (keyOf u))) (omega arith)) (e .1) in
-    rw (a) (ap (λ l. u ∷ l) (ap (λ n. listFrom n (length us) (rowName (putParams v k (j + 1) us) (14 + k * rowSize) 4)) (sym s) ∙ r))
+    let v : List ℕ = sets w (firstParam + k * rowSize + j * nameSize) (keyWords (keyOf u)) in
+    let a : nameAt (putParams v k (j + 1) us) (firstParam + k * rowSize + j * nameSize) ≡ u =
+    name-same v _ (firstParam + k * rowSize + j * nameSize) (λ x p q. params-under us v k (j + 1) x (omega arith))
+    ∙ name-written w (firstParam + k * rowSize + j * nameSize) (keyOf u) (omega arith) ∙ small-spelt u (e .0) in
+    let r : listFrom (j + 1) (length us) (rowName (putParams v k (j + 1) us) (firstParam + k * rowSize) 4) ≡ us =
+    params-written us v k (j + 1) (rw (length-sets w (firstParam + k * rowSize + j * nameSize) (keyWords (keyOf u))) (omega arith)) (e .1) in
+    rw (a) (ap (λ l. u ∷ l) (ap (λ n. listFrom n (length us) (rowName (putParams v k (j + 1) us) (firstParam + k * rowSize) 4)) (sym s) ∙ r))
 
 -- ── one head ──
 pub record HeadStands (w : List ℕ) (x : Name) (us : List Name) (k i : ℕ) : Type 0 where
@@ -69,19 +69,19 @@ pub record HeadStands (w : List ℕ) (x : Name) (us : List Name) (k i : ℕ) : T
 
 -- the words of the head k are the same
 abbrev pub SameHead : List ℕ → List ℕ → ℕ → Type 0
-SameHead w v k = (o : ℕ) → 8 + k * rowSize ≤ o → o < 32 + k * rowSize → word v o ≡ word w o
+SameHead w v k = (o : ℕ) → defsAt + k * rowSize ≤ o → o < 32 + k * rowSize → word v o ≡ word w o
 
 pub head-kept : (w v : List ℕ) (x : Name) (us : List Name) (k i : ℕ) → length us ≤ 4 → SameHead w v k → HeadStands w x us k i → HeadStands v x us k i
 unfolding defName arityOf bodyOf
 head-kept w v x us k i few e h =
-    let a : word v (8 + k * rowSize) ≡ word w (8 + k * rowSize) = e (8 + k * rowSize) (omega arith) (omega arith) in
+    let a : word v (defsAt + k * rowSize) ≡ word w (defsAt + k * rowSize) = e (defsAt + k * rowSize) (omega arith) (omega arith) in
     record {
-      name = name-same w v (10 + k * rowSize) (λ y p q. e y (omega arith) (omega arith)) ∙ h .name;
+      name = name-same w v (idsAt + k * rowSize) (λ y p q. e y (omega arith) (omega arith)) ∙ h .name;
       arity = a ∙ h .arity;
-      body = e (9 + k * rowSize) (omega arith) (omega arith) ∙ h .body;
+      body = e (bodiesAt + k * rowSize) (omega arith) (omega arith) ∙ h .body;
       params =
           params-names v k (length us) (sym (a ∙ h .arity)) few
-          ∙ names-same w v (14 + k * rowSize) (length us) (λ y p q. e y (omega arith) (omega arith))
+          ∙ names-same w v (firstParam + k * rowSize) (length us) (λ y p q. e y (omega arith) (omega arith))
           ∙ sym (params-names w k (length us) (sym (h .arity)) few) ∙ h .params;
     }
 
@@ -91,35 +91,35 @@ module _ (w : List ℕ) (k i : ℕ) (x : Name) (us : List Name) where
 
   head-long : length (putHead w k i x us) ≡ length w
   unfolding putHead
-  head-long = params-long us _ k 0 ∙ length-sets w (8 + k * rowSize) first-words
+  head-long = params-long us _ k 0 ∙ length-sets w (defsAt + k * rowSize) first-words
 
-  head-under : (o : ℕ) → o < 8 + k * rowSize → word (putHead w k i x us) o ≡ word w o
+  head-under : (o : ℕ) → o < defsAt + k * rowSize → word (putHead w k i x us) o ≡ word w o
   unfolding putHead
-  head-under o h = params-under us _ k 0 o (omega arith) ∙ sets-under first-words w (8 + k * rowSize) o h
+  head-under o h = params-under us _ k 0 o (omega arith) ∙ sets-under first-words w (defsAt + k * rowSize) o h
 
   head-past : length us ≤ 4 → (o : ℕ) → 32 + k * rowSize ≤ o → word (putHead w k i x us) o ≡ word w o
   unfolding putHead
-  head-past few o h = params-past us _ k 0 o (omega arith) ∙ sets-past first-words w (8 + k * rowSize) o (omega arith)
+  head-past few o h = params-past us _ k 0 o (omega arith) ∙ sets-past first-words w (defsAt + k * rowSize) o (omega arith)
 
   head-stands : length w ≡ scriptWords → k < 32 → length us ≤ 4 → Is isIdentifier x → Each (Is isSmall) us → HeadStands (putHead w k i x us) x us k i
   unfolding putHead defName arityOf bodyOf
   head-stands long h few e f =
-      let v : List ℕ = sets w (8 + k * rowSize) first-words in
-      let under : (o : ℕ) → o < 14 + k * rowSize → word (putParams v k 0 us) o ≡ word v o = λ o p. params-under us v k 0 o (omega arith) in
-      let c₀ : 8 + k * rowSize + 0 ≡ 8 + k * rowSize = omega arith in
-      let c₁ : 8 + k * rowSize + 1 ≡ 9 + k * rowSize = omega arith in
-      let a₀ : word v (8 + k * rowSize) ≡ length us = rw c₀ at (sets-in first-words w (8 + k * rowSize) 0 (omega arith) (omega arith)) in
-      let a₁ : word v (9 + k * rowSize) ≡ i = rw c₁ at (sets-in first-words w (8 + k * rowSize) 1 (omega arith) (omega arith)) in
-      let ar : word (putParams v k 0 us) (8 + k * rowSize) ≡ length us = under (8 + k * rowSize) (omega arith) ∙ a₀ in
-      let u : List ℕ = sets w (8 + k * rowSize) (length us ∷ i ∷ []) in
-      let two : sets u (10 + k * rowSize) (keyWords (keyOf x)) ≡ v = sets-append (length us ∷ i ∷ []) (keyWords (keyOf x)) w (8 + k * rowSize) (10 + k * rowSize) (omega arith) in
-      let long₂ : length u ≡ length w = length-sets w (8 + k * rowSize) (length us ∷ i ∷ []) in
-      let spelt : nameAt v (10 + k * rowSize) ≡ x = ap (λ l. nameAt l (10 + k * rowSize)) (sym two) ∙ name-written u (10 + k * rowSize) (keyOf x) (omega arith) ∙ id-spelt x e in
+      let v : List ℕ = sets w (defsAt + k * rowSize) first-words in
+      let under : (o : ℕ) → o < firstParam + k * rowSize → word (putParams v k 0 us) o ≡ word v o = λ o p. params-under us v k 0 o (omega arith) in
+      let c₀ : defsAt + k * rowSize + 0 ≡ defsAt + k * rowSize = omega arith in
+      let c₁ : defsAt + k * rowSize + 1 ≡ bodiesAt + k * rowSize = omega arith in
+      let a₀ : word v (defsAt + k * rowSize) ≡ length us = rw c₀ at (sets-in first-words w (defsAt + k * rowSize) 0 (omega arith) (omega arith)) in
+      let a₁ : word v (bodiesAt + k * rowSize) ≡ i = rw c₁ at (sets-in first-words w (defsAt + k * rowSize) 1 (omega arith) (omega arith)) in
+      let ar : word (putParams v k 0 us) (defsAt + k * rowSize) ≡ length us = under (defsAt + k * rowSize) (omega arith) ∙ a₀ in
+      let u : List ℕ = sets w (defsAt + k * rowSize) (length us ∷ i ∷ []) in
+      let two : sets u (idsAt + k * rowSize) (keyWords (keyOf x)) ≡ v = sets-append (length us ∷ i ∷ []) (keyWords (keyOf x)) w (defsAt + k * rowSize) (idsAt + k * rowSize) (omega arith) in
+      let long₂ : length u ≡ length w = length-sets w (defsAt + k * rowSize) (length us ∷ i ∷ []) in
+      let spelt : nameAt v (idsAt + k * rowSize) ≡ x = ap (λ l. nameAt l (idsAt + k * rowSize)) (sym two) ∙ name-written u (idsAt + k * rowSize) (keyOf x) (omega arith) ∙ id-spelt x e in
       record {
-        name = name-same v (putParams v k 0 us) (10 + k * rowSize) (λ o p q. under o (omega arith)) ∙ spelt;
+        name = name-same v (putParams v k 0 us) (idsAt + k * rowSize) (λ o p q. under o (omega arith)) ∙ spelt;
         arity = ar;
-        body = under (9 + k * rowSize) (omega arith) ∙ a₁;
-        params = params-names (putParams v k 0 us) k (length us) (sym ar) few ∙ params-written us v k 0 (rw (length-sets w (8 + k * rowSize) first-words) (omega arith)) f;
+        body = under (bodiesAt + k * rowSize) (omega arith) ∙ a₁;
+        params = params-names (putParams v k 0 us) k (length us) (sym ar) few ∙ params-written us v k 0 (rw (length-sets w (defsAt + k * rowSize) first-words) (omega arith)) f;
       }
 
 -- ── all heads ──
@@ -146,12 +146,12 @@ unfolding heads
 heads-long [] w k i = refl
 heads-long (define x us p ∷ ds) w k i = heads-long ds _ (k + 1) (i - sizeP p) ∙ head-long w k i x us
 
-pub heads-under : (ds : List Def) (w : List ℕ) (k i o : ℕ) → o < 8 + k * rowSize → word (heads ds k i w) o ≡ word w o
+pub heads-under : (ds : List Def) (w : List ℕ) (k i o : ℕ) → o < defsAt + k * rowSize → word (heads ds k i w) o ≡ word w o
 unfolding heads
 heads-under [] w k i o h = refl
 heads-under (define x us p ∷ ds) w k i o h = heads-under ds _ (k + 1) (i - sizeP p) o (omega arith) ∙ head-under w k i x us o h
 
-pub heads-past : (ds : List Def) (w : List ℕ) (k i o : ℕ) → FewParams ds → 8 + (k + length ds) * rowSize ≤ o → word (heads ds k i w) o ≡ word w o
+pub heads-past : (ds : List Def) (w : List ℕ) (k i o : ℕ) → FewParams ds → defsAt + (k + length ds) * rowSize ≤ o → word (heads ds k i w) o ≡ word w o
 unfolding heads
 heads-past [] w k i o few h = refl
 heads-past (define x us p ∷ ds) w k i o few h = heads-past ds _ (k + 1) (i - sizeP p) o (few .1) (omega arith) ∙ head-past w k i x us (few .0) o (omega arith)

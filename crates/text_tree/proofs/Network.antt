@@ -29,14 +29,14 @@ use Rattle.text.proofs.Gives.{some-comps, filled}
 use Rattle.table.specs.declared.Head.{Head}
 use Rattle.table.specs.declared.Head.the-variants.{Stop, Go, Out, In, Call}
 use Rattle.table.specs.declared.State.{State}
-use Rattle.table.specs.Words.{word, partsIn, locsIn, locName, field, headAt, nextAt, namesAt}
+use Rattle.table.specs.Words.{word, partsIn, locsIn, locName, field, headAt, nextAt, namesAt, firstField, kindField, nameField, secondField, timerField, valueField}
 use Rattle.table.specs.Meaning.{joined, processAt, partAt, withTimer, envAt, markOf, processOf, means, compsOf, netOf, networkOf}
 use Rattle.table.specs.Valid.{index, timerOk, markOk, compOk, stateOk, valid, scriptOk}
 use Rattle.table.specs.Size.{size, sizeP}
 use Rattle.table.proofs.Tests.{every-append}
 use Rattle.table.proofs.Places.{process-is}
 use Rattle.table.proofs.Fires.{map-append}
-use Rattle.text_build.specs.Rows.{Row, Stands, locsOf, headOf, chanKnown, partKnown, placeKnown}
+use Rattle.text_build.specs.Rows.{Row, Stands, locsOf, headOf, chanKnown, partKnown, placeKnown, argsOf}
 use Rattle.text_build.specs.Growth.{locListed}
 use Rattle.text_build.proofs.Numbers.{timer-is, loc-number}
 use Rattle.text_build.proofs.Places.{Fit, size-some, sizeP-some, every-split, fit-par}
@@ -67,14 +67,14 @@ timerOf d Stop = d
 timerOf d (Go t v p) = t
 timerOf d (Out c t v p q) = t
 timerOf d (In c t k p q) = t
-timerOf d (Call x n a₀ a₁ a₂ a₃) = d
+timerOf d (Call x n) = d
 
-head-timer : (w : List ℕ) (i : ℕ) → timerOf (field w i 2) (headAt w i) ≡ field w i 2
+head-timer : (w : List ℕ) (i : ℕ) → timerOf (field w i timerField) (headAt w i) ≡ field w i timerField
 unfolding headAt
-head-timer w i = go (eqb (field w i 0) 1) (eqb (field w i 0) 2) (eqb (field w i 0) 3) (eqb (field w i 0) 4)
+head-timer w i = go (eqb (field w i kindField) 1) (eqb (field w i kindField) 2) (eqb (field w i kindField) 3) (eqb (field w i kindField) 4)
   where
-    go : (a b c d : Bool) → timerOf (field w i 2) (cond a (Go (field w i 2) (field w i 3) (field w i 4)) (cond b (Out (field w i 1) (field w i 2) (field w i 3) (field w i 4) (field w i 5))
-        (cond c (In (field w i 1) (field w i 2) (field w i 3) (field w i 4) (field w i 5)) (cond d (Call (field w i 1) (field w i 3) (field w i 17) (field w i 18) (field w i 19) (field w i 20)) Stop)))) ≡ field w i 2
+    go : (a b c d : Bool) → timerOf (field w i timerField) (cond a (Go (field w i timerField) (field w i valueField) (field w i firstField)) (cond b (Out (field w i nameField) (field w i timerField) (field w i valueField) (field w i firstField) (field w i secondField))
+        (cond c (In (field w i nameField) (field w i timerField) (field w i valueField) (field w i firstField) (field w i secondField)) (cond d (Call (field w i nameField) (field w i valueField)) Stop)))) ≡ field w i timerField
     go true b c d = refl
     go false true c d = refl
     go false false true d = refl
@@ -95,12 +95,12 @@ module _ (w : List ℕ) (few : locsIn w ≤ 64) (good : scriptOk w ≡ true) (ti
   part-is p i s n h k =
       sym (first-joined (processAt w) (partAt w i) (nextAt w i)) ∙ ap first-of (sym (process-is w good i h)) ∙ ap first-of (process-means w few p i 1 [] s n k)
 
-  comp-means : (a : Part) (i j n l : ℕ) → partAt w i ≡ a → Row w i (headOf w i [] a) n l [] → partKnown w [] a ≡ true
+  comp-means : (a : Part) (i j n l : ℕ) → partAt w i ≡ a → Row w i (headOf w i [] a) (argsOf w [] a) n l [] → partKnown w [] a ≡ true
       → means w (compOf w (j ∷ i ∷ [])) ≡ comp (locName w j) none (one a)
   unfolding means compOf markOf processOf envAt namesAt
   comp-means a i j n l e r k =
-      let t : field w i 2 ≡ timerOf (field w i 2) (headOf w i [] a) = sym (head-timer w i) ∙ ap (timerOf (field w i 2)) (r .head) in
-      let m : withTimer (ticksOf (field w i 2)) a ≡ a = ap (λ x. withTimer (ticksOf x) a) t ∙ timer-kept w a i (field w i 2) [] k in
+      let t : field w i timerField ≡ timerOf (field w i timerField) (headOf w i [] a) = sym (head-timer w i) ∙ ap (timerOf (field w i timerField)) (r .head) in
+      let m : withTimer (ticksOf (field w i timerField)) a ≡ a = ap (λ x. withTimer (ticksOf x) a) t ∙ timer-kept w a i (field w i timerField) [] k in
       rw (r .scope, env-none (locName w 0 ∷ locName w 0 ∷ locName w 0 ∷ locName w 0 ∷ locName w 0 ∷ locName w 0 ∷ locName w 0 ∷ locName w 0 ∷ []), e, none-in a, m)
 
   -- the parts of a process at i, at the location of number j
@@ -119,7 +119,7 @@ module _ (w : List ℕ) (few : locsIn w ≤ 64) (good : scriptOk w ≡ true) (ti
     unfolding compOk compOf markOk timerOk every
     comp-ok i j a b =
         let z = lt-ltb 0 (locsIn w) some in
-        rw (lt-ltb j (locsIn w) a, lt-ltb i (partsIn w) b, le-leb (field w i 2) 1_000_001 (timely i b), z)
+        rw (lt-ltb j (locsIn w) a, lt-ltb i (partsIn w) b, le-leb (field w i timerField) 1_000_001 (timely i b), z)
 
     spots-ok : (p : Process) (i j : ℕ) → j < locsIn w → i < partsIn w → every (compOk w) (map (compOf w) (partSpots j p i)) ≡ true
     unfolding partSpots every

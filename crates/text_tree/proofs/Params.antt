@@ -15,7 +15,7 @@ use Rattle.terms.proofs.Names.{and-in}
 use Rattle.terms.specs.Letters.{member, distinct}
 use Rattle.text.specs.WellFormed.{Each}
 use Rattle.text.specs.Questions.{into, firsts}
-use Rattle.table.specs.Words.{rowSize, lastName, locsAt, word, nameAt, arityOf, paramsAt}
+use Rattle.table.specs.Words.{rowSize, lastName, locsAt, word, nameAt, arityOf, paramsAt, defsAt, firstParam, fourthParam, nameSize, secondParam, thirdParam}
 use Rattle.table.specs.Meaning.{listFrom}
 use Rattle.table.specs.Tests.{rowName}
 use Rattle.table.specs.Valid.{index}
@@ -110,53 +110,53 @@ module _ (w : List ℕ) (sc : Scope) (j : ℕ) (ys : List Name) (o : ℕ) (s : S
 -- ── all parameters ──
 module _ (w : List ℕ) (k : ℕ) (c : k < 32) where
   pub params-scoped : (m j : ℕ) (sc : Scope) (ys : List Name) → Scoped w sc j ys → j + m ≤ 4
-      → Scoped w (paramsFrom w k j m sc) (j + m) (firsts ys (listFrom j m (rowName w (14 + k * rowSize) 4)))
+      → Scoped w (paramsFrom w k j m sc) (j + m) (firsts ys (listFrom j m (rowName w (firstParam + k * rowSize) 4)))
   unfolding paramsFrom firsts listFrom rowName
   params-scoped zero j sc ys s h = let e : j + 0 ≡ j = omega arith in rw e s
   params-scoped (suc m) j sc ys s h =
       let e : j + 1 ≡ suc j = omega arith in
       let f : j + suc m ≡ suc j + m = omega arith in
-      rw (e, f) (params-scoped m (suc j) _ _ (enter-scoped w sc j ys (14 + k * rowSize + j * 4) s (omega arith) (omega arith) (omega arith)) (omega arith))
+      rw (e, f) (params-scoped m (suc j) _ _ (enter-scoped w sc j ys (firstParam + k * rowSize + j * nameSize) s (omega arith) (omega arith) (omega arith)) (omega arith))
 
   params-same : (v : List ℕ) → Between w v → (m j : ℕ) (sc : Scope) (ys : List Name) → Scoped w sc j ys → j + m ≤ 4 → paramsFrom v k j m sc ≡ paramsFrom w k j m sc
   unfolding paramsFrom
   params-same v e zero j sc ys s h = refl
   params-same v e (suc m) j sc ys s h =
       let q : j + 1 ≡ suc j = omega arith in
-      rw (enter-same w sc j ys (14 + k * rowSize + j * 4) s (omega arith) (omega arith) (omega arith) v e, q)
-      (params-same v e m (suc j) _ _ (enter-scoped w sc j ys (14 + k * rowSize + j * 4) s (omega arith) (omega arith) (omega arith)) (omega arith))
+      rw (enter-same w sc j ys (firstParam + k * rowSize + j * nameSize) s (omega arith) (omega arith) (omega arith) v e, q)
+      (params-same v e m (suc j) _ _ (enter-scoped w sc j ys (firstParam + k * rowSize + j * nameSize) s (omega arith) (omega arith) (omega arith)) (omega arith))
 
-  first-at : 14 + k * rowSize + 0 * 4 ≡ 14 + k * rowSize
+  first-at : firstParam + k * rowSize + 0 * nameSize ≡ firstParam + k * rowSize
   first-at = omega arith
 
-  second-at : 14 + k * rowSize + 1 * 4 ≡ 18 + k * rowSize
+  second-at : firstParam + k * rowSize + 1 * nameSize ≡ secondParam + k * rowSize
   second-at = omega arith
 
-  third-at : 14 + k * rowSize + 2 * 4 ≡ 22 + k * rowSize
+  third-at : firstParam + k * rowSize + 2 * nameSize ≡ thirdParam + k * rowSize
   third-at = omega arith
 
-  fourth-at : 14 + k * rowSize + 3 * 4 ≡ 26 + k * rowSize
+  fourth-at : firstParam + k * rowSize + 3 * nameSize ≡ fourthParam + k * rowSize
   fourth-at = omega arith
 
   -- different parameters: none is left out
   abbrev spread : ℕ → ℕ → List ℕ
-  spread j m = listFrom j m (λ q. 14 + k * rowSize + q * 4)
+  spread j m = listFrom j m (λ q. firstParam + k * rowSize + q * nameSize)
 
-  params-apart : (m j : ℕ) (sc : Scope) (ys : List Name) → Scoped w sc j ys → j + m ≤ 4 → distinct (ys ++ listFrom j m (rowName w (14 + k * rowSize) 4)) ≡ true
+  params-apart : (m j : ℕ) (sc : Scope) (ys : List Name) → Scoped w sc j ys → j + m ≤ 4 → distinct (ys ++ listFrom j m (rowName w (firstParam + k * rowSize) 4)) ≡ true
       → offsets (paramsFrom w k j m sc) ≡ offsets sc ++ spread j m
   unfolding paramsFrom listFrom rowName
   params-apart zero j sc ys s h e = sym (append-nil (offsets sc))
   params-apart (suc m) j sc ys s h e =
-      let o : ℕ = 14 + k * rowSize + j * 4 in
+      let o : ℕ = firstParam + k * rowSize + j * nameSize in
       let q : j + 1 ≡ suc j = omega arith in
       let n : member (nameAt w o) ys ≡ false = differ-none ys (nameAt w o) _ e in
       let i : into ys (nameAt w o) ≡ ys ++ (nameAt w o ∷ []) = rw n in
       let r = params-apart m (suc j) (enterAt w sc o) (into ys (nameAt w o)) (enter-scoped w sc j ys o s (omega arith) (omega arith) (omega arith)) (omega arith)
-      (rw (i, append-assoc ys (nameAt w o ∷ []) (listFrom (suc j) m (rowName w (14 + k * rowSize) 4))) e) in
+      (rw (i, append-assoc ys (nameAt w o ∷ []) (listFrom (suc j) m (rowName w (firstParam + k * rowSize) 4))) e) in
       ap (λ x. offsets (paramsFrom w k x m (enterAt w sc o))) q ∙ r
       ∙ ap (λ l. l ++ spread (suc j) m) (enter-new w sc j ys o s (omega arith) (omega arith) (omega arith) n) ∙ append-assoc (offsets sc) (o ∷ []) (spread (suc j) m)
 
-  spread-is : (a : ℕ) → a ≤ 4 → spread 0 a ≡ take a ((14 + k * rowSize) ∷ (18 + k * rowSize) ∷ (22 + k * rowSize) ∷ (26 + k * rowSize) ∷ [])
+  spread-is : (a : ℕ) → a ≤ 4 → spread 0 a ≡ take a ((firstParam + k * rowSize) ∷ (secondParam + k * rowSize) ∷ (thirdParam + k * rowSize) ∷ (fourthParam + k * rowSize) ∷ [])
   unfolding listFrom
   spread-is zero h = refl
   spread-is (suc zero) h = rw (first-at)
@@ -171,7 +171,7 @@ module _ (w : List ℕ) (x : Name) (us : List Name) (k i : ℕ) (c : k < 32) (fe
   unfolding paramScope
   param-scope =
       let s = params-scoped w k c (length us) 0 noScope [] (none-scoped w) (omega arith) in
-      let e : listFrom 0 (length us) (rowName w (14 + k * rowSize) 4) ≡ us = sym (params-names w k (length us) (sym (h .arity)) few) ∙ h .params in
+      let e : listFrom 0 (length us) (rowName w (firstParam + k * rowSize) 4) ≡ us = sym (params-names w k (length us) (sym (h .arity)) few) ∙ h .params in
       let q : 0 + length us ≡ length us = omega arith in
       let r : Scoped w (paramsFrom w k 0 (length us) noScope) (length us) (firsts [] us) = rw (e, q) at s in
       rw (h .arity) (record { few = let f = r .few in omega arith; slots = r .slots; among = r .among; names = r .names })
@@ -185,13 +185,13 @@ module _ (w : List ℕ) (x : Name) (us : List Name) (k i : ℕ) (c : k < 32) (fe
   pub param-same : (v : List ℕ) → Between w v → paramScope v k ≡ paramScope w k
   unfolding paramScope arityOf
   param-same v e =
-      let a : word w (8 + k * rowSize) ≡ length us = h .arity in
-      let b : word v (8 + k * rowSize) ≡ length us = e (8 + k * rowSize) (omega arith) (omega arith) ∙ a in
+      let a : word w (defsAt + k * rowSize) ≡ length us = h .arity in
+      let b : word v (defsAt + k * rowSize) ≡ length us = e (defsAt + k * rowSize) (omega arith) (omega arith) ∙ a in
       rw (a, b) (params-same w k c v e (length us) 0 noScope [] (none-scoped w) (omega arith))
 
   -- different parameters: the scope is where they stand
   pub param-offsets : distinct us ≡ true → offsets (paramScope w k) ≡ paramsAt w k
   unfolding paramScope paramsAt
   param-offsets d =
-      let e : listFrom 0 (length us) (rowName w (14 + k * rowSize) 4) ≡ us = sym (params-names w k (length us) (sym (h .arity)) few) ∙ h .params in
+      let e : listFrom 0 (length us) (rowName w (firstParam + k * rowSize) 4) ≡ us = sym (params-names w k (length us) (sym (h .arity)) few) ∙ h .params in
       rw (h .arity) (params-apart w k c (length us) 0 noScope [] (none-scoped w) (omega arith) (rw e d) ∙ spread-is w k c (length us) few)

@@ -11,7 +11,7 @@ use Rattle.terms.specs.Terms.Def.{define}
 use Rattle.text.specs.Tree.{Tree}
 use Rattle.text.specs.WellFormed.{WellTree}
 use Rattle.text.specs.Questions.{firsts, defPlaces, locatedPlaces, places, locatedNames, locationsAt, channelsAt, channels, locations, most, params, partCount, definitionCount, parameterCount}
-use Rattle.table.specs.Words.{rowSize, partsAt, scriptWords, word}
+use Rattle.table.specs.Words.{rowSize, partsAt, scriptWords, word, timerField}
 use Rattle.table.specs.Meaning.{listFrom}
 use Rattle.text_build.specs.Rows.{locsOf, chansOf}
 use Rattle.text_build.specs.Growth.{Making}
@@ -80,8 +80,8 @@ module _ (z : List ℕ) (t : Tree) (blank : Blank z (partCount t)) (l : Within t
   headed-timely : Timely (partCount t) headed
   headed-timely j b =
       let d : length (t .defs) ≤ 32 = headed-few in
-      let e = heads-past (t .defs) (started z t) 0 (top t) (partsAt + j * rowSize + 2) few (omega arith) in
-      let y = started-zero z t blank (partsAt + j * rowSize + 2) (λ e. omega arith) (λ e. omega arith) (omega arith) in
+      let e = heads-past (t .defs) (started z t) 0 (top t) (partsAt + j * rowSize + timerField) few (omega arith) in
+      let y = started-zero z t blank (partsAt + j * rowSize + timerField) (λ e. omega arith) (λ e. omega arith) (omega arith) in
       rw (e, y) (omega arith)
 
   pub headed-locs : locsOf headed ≡ []

@@ -18,7 +18,7 @@ use Rattle.terms.specs.Letters.{member, isLocation, isSmall}
 use Rattle.text.specs.WellFormed.{Is, Each, WellValue, WellPart}
 use Rattle.text.specs.Questions.{Place, into, firsts, locOf, processPlaces, locationsAt, channelsAt}
 use Rattle.table.specs.declared.Key.{Key}
-use Rattle.table.specs.Words.{chansAt, locsAt, word, nameAt, locName, chanName, boundAt}
+use Rattle.table.specs.Words.{chansAt, locsAt, word, nameAt, locName, chanName, boundAt, nameSize}
 use Rattle.table.specs.Tests.{keyName, rowName}
 use Rattle.table.specs.Valid.{index}
 use Rattle.table.proofs.Tests.{length-listFrom}
@@ -75,9 +75,9 @@ enlist-room w o c k a b few z h =
     rw e (go (ltb (index (names w o c) (keyName k)) (word w c)) m (ltb (word w c) 64) refl n)
   where
     go : (p : Bool) → member (keyName k) (names w o c) ≡ p → (q : Bool) → ltb (word w c) 64 ≡ q → length (names w o c) ≡ word w c
-        → word (cond p w (cond q (set (sets w (o + word w c * 4) (keyWords k)) c (word w c + 1)) (set w 4 1))) 4 ≡ 0
+        → word (cond p w (cond q (set (sets w (o + word w c * nameSize) (keyWords k)) c (word w c + 1)) (set w 4 1))) 4 ≡ 0
     go true m q e n = z
-    go false m true e n = set-out (sets w (o + word w c * 4) (keyWords k)) c 4 (word w c + 1) (λ r. omega arith) ∙ sets-under (keyWords k) w (o + word w c * 4) 4 (omega arith) ∙ z
+    go false m true e n = set-out (sets w (o + word w c * nameSize) (keyWords k)) c 4 (word w c + 1) (λ r. omega arith) ∙ sets-under (keyWords k) w (o + word w c * nameSize) 4 (omega arith) ∙ z
     go false m false e n =
         let l = ltb-false (word w c) 64 e in
         let x : length (names w o c ++ (keyName k ∷ [])) ≤ 64 = rw m at h in

@@ -17,7 +17,7 @@ use Rattle.terms.specs.Terms.Part.{stop, go, out, inp, call}
 use Rattle.terms.specs.Terms.Process.{one, _∥_}
 use Rattle.text.specs.WellFormed.{WellTimer, WellPart, WellProcess}
 use Rattle.table.specs.declared.Key.{Key}
-use Rattle.table.specs.Words.{rowSize, chansAt, locsAt, partsAt, word, field}
+use Rattle.table.specs.Words.{rowSize, chansAt, locsAt, partsAt, word, field, nameSize, kindField, timerField}
 use Rattle.table.specs.Tests.{keyName}
 use Rattle.table.specs.Size.{size, sizeP}
 use Rattle.text_build.specs.declared.Scope.{Scope}
@@ -38,11 +38,11 @@ enlist-high : (w : List ℕ) (o c : ℕ) (k : Key) → o + 256 ≤ partsAt → c
 unfolding enlist addKey
 enlist-high w o c k a b x h = go (ltb (numberIn w o (heldIn w c) (keyName k)) (heldIn w c)) (ltb (heldIn w c) 64) refl
   where
-    go : (p q : Bool) → ltb (heldIn w c) 64 ≡ q → word (cond p w (cond q (set (sets w (o + heldIn w c * 4) (keyWords k)) c (heldIn w c + 1)) (set w 4 1))) x ≡ word w x
+    go : (p q : Bool) → ltb (heldIn w c) 64 ≡ q → word (cond p w (cond q (set (sets w (o + heldIn w c * nameSize) (keyWords k)) c (heldIn w c + 1)) (set w 4 1))) x ≡ word w x
     go true q e = refl
     go false true e =
         let l = ltb-true (heldIn w c) 64 e in
-        set-out (sets w (o + heldIn w c * 4) (keyWords k)) c x (heldIn w c + 1) (λ z. omega arith) ∙ sets-past (keyWords k) w (o + heldIn w c * 4) x (omega arith)
+        set-out (sets w (o + heldIn w c * nameSize) (keyWords k)) c x (heldIn w c + 1) (λ z. omega arith) ∙ sets-past (keyWords k) w (o + heldIn w c * nameSize) x (omega arith)
     go false false e = set-out w 4 x 1 (λ z. omega arith)
 
 pub loc-high : (w : List ℕ) (l : Name) → High w (enterLoc w l)
@@ -83,10 +83,10 @@ mark-high w sc y x h = go (ltb (slotOf w sc y) (sc .n)) (ltb (sc .n) 8)
 -- ── rows ──
 -- of the first n rows
 abbrev pub Timely : ℕ → List ℕ → Type 0
-Timely n w = (j : ℕ) → j < n → field w j 2 ≤ 1_000_001
+Timely n w = (j : ℕ) → j < n → field w j timerField ≤ 1_000_001
 
 pub timely-high : {m : ℕ} → (w v : List ℕ) → High w v → Timely m w → Timely m v
-timely-high w v e t j b = rw (e (partsAt + j * rowSize + 2) (omega arith)) (t j b)
+timely-high w v e t j b = rw (e (partsAt + j * rowSize + timerField) (omega arith)) (t j b)
 
 -- one word
 set-small : (w : List ℕ) (o a x : ℕ) → (o ≡ x → a ≤ 1_000_001) → word w x ≤ 1_000_001 → word (set w o a) x ≤ 1_000_001
@@ -119,13 +119,13 @@ row-small (call d vs) w i sc f = omega arith
 opened-timely : {m : ℕ} → (a : Part) (w : List ℕ) (i : ℕ) (sc : Scope) → Eight sc → WellPart a → Timely m w → Timely m (opened w i sc a)
 unfolding opened
 opened-timely a w i sc e f t j b =
-    sets-small (rowOf w i sc a) (enterPart w a) (partsAt + i * rowSize + 0) (partsAt + j * rowSize + 2)
+    sets-small (rowOf w i sc a) (enterPart w a) (partsAt + i * rowSize + kindField) (partsAt + j * rowSize + timerField)
     (λ k l q. let n = row-length w i sc a e in let two : k ≡ 2 = omega arith in rw two (row-small a w i sc f))
     (timely-high w (enterPart w a) (part-high a w) t j b)
 
 -- words 5 to 7 of a row
 later-timely : {m : ℕ} → (w : List ℕ) (i k : ℕ) (vs : List ℕ) → 5 ≤ k → k + length vs ≤ 8 → Timely m w → Timely m (sets w (partsAt + i * rowSize + k) vs)
-later-timely w i k vs a b t j d = sets-small vs w (partsAt + i * rowSize + k) (partsAt + j * rowSize + 2) (λ m l q. absurd (omega arith)) (t j d)
+later-timely w i k vs a b t j d = sets-small vs w (partsAt + i * rowSize + k) (partsAt + j * rowSize + timerField) (λ m l q. absurd (omega arith)) (t j d)
 
 second-timely : {m : ℕ} → (w : List ℕ) (i q : ℕ) → Timely m w → Timely m (setSecond w i q)
 unfolding setSecond

@@ -10,7 +10,7 @@ use Rattle.terms.specs.Letters.{distinct}
 use Rattle.table.specs.declared.Head.{Head}
 use Rattle.table.specs.declared.Head.the-variants.{Stop, Go, Out, In, Call}
 use Rattle.table.specs.declared.Comp.{Comp}
-use Rattle.table.specs.Words.{word, partsIn, defsIn, arityOf, paramsOf, field, headAt}
+use Rattle.table.specs.Words.{word, partsIn, defsIn, arityOf, paramsOf, field, headAt, argsAt, countField, timerField}
 use Rattle.table.specs.Valid.{below}
 use Rattle.text_build.specs.Rows.{idsOf}
 
@@ -28,7 +28,7 @@ callHeld w Stop = true
 callHeld w (Go t v p) = true
 callHeld w (Out c t v p q) = true
 callHeld w (In c t k p q) = true
-callHeld w (Call d n a₀ a₁ a₂ a₃) = ltb d (defsIn w) && eqb n (arityOf w d)
+callHeld w (Call d n) = ltb d (defsIn w) && eqb n (arityOf w d)
 
 unfoldable pub callsHeld : List ℕ → Bool
 callsHeld w = below (partsIn w) (λ i. callHeld w (headAt w i))
@@ -37,15 +37,15 @@ callsHeld w = below (partsIn w) (λ i. callHeld w (headAt w i))
 unfoldable pub inScope : ℕ → ℕ → Bool
 inScope n v = ltb v (64 + n)
 
-unfoldable pub valuesBound : ℕ → Head → Bool
-valuesBound n Stop = true
-valuesBound n (Go t v p) = inScope n v
-valuesBound n (Out c t v p q) = inScope n v
-valuesBound n (In c t k p q) = true
-valuesBound n (Call d m a₀ a₁ a₂ a₃) = every (inScope n) (take m (a₀ ∷ a₁ ∷ a₂ ∷ a₃ ∷ []))
+unfoldable pub valuesBound : List ℕ → ℕ → ℕ → Head → Bool
+valuesBound w i n Stop = true
+valuesBound w i n (Go t v p) = inScope n v
+valuesBound w i n (Out c t v p q) = inScope n v
+valuesBound w i n (In c t k p q) = true
+valuesBound w i n (Call d m) = every (inScope n) (argsAt w i m)
 
 unfoldable pub allBound : List ℕ → Bool
-allBound w = below (partsIn w) (λ i. valuesBound (field w i 8) (headAt w i))
+allBound w = below (partsIn w) (λ i. valuesBound w i (field w i countField) (headAt w i))
 
 -- ── the components: unmarked, the timer of the part, no value in any slot ──
 unfoldable pub compOf : List ℕ → List ℕ → Comp
@@ -53,6 +53,6 @@ compOf w x = record {
   loc = getD x 0 0;
   mark = 64;
   place = getD x 1 0;
-  timer = field w (getD x 1 0) 2;
+  timer = field w (getD x 1 0) timerField;
   vals = 0 ∷ 0 ∷ 0 ∷ 0 ∷ 0 ∷ 0 ∷ 0 ∷ 0 ∷ [];
 }

@@ -15,7 +15,7 @@ use Rattle.terms.specs.Terms.Def.{define}
 use Rattle.text.specs.Tree.{Located, Tree}
 use Rattle.text.specs.Tree.Located.{at}
 use Rattle.text.specs.Questions.{definitionCount, parameterCount, partCount, componentCount}
-use Rattle.table.specs.Words.{rowSize, partsAt, scriptWords, word, arityOf, nameAt}
+use Rattle.table.specs.Words.{rowSize, partsAt, scriptWords, word, arityOf, nameAt, defsAt, firstParam, nameSize}
 use Rattle.table.specs.Valid.{index}
 use Rattle.table.specs.Size.{size, sizeP}
 use Rattle.text_build.specs.declared.Scope.{Scope}
@@ -35,10 +35,10 @@ pub record Within (t : Tree) : Type 0 where
 -- the parameters us of the definition k, from the j-th on
 unfoldable pub putParams : List ℕ → ℕ → ℕ → List Name → List ℕ
 putParams w k j [] = w
-putParams w k j (u ∷ us) = putParams (sets w (14 + k * rowSize + j * 4) (keyWords (keyOf u))) k (j + 1) us
+putParams w k j (u ∷ us) = putParams (sets w (firstParam + k * rowSize + j * nameSize) (keyWords (keyOf u))) k (j + 1) us
 
 unfoldable pub putHead : List ℕ → ℕ → ℕ → Name → List Name → List ℕ
-putHead w k i x us = putParams (sets w (8 + k * rowSize) (length us ∷ i ∷ keyWords (keyOf x))) k 0 us
+putHead w k i x us = putParams (sets w (defsAt + k * rowSize) (length us ∷ i ∷ keyWords (keyOf x))) k 0 us
 
 -- definitions from number k on, the body of the first at i
 unfoldable pub heads : List Def → ℕ → ℕ → List ℕ → List ℕ
@@ -57,7 +57,7 @@ enterAt w sc o =
 -- m parameters of the definition k from the j-th on
 unfoldable pub paramsFrom : List ℕ → ℕ → ℕ → ℕ → Scope → Scope
 paramsFrom w k j zero sc = sc
-paramsFrom w k j (suc m) sc = paramsFrom w k (j + 1) m (enterAt w sc (14 + k * rowSize + j * 4))
+paramsFrom w k j (suc m) sc = paramsFrom w k (j + 1) m (enterAt w sc (firstParam + k * rowSize + j * nameSize))
 
 unfoldable pub paramScope : List ℕ → ℕ → Scope
 paramScope w k = paramsFrom w k 0 (arityOf w k) noScope

@@ -16,7 +16,7 @@ use Rattle.terms.specs.Clock.{ticksOf}
 use Rattle.terms.proofs.Names.{and-inv}
 use Rattle.table.specs.declared.Head.{Head}
 use Rattle.table.specs.declared.Head.the-variants.{Stop, Go, Out, In, Call}
-use Rattle.table.specs.Words.{rowSize, ownsAt, defsIn, nameAt, chanName, defName, arityOf, field, headAt, nextAt, ownAt, boundAt, scopeAt, namesAt}
+use Rattle.table.specs.Words.{rowSize, ownsAt, defsIn, nameAt, chanName, defName, arityOf, field, headAt, nextAt, ownAt, boundAt, scopeAt, namesAt, argWords, argsAt, firstField, kindField, nameField, secondField, timerField, valueField}
 use Rattle.table.specs.Meaning.{valueOf, valuesOf, partOf, joined, processAt, partAt, withTimer}
 use Rattle.table.specs.Valid.{index, refOk, entered, headOk, nextOk}
 use Rattle.table.proofs.Tests.{Inner, inner, PartFine, part-fine, script-fine, def-fine}
@@ -47,14 +47,14 @@ module _ (w : List ℕ) (i : ℕ) (vs : List ℕ) (at : Places w i vs) where
   pub fine : PartFine w i
   fine = part-fine w (at .good) i (at .within)
 
-  pub record CallFine (d n a₀ a₁ a₂ a₃ : ℕ) : Type 0 where
+  pub record CallFine (d n : ℕ) : Type 0 where
     pub held : d < defsIn w
     pub many : n ≡ arityOf w d
-    pub each : every (refOk w (namesAt w i)) (take n (a₀ ∷ a₁ ∷ a₂ ∷ a₃ ∷ [])) ≡ true
+    pub each : every (refOk w (namesAt w i)) (argsAt w i n) ≡ true
 
-  pub call-fine : (d n a₀ a₁ a₂ a₃ : ℕ) → headOk w i (Call d n a₀ a₁ a₂ a₃) ≡ true → CallFine d n a₀ a₁ a₂ a₃
+  pub call-fine : (d n : ℕ) → headOk w i (Call d n) ≡ true → CallFine d n
   unfolding headOk
-  call-fine d n a₀ a₁ a₂ a₃ o =
+  call-fine d n o =
       let r = and-inv (ltb d (defsIn w)) _ o in
       let s = and-inv (eqb n (arityOf w d)) _ (r .1) in
       record { held = ltb-true d (defsIn w) (r .0); many = eqb-true n (arityOf w d) (s .0); each = s .1 }
@@ -87,15 +87,15 @@ module _ (w : List ℕ) (i : ℕ) (vs : List ℕ) (at : Places w i vs) where
         → bytes "in(" ++ (chanName w c ++ (44 ∷ fieldsText (ticksOf t) (nameAt w (ownsAt + i * rowSize)))) ≡ openText (partSeen w i t vs)
     open-in e = unfold partSeen partAt partOf withTimer sub openText boundAt ownAt in rw e
 
-    pub open-call : {d n a₀ a₁ a₂ a₃ : ℕ} {os : List ℕ} → headAt w i ≡ Call d n a₀ a₁ a₂ a₃ → Named w (someAt w i vs) (namesAt w i) (a₀ ∷ a₁ ∷ a₂ ∷ a₃ ∷ []) os
+    pub open-call : {d n : ℕ} {os : List ℕ} → headAt w i ≡ Call d n → Named w (someAt w i vs) (namesAt w i) (argWords w i) os
         → defName w d ++ listed (map (nameAt w) (take n os)) ≡ openText (partSeen w i t vs)
-    open-call {d} {n} {a₀} {a₁} {a₂} {a₃} {os} e h =
-        let r = call-fine d n a₀ a₁ a₂ a₃ (rw e at (fine .head)) in
+    open-call {d} {n} {os} e h =
+        let r = call-fine d n (rw e at (fine .head)) in
         unfold partSeen partAt partOf withTimer sub openText in rw (e, arguments-written w (someAt w i vs) (namesAt w i) n h (r .each))
 
-  pub call-few : {d n a₀ a₁ a₂ a₃ : ℕ} → headAt w i ≡ Call d n a₀ a₁ a₂ a₃ → n ≤ 4
-  call-few {d} {n} {a₀} {a₁} {a₂} {a₃} e =
-      let r = call-fine d n a₀ a₁ a₂ a₃ (rw e at (fine .head)) in
+  pub call-few : {d n : ℕ} → headAt w i ≡ Call d n → n ≤ 4
+  call-few {d} {n} e =
+      let r = call-fine d n (rw e at (fine .head)) in
       omega (arith, r .many, def-fine w (at .good) d (r .held) .few)
 
   -- ── from the first process on ──
@@ -138,7 +138,7 @@ module _ (w : List ℕ) (i : ℕ) (vs : List ℕ) (at : Places w i vs) where
     pub close-stop : headAt w i ≡ Stop → openText (partSeen w i t vs) ≡ partText (partSeen w i t vs)
     close-stop e = unfold partText partSeen partAt partOf withTimer sub closeText in rw e (sym (append-nil _))
 
-    pub close-call : {d n a₀ a₁ a₂ a₃ : ℕ} → headAt w i ≡ Call d n a₀ a₁ a₂ a₃ → openText (partSeen w i t vs) ≡ partText (partSeen w i t vs)
+    pub close-call : {d n : ℕ} → headAt w i ≡ Call d n → openText (partSeen w i t vs) ≡ partText (partSeen w i t vs)
     close-call e = unfold partText partSeen partAt partOf withTimer sub closeText in rw e (sym (append-nil _))
 
     pub close-go : {s v p : ℕ} → headAt w i ≡ Go s v p → openText (partSeen w i t vs) ++ (processText (processSeen w p vs) ++ (41 ∷ [])) ≡ partText (partSeen w i t vs)
@@ -162,16 +162,16 @@ module _ (w : List ℕ) (i : ℕ) (vs : List ℕ) (at : Places w i vs) where
   -- a part with its own timer
   abbrev kinds : Bool → Bool → Bool → Bool → Head
   kinds a b c d =
-      cond a (Go (field w i 2) (field w i 3) (field w i 4))
-      (cond b (Out (field w i 1) (field w i 2) (field w i 3) (field w i 4) (field w i 5))
-      (cond c (In (field w i 1) (field w i 2) (field w i 3) (field w i 4) (field w i 5))
-      (cond d (Call (field w i 1) (field w i 3) (field w i 17) (field w i 18) (field w i 19) (field w i 20))
+      cond a (Go (field w i timerField) (field w i valueField) (field w i firstField))
+      (cond b (Out (field w i nameField) (field w i timerField) (field w i valueField) (field w i firstField) (field w i secondField))
+      (cond c (In (field w i nameField) (field w i timerField) (field w i valueField) (field w i firstField) (field w i secondField))
+      (cond d (Call (field w i nameField) (field w i valueField))
       Stop)))
 
   abbrev made : Env → Head → Part
-  made e h = sub (partOf w (processAt w) (namesAt w i) (boundAt w i) h) e
+  made e h = sub (partOf w (processAt w) i h) e
 
-  own-kind : (e : Env) (a b c d : Bool) → withTimer (ticksOf (field w i 2)) (made e (kinds a b c d)) ≡ made e (kinds a b c d)
+  own-kind : (e : Env) (a b c d : Bool) → withTimer (ticksOf (field w i timerField)) (made e (kinds a b c d)) ≡ made e (kinds a b c d)
   unfolding withTimer sub partOf
   own-kind e true b c d = refl
   own-kind e false true c d = refl
@@ -179,15 +179,15 @@ module _ (w : List ℕ) (i : ℕ) (vs : List ℕ) (at : Places w i vs) where
   own-kind e false false false true = refl
   own-kind e false false false false = refl
 
-  pub own-timer : (e : Env) → withTimer (ticksOf (field w i 2)) (sub (partAt w i) e) ≡ sub (partAt w i) e
+  pub own-timer : (e : Env) → withTimer (ticksOf (field w i timerField)) (sub (partAt w i) e) ≡ sub (partAt w i) e
   unfolding partAt headAt
-  own-timer e = own-kind e (eqb (field w i 0) 1) (eqb (field w i 0) 2) (eqb (field w i 0) 3) (eqb (field w i 0) 4)
+  own-timer e = own-kind e (eqb (field w i kindField) 1) (eqb (field w i kindField) 2) (eqb (field w i kindField) 3) (eqb (field w i kindField) 4)
 
-  pub process-last : nextAt w i ≡ 0 → processText (processSeen w i vs) ≡ partText (partSeen w i (field w i 2) vs)
+  pub process-last : nextAt w i ≡ 0 → processText (processSeen w i vs) ≡ partText (partSeen w i (field w i timerField) vs)
   process-last e = unfold processSeen partSeen partText in rw (process-is w (at .good) i (at .within), e, own-timer (someAt w i vs)) (unfold joined subP processText in refl)
 
   pub process-more : (j : ℕ) → nextAt w i ≡ suc j
-      → processText (processSeen w i vs) ≡ partText (partSeen w i (field w i 2) vs) ++ (bytes " | " ++ processText (processSeen w j vs))
+      → processText (processSeen w i vs) ≡ partText (partSeen w i (field w i timerField) vs) ++ (bytes " | " ++ processText (processSeen w j vs))
   process-more j e =
       rw (← inner-seen j (after-fine j e)) (unfold processSeen partSeen partText in rw (process-is w (at .good) i (at .within), e, own-timer (someAt w i vs)) (unfold joined subP processText in refl))
 

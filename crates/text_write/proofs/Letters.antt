@@ -10,7 +10,7 @@ use Rattle.table.specs.declared.Key.{Key}
 use Rattle.table.specs.Words.{fourBytes, strip, letters}
 use Rattle.table.specs.Tests.{keyName}
 use Rattle.table.proofs.Names.{strip-injective, four-bytes}
-use Rattle.table.proofs.NamesForm.{strip-more}
+use Rattle.table.proofs.Names.{strip-more}
 
 -- ── the last word ──
 pub last-none : strip (fourBytes 0 []) ≡ []

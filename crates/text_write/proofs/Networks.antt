@@ -15,10 +15,10 @@ use Rattle.terms.specs.Rules.{unmarked}
 use Rattle.terms.specs.Substitution.{subP}
 use Rattle.terms.proofs.Names.{and-inv}
 use Rattle.terms.proofs.Substitution.{none-inP}
-use Rattle.text.specs.Write.{located}
+use Rattle.text.specs.Write.{spellComponent}
 use Rattle.table.specs.declared.Comp.{Comp}
 use Rattle.table.specs.declared.State.{State}
-use Rattle.table.specs.Words.{rowSize, locsAt, locsIn, defsIn, nameAt, locName, defName, arityOf, bodyOf, paramsAt, paramsOf}
+use Rattle.table.specs.Words.{rowSize, locsAt, locsIn, defsIn, nameAt, locName, defName, arityOf, bodyOf, paramsAt, paramsOf, firstParam, fourthParam, idsAt, nameSize, secondParam, thirdParam}
 use Rattle.table.specs.Meaning.{listFrom, processAt, defOf, defsOf, means, noComp, compIn, compsOf, netOf, networkOf}
 use Rattle.table.specs.Valid.{scriptOk, compOk, valid}
 use Rattle.table.proofs.Tests.{script-fine, def-fine, comp-fine, every-getD}
@@ -37,7 +37,7 @@ unfolding processSeen
 none-seen w i = ap (subP (processAt w i)) (none-shown w i) ∙ none-inP (processAt w i)
 
 pub def-written : (w : List ℕ) (d : ℕ)
-    → nameAt w (10 + d * rowSize) ++ (listed (map (nameAt w) (take (arityOf w d) ((14 + d * rowSize) ∷ (18 + d * rowSize) ∷ (22 + d * rowSize) ∷ (26 + d * rowSize) ∷ [])))
+    → nameAt w (idsAt + d * rowSize) ++ (listed (map (nameAt w) (take (arityOf w d) ((firstParam + d * rowSize) ∷ (secondParam + d * rowSize) ∷ (thirdParam + d * rowSize) ∷ (fourthParam + d * rowSize) ∷ [])))
     ++ (bytes " = " ++ (processText (processSeen w (bodyOf w d) (replicate 8 64)) ++ bytes " .\n")))
     ≡ defText (defOf w d)
 def-written w d = unfold defText defOf defName paramsOf paramsAt in rw (none-seen w (bodyOf w d))
@@ -80,7 +80,7 @@ module _ (w : List ℕ) (good : scriptOk w ≡ true) (c : Comp) (fine : compOk w
   comp-place = let f = comp-fine w c fine in record { good = good; within = f .place; slots = f .slots }
 
   pub comp-written : 64 ≤ c .mark
-      → nameAt w (locsAt + c .loc * 4) ++ (91 ∷ (partText (partSeen w (c .place) (c .timer) (c .vals)) ++ (93 ∷ []))) ≡ compText (means w c)
+      → nameAt w (locsAt + c .loc * nameSize) ++ (91 ∷ (partText (partSeen w (c .place) (c .timer) (c .vals)) ++ (93 ∷ []))) ≡ compText (means w c)
   comp-written h =
       let f = comp-fine w c fine in
       let e = all-shown w (c .place) (c .vals) (every-less (locsIn w) (c .vals) (script-fine w good .locs) (f .vals)) in
@@ -141,4 +141,4 @@ module _ (w : List ℕ) (st : State) where
 -- ── the whole text ──
 pub text-is : (w : List ℕ) (st : State) → defsText (defsOf w) ++ netText (map compText (netOf w st)) ≡ textOf w st
 unfolding textOf networkOf
-text-is w st = sym (text-spelled (defsOf w) (map located (netOf w st)) ∙ ap (λ z. defsText (defsOf w) ++ z) (network-spelled (netOf w st)))
+text-is w st = sym (text-spelled (defsOf w) (map spellComponent (netOf w st)) ∙ ap (λ z. defsText (defsOf w) ++ z) (network-spelled (netOf w st)))

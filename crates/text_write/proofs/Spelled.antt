@@ -13,11 +13,11 @@ use Rattle.terms.specs.Terms.Component.{comp}
 use Rattle.terms.specs.Terms.Def.{define}
 use Rattle.text.specs.Tokens.{Token, opens, closes, comma, bar, dot}
 use Rattle.text.specs.Tokens.Token.{sign}
-use Rattle.text.specs.Tree.{Located}
-use Rattle.text.specs.Write.{Printer, nameT, timerT, valueT, joinedT, listT, partT, processT, defT, locatedT, networkT, textT, spell, spelled, located}
+use Rattle.text.specs.Syntax.{Located}
+use Rattle.text.specs.Write.{Printer, nameT, timerT, valueT, joinedT, listT, partT, processT, defT, locatedT, networkT, textT, spell, spelled, spellTimer, spellPart, spellProcess, spellDef, spellComponent}
 use Rattle.text_write.specs.Forms.{timerText, valueText, chain, listed, fieldsText, openText, closeText, processText, defText, defsText, compText, barred, netText}
 
-timer-spelled : (t : Timer) (ts : List Token) → spelled (timerT t ts) ≡ timerText t ++ spelled ts
+timer-spelled : (t : Timer) (ts : List Token) → spelled (timerT (spellTimer t) ts) ≡ timerText t ++ spelled ts
 unfolding spelled spell timerText
 timer-spelled (ticks n) ts = refl
 timer-spelled inf ts = refl
@@ -57,50 +57,50 @@ module _ {A : Type 0} (pr : Printer A) (text : A → List ℕ) (h : (a : A) (ts 
 mutual
   unfolding partT processT spelled spell openText closeText processText fieldsText
 
-  part-spelled : (a : Part) (ts : List Token) → spelled (partT a ts) ≡ (openText a ++ closeText a) ++ spelled ts
+  part-spelled : (a : Part) (ts : List Token) → spelled (partT (spellPart a) ts) ≡ (openText a ++ closeText a) ++ spelled ts
   part-spelled stop ts = refl
   part-spelled (go t v p) ts =
       rw (timer-spelled t, value-spelled v, process-spelled p (sign closes ∷ ts)) (simp append-assoc)
   part-spelled (out c t v p q) ts =
-      rw (timer-spelled t, value-spelled v, process-spelled p (sign comma ∷ processT q (sign closes ∷ ts)), process-spelled q (sign closes ∷ ts)) (simp append-assoc)
+      rw (timer-spelled t, value-spelled v, process-spelled p (sign comma ∷ processT (spellProcess q) (sign closes ∷ ts)), process-spelled q (sign closes ∷ ts)) (simp append-assoc)
   part-spelled (inp c t y p q) ts =
-      rw (timer-spelled t, process-spelled p (sign comma ∷ processT q (sign closes ∷ ts)), process-spelled q (sign closes ∷ ts)) (simp append-assoc)
+      rw (timer-spelled t, process-spelled p (sign comma ∷ processT (spellProcess q) (sign closes ∷ ts)), process-spelled q (sign closes ∷ ts)) (simp append-assoc)
   part-spelled (call i vs) ts =
       rw (list-spelled valueT valueText value-spelled vs ts) (simp (append-assoc, append-nil))
 
-  pub process-spelled : (p : Process) (ts : List Token) → spelled (processT p ts) ≡ processText p ++ spelled ts
+  pub process-spelled : (p : Process) (ts : List Token) → spelled (processT (spellProcess p) ts) ≡ processText p ++ spelled ts
   process-spelled (one a) ts = part-spelled a ts
-  process-spelled (a ∥ p) ts = rw (part-spelled a (sign bar ∷ processT p ts), process-spelled p ts) (simp append-assoc)
+  process-spelled (a ∥ p) ts = rw (part-spelled a (sign bar ∷ processT (spellProcess p) ts), process-spelled p ts) (simp append-assoc)
 
 -- ── definitions ──
 names-are : (us : List Name) → map (λ x. x) us ≡ us
 names-are [] = refl
 names-are (u ∷ us) = rw (names-are us)
 
-def-spelled : (d : Def) (ts : List Token) → spelled (defT d ts) ≡ defText d ++ spelled ts
+def-spelled : (d : Def) (ts : List Token) → spelled (defT (spellDef d) ts) ≡ defText d ++ spelled ts
 unfolding defText spelled spell
 def-spelled (define i us p) ts =
     rw (list-spelled nameT (λ x. x) name-spelled us, names-are us, process-spelled p) (simp append-assoc)
 
-pub text-spelled : (ds : List Def) (ls : List Located) → spelled (textT ds ls) ≡ defsText ds ++ spelled (networkT ls)
+pub text-spelled : (ds : List Def) (ls : List Located) → spelled (textT (map spellDef ds) ls) ≡ defsText ds ++ spelled (networkT ls)
 unfolding textT defsText
 text-spelled [] ls = refl
 text-spelled (d ∷ ds) ls = rw (def-spelled d, text-spelled ds ls) (simp append-assoc)
 
 -- ── components ──
-comp-spelled : (c : Component) (ts : List Token) → spelled (locatedT (located c) ts) ≡ compText c ++ spelled ts
+comp-spelled : (c : Component) (ts : List Token) → spelled (locatedT (spellComponent c) ts) ≡ compText c ++ spelled ts
 unfolding compText spelled spell
 comp-spelled (comp l m p) ts = rw (process-spelled p) (simp append-assoc)
 
-bars-spelled : (c : Component) (cs : List Component) → spelled (joinedT bar locatedT (located c) (map located cs) (sign dot ∷ [])) ≡ compText c ++ barred (map compText cs)
+bars-spelled : (c : Component) (cs : List Component) → spelled (joinedT bar locatedT (spellComponent c) (map spellComponent cs) (sign dot ∷ [])) ≡ compText c ++ barred (map compText cs)
 unfolding joinedT barred
 bars-spelled c [] = comp-spelled c (sign dot ∷ []) ∙ (unfold spelled spell in refl)
-bars-spelled c (d ∷ cs) = comp-spelled c _ ∙ ap (λ z. compText c ++ z) (bar-spelled (joinedT bar locatedT (located d) (map located cs) (sign dot ∷ [])) ∙ ap (λ z. bytes " | " ++ z) (bars-spelled d cs))
+bars-spelled c (d ∷ cs) = comp-spelled c _ ∙ ap (λ z. compText c ++ z) (bar-spelled (joinedT bar locatedT (spellComponent d) (map spellComponent cs) (sign dot ∷ [])) ∙ ap (λ z. bytes " | " ++ z) (bars-spelled d cs))
   where
     bar-spelled : (us : List Token) → spelled (sign bar ∷ us) ≡ bytes " | " ++ spelled us
     bar-spelled us = unfold spelled spell in refl
 
-pub network-spelled : (cs : List Component) → spelled (networkT (map located cs)) ≡ netText (map compText cs)
+pub network-spelled : (cs : List Component) → spelled (networkT (map spellComponent cs)) ≡ netText (map compText cs)
 unfolding networkT netText
 network-spelled [] = unfold spelled spell in refl
 network-spelled (c ∷ cs) = bars-spelled c cs

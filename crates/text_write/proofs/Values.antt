@@ -15,7 +15,7 @@ use Rattle.terms.specs.Substitution.{Held, env, hide, held, subV}
 use Rattle.terms.specs.Substitution.Held.{unset}
 use Rattle.terms.proofs.Names.{and-inv, name-eq, name-refl}
 use Rattle.terms.proofs.Substitution.{empty}
-use Rattle.table.specs.Words.{locsAt, nameAt, locName, field, ownAt, boundAt, atMost8, scopeAt, namesAt}
+use Rattle.table.specs.Words.{locsAt, nameAt, locName, field, ownAt, boundAt, atMost8, scopeAt, namesAt, nameSize, countField, slotField}
 use Rattle.table.specs.Meaning.{valueOf, envAt}
 use Rattle.table.specs.Valid.{index, slotOk, refOk, entered}
 use Rattle.table.proofs.Scopes.{enter, enter-is, index-enter}
@@ -118,7 +118,7 @@ holds-slot (y ∷ ys) (v ∷ hs) x h k = go (sameName y x) h (λ i. holds-slot y
     go false h k = k (omega arith)
 
 nth-field : (w : List ℕ) (i k : ℕ) → k < 8
-    → getD (field w i 9 ∷ field w i 10 ∷ field w i 11 ∷ field w i 12 ∷ field w i 13 ∷ field w i 14 ∷ field w i 15 ∷ field w i 16 ∷ []) k 0 ≡ field w i (9 + k)
+    → getD (field w i 9 ∷ field w i 10 ∷ field w i 11 ∷ field w i 12 ∷ field w i 13 ∷ field w i 14 ∷ field w i 15 ∷ field w i 16 ∷ []) k 0 ≡ field w i (slotField + k)
 nth-field w i zero h = refl
 nth-field w i (suc zero) h = refl
 nth-field w i (suc (suc zero)) h = refl
@@ -129,14 +129,14 @@ nth-field w i (suc (suc (suc (suc (suc (suc zero)))))) h = refl
 nth-field w i (suc (suc (suc (suc (suc (suc (suc zero))))))) h = refl
 nth-field w i (suc (suc (suc (suc (suc (suc (suc (suc k)))))))) h = absurd (omega arith)
 
-scope-field : (w : List ℕ) (i k : ℕ) → k < length (scopeAt w i) → getD (scopeAt w i) k 0 ≡ field w i (9 + k)
+scope-field : (w : List ℕ) (i k : ℕ) → k < length (scopeAt w i) → getD (scopeAt w i) k 0 ≡ field w i (slotField + k)
 scope-field w i k h = unfold scopeAt in getD-take _ _ k 0 few ∙ nth-field w i k (omega (arith, scope-length w i))
   where
-    few : k < atMost8 (field w i 8)
+    few : k < atMost8 (field w i countField)
     few = unfold scopeAt in omega (arith, simp length-take at h)
 
 -- a name in scope, by the word that says where it stands
-pub name-field : (w : List ℕ) (i k : ℕ) → k < length (namesAt w i) → getD (namesAt w i) k [] ≡ nameAt w (field w i (9 + k))
+pub name-field : (w : List ℕ) (i k : ℕ) → k < length (namesAt w i) → getD (namesAt w i) k [] ≡ nameAt w (field w i (slotField + k))
 unfolding namesAt
 name-field w i k h =
     let l : k < length (scopeAt w i) = omega (arith, length-map (scopeAt w i) (nameAt w)) in
@@ -147,7 +147,7 @@ module _ (w : List ℕ) (i : ℕ) (vs : List ℕ) (n : length vs ≡ 8) where
   abbrev written : ℕ → List ℕ
   written v = valueText (valueSeen w i vs v)
 
-  pub location-written : (v : ℕ) → v < 64 → nameAt w (locsAt + v * 4) ≡ written v
+  pub location-written : (v : ℕ) → v < 64 → nameAt w (locsAt + v * nameSize) ≡ written v
   location-written v h = unfold locName valueOf valueText subV in rw (lt-ltb v 64 h)
 
   pub record Slot (v : ℕ) : Type 0 where
@@ -176,7 +176,7 @@ module _ (w : List ℕ) (i : ℕ) (vs : List ℕ) (n : length vs ≡ 8) where
   value-written v h e k =
       sym (variable-is v h ∙ rw (slot-held v (slot v h e)) (unfold shown held valueText locName in rw (lt-ltb (getD vs (v - 64) 0) 64 k)))
 
-  pub name-written : (v : ℕ) → 64 ≤ v → refOk w (namesAt w i) v ≡ true → 64 ≤ getD vs (v - 64) 0 → nameAt w (field w i (9 + (v - 64))) ≡ written v
+  pub name-written : (v : ℕ) → 64 ≤ v → refOk w (namesAt w i) v ≡ true → 64 ≤ getD vs (v - 64) 0 → nameAt w (field w i (slotField + (v - 64))) ≡ written v
   name-written v h e k =
       let s = slot v h e in
       sym (variable-is v h ∙ rw (slot-held v s) (unfold shown held valueText in rw (le-ltb (getD vs (v - 64) 0) 64 k)) ∙ name-field w i (v - 64) (s .few))

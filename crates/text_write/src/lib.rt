@@ -33,8 +33,8 @@ use network::all_unmarked;
 use network::write_text;
 use table::Script;
 use table::Words;
-use table::valid::is_valid;
 use table::words::word;
+use table_valid::is_valid;
 
 // What the write call returns: 0 or the number of the question answered by no, and the text's length.
 #[repr(C)]

@@ -20,9 +20,15 @@ use super::put::put_end;
 use super::put::put_list;
 use super::put::put_name;
 use table::Comp;
+use table::FIRST_PARAM;
+use table::FOURTH_PARAM;
+use table::IDENTIFIERS;
 use table::LOCATIONS;
+use table::NAME_SIZE;
 use table::ROW_SIZE;
+use table::SECOND_PARAM;
 use table::Script;
+use table::THIRD_PARAM;
 use table::Words;
 use table::comps::comp_at;
 use table::words::arity_of;
@@ -36,13 +42,13 @@ fn write_def(w: &Script, d: usize, buf: &mut [u8], at: usize) -> usize
     ensures { λ r. ⌜ Wrote (now (buf .entry)) at (defText (defOf (now (w .entry)) d)) (now (buf .exit)) r ⌝ }
 {
     let o = [
-        14 + d * ROW_SIZE,
-        18 + d * ROW_SIZE,
-        22 + d * ROW_SIZE,
-        26 + d * ROW_SIZE,
+        FIRST_PARAM + d * ROW_SIZE,
+        SECOND_PARAM + d * ROW_SIZE,
+        THIRD_PARAM + d * ROW_SIZE,
+        FOURTH_PARAM + d * ROW_SIZE,
     ];
     let none = [64u32; 8];
-    let a = put_name(w, 10 + d * ROW_SIZE, buf, at);
+    let a = put_name(w, IDENTIFIERS + d * ROW_SIZE, buf, at);
     let b = put_list(w, &o, wide(arity_of(w, d)), buf, a);
     let c = put_all(b" = ", buf, b);
     let e = write_process(w, wide(body_of(w, d)), &none, buf, c);
@@ -70,7 +76,7 @@ fn write_comp(w: &Script, c: Comp, buf: &mut [u8], at: usize) -> usize
     ensures { λ r. ⌜ Wrote (now (buf .entry)) at (compText (means (now (w .entry)) c)) (now (buf .exit)) r ⌝ }
 {
     let vals = c.vals;
-    let a = put_name(w, LOCATIONS + wide(c.loc) * 4, buf, at);
+    let a = put_name(w, LOCATIONS + wide(c.loc) * NAME_SIZE, buf, at);
     let b = put(b'[', buf, a);
     let d = write_part(w, wide(c.place), c.timer, &vals, buf, b);
     put(b']', buf, d)

@@ -1,6 +1,5 @@
 // Parts and processes: a part up to its first process, then the processes of it, which part writer and process writer write in turn.
-// The place in the table is the falling number. The name of location l stands at word 776 + 4l, of channel c at 1032 + 4c, of definition d
-// at 10 + 24d, and what the input at i binds at 1305 + 24i. Values are eight numbers: below 64 the location that a slot holds, else its own name is written.
+// The place in the table is the falling number. Values are eight numbers: below 64 the location that a slot holds, else its own name is written.
 ghost use mathlib.Core.Path.{_≡_};
 ghost use mathlib.Core.Bool.{true};
 ghost use mathlib.Core.List.{_∷_, _++_, map};
@@ -8,7 +7,7 @@ ghost use Prim.Native.Nat.{_≤_, _<_};
 ghost use lib.ListN.{length, take, set};
 ghost use Rattle.terms.specs.Names.{bytes};
 ghost use Rattle.terms.specs.Clock.{ticksOf};
-ghost use Rattle.table.specs.Words.{nameAt, chanName, defName, namesAt};
+ghost use Rattle.table.specs.Words.{nameAt, chanName, defName, namesAt, argAt};
 ghost use Rattle.table.specs.Valid.{refOk};
 ghost use Rattle.text_write.specs.Put.{Wrote};
 ghost use Rattle.text_write.specs.Forms.{valueText, listed, fieldsText, openText, partText, processText};
@@ -21,10 +20,15 @@ use super::put::put_list;
 use super::put::put_name;
 use table::CHANNELS;
 use table::Head;
+use table::IDENTIFIERS;
 use table::LOCATIONS;
+use table::NAME_SIZE;
 use table::OWNS;
 use table::ROW_SIZE;
+use table::SLOT_FIELD;
 use table::Script;
+use table::TIMER_FIELD;
+use table::words::arg_at;
 use table::words::field;
 use table::words::head_at;
 use table::words::next_at;
@@ -37,7 +41,7 @@ fn value_at(w: &Script, i: usize, vals: &[u32; 8], v: u32) -> usize
 {
     let n = wide(v);
     if n < 64 {
-        return LOCATIONS + n * 4;
+        return LOCATIONS + n * NAME_SIZE;
     }
     let k = n - 64;
     if 7 < k {
@@ -46,9 +50,9 @@ fn value_at(w: &Script, i: usize, vals: &[u32; 8], v: u32) -> usize
     }
     let x = wide(vals[k]);
     if x < 64 {
-        return LOCATIONS + x * 4;
+        return LOCATIONS + x * NAME_SIZE;
     }
-    wide(field(w, i, 9 + k))
+    wide(field(w, i, SLOT_FIELD + k))
 }
 
 // The values in the P of an input of the slot k: the slot holds none.
@@ -64,6 +68,14 @@ fn without(vals: &[u32; 8], k: u32) -> [u32; 8]
     r
 }
 
+// Where the name stands that argument k of the call at i is written as.
+fn arg_name(w: &Script, i: usize, vals: &[u32; 8], k: usize) -> usize
+    requires { ⌜ (i < 4096) × (k < 4) × (length (now vals) ≡ 8) ⌝ }
+    ensures { λ r. ⌜ (refOk (now (w .entry)) (namesAt (now (w .entry)) i) (argAt (now (w .entry)) i k) ≡ true → nameAt (now (w .entry)) r ≡ valueText (valueSeen (now (w .entry)) i (now (vals .entry)) (argAt (now (w .entry)) i k))) ⌝ }
+{
+    value_at(w, i, vals, arg_at(w, i, k))
+}
+
 // `go(t,x,`, where the name x stands at the word o.
 fn open_one(w: &Script, t: u32, o: usize, buf: &mut [u8], at: usize) -> usize
     ensures { λ r. ⌜ Wrote (now (buf .entry)) at (bytes "go(" ++ fieldsText (ticksOf t) (nameAt (now (w .entry)) o)) (now (buf .exit)) r ⌝ }
@@ -77,7 +89,7 @@ fn open_two(w: &Script, s: &[u8], c: u32, t: u32, o: usize, buf: &mut [u8], at: 
     ensures { λ r. ⌜ Wrote (now (buf .entry)) at (now (s .entry) ++ (chanName (now (w .entry)) c ++ (44 ∷ fieldsText (ticksOf t) (nameAt (now (w .entry)) o)))) (now (buf .exit)) r ⌝ }
 {
     let a = put_all(s, buf, at);
-    let b = put_name(w, CHANNELS + wide(c) * 4, buf, a);
+    let b = put_name(w, CHANNELS + wide(c) * NAME_SIZE, buf, a);
     let d = put(b',', buf, b);
     put_fields(w, t, o, buf, d)
 }
@@ -87,7 +99,7 @@ fn put_call(w: &Script, d: u32, o: &[usize; 4], n: usize, buf: &mut [u8], at: us
     requires { ⌜ (n ≤ 4) × (length (now o) ≡ 4) ⌝ }
     ensures { λ r. ⌜ Wrote (now (buf .entry)) at (defName (now (w .entry)) d ++ listed (map (nameAt (now (w .entry))) (take n (now (o .entry))))) (now (buf .exit)) r ⌝ }
 {
-    let a = put_name(w, 10 + wide(d) * ROW_SIZE, buf, at);
+    let a = put_name(w, IDENTIFIERS + wide(d) * ROW_SIZE, buf, at);
     put_list(w, o, n, buf, a)
 }
 
@@ -101,12 +113,12 @@ fn put_open(w: &Script, i: usize, t: u32, vals: &[u32; 8], buf: &mut [u8], at: u
         Head::Go(_, v, _) => open_one(w, t, value_at(w, i, vals, v), buf, at),
         Head::Out(c, _, v, _, _) => open_two(w, b"out(", c, t, value_at(w, i, vals, v), buf, at),
         Head::In(c, _, _, _, _) => open_two(w, b"in(", c, t, OWNS + i * ROW_SIZE, buf, at),
-        Head::Call(d, n, a0, a1, a2, a3) => {
+        Head::Call(d, n) => {
             let o = [
-                value_at(w, i, vals, a0),
-                value_at(w, i, vals, a1),
-                value_at(w, i, vals, a2),
-                value_at(w, i, vals, a3),
+                arg_name(w, i, vals, 0),
+                arg_name(w, i, vals, 1),
+                arg_name(w, i, vals, 2),
+                arg_name(w, i, vals, 3),
             ];
             put_call(w, d, &o, wide(n), buf, at)
         }
@@ -145,7 +157,7 @@ pub(crate) fn write_part(
             let d = write_process(w, wide(q), vals, buf, c);
             put(b')', buf, d)
         }
-        Head::Call(_, _, _, _, _, _) => a,
+        Head::Call(_, _) => a,
     }
 }
 
@@ -163,7 +175,7 @@ pub(crate) fn write_process(
     let mut j = i;
     let mut a = at;
     loop {
-        a = write_part(w, j, field(w, j, 2), vals, buf, a);
+        a = write_part(w, j, field(w, j, TIMER_FIELD), vals, buf, a);
         let n = wide(next_at(w, j));
         if n == 0 {
             return a;

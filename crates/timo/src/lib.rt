@@ -32,9 +32,8 @@ use host::location_name;
 use host::locations;
 use host::step_line;
 use table::Script;
-use table::State;
 use table::Words;
-use table::valid::is_valid;
+use table_valid::is_valid;
 use text_read::Reading;
 use text_write::Written;
 use text_write::write;
@@ -55,23 +54,30 @@ pub extern "C" fn timo_valid(w: &Script, c: &Words, n: usize) -> bool
     is_valid(w, c, n)
 }
 
-// A single action: questions 17, 8, 9, 10, 11.
+// A single action: questions 17, 8, 9, 10, 11. A refusal leaves the lent components as they were, here and in the three calls below.
 #[no_mangle]
-pub extern "C" fn timo_action(w: &Script, st: State, kind: u32, p: usize, q: usize) -> Acted
-    ensures { λ r. ⌜ actsAs (now (w .entry)) st (actionAnswer (now (w .entry)) st kind p q) r ⌝ }
+pub extern "C" fn timo_action(
+    w: &Script,
+    c: &mut Words,
+    n: usize,
+    kind: u32,
+    p: usize,
+    q: usize,
+) -> Acted
+    ensures { λ r. ⌜ actsAs (now (w .entry)) (record { c = now (c .entry); n = n }) (actionAnswer (now (w .entry)) (record { c = now (c .entry); n = n }) kind p q) r (now (c .exit)) ⌝ }
 {
-    action(w, st, kind, p, q)
+    action(w, c, n, kind, p, q)
 }
 
 // The tick at a location: questions 17, 8, 12, 13.
 #[no_mangle]
-pub extern "C" fn timo_tick(w: &Script, st: State, l: u32) -> Ticked
-    ensures { λ r. ⌜ ticksAs (now (w .entry)) st (tickAnswer (now (w .entry)) st l) r ⌝ }
+pub extern "C" fn timo_tick(w: &Script, c: &mut Words, n: usize, l: u32) -> Ticked
+    ensures { λ r. ⌜ ticksAs (now (w .entry)) (record { c = now (c .entry); n = n }) (tickAnswer (now (w .entry)) (record { c = now (c .entry); n = n }) l) r (now (c .exit)) ⌝ }
 {
-    tick_at(w, st, l)
+    tick_at(w, c, n, l)
 }
 
-// The step at a location: questions 17, 8, 15, 13. A refusal leaves the lent components and records as they were.
+// The step at a location: questions 17, 8, 15, 13. A refusal leaves the lent records as they were too.
 #[no_mangle]
 pub extern "C" fn timo_step(
     w: &Script,
@@ -87,10 +93,16 @@ pub extern "C" fn timo_step(
 
 // A proposal: questions 17, 8 for the location, 8 to 11 and 16 for each record, 12, 13.
 #[no_mangle]
-pub extern "C" fn timo_propose(w: &Script, st: State, l: u32, records: &[Record]) -> Ticked
-    ensures { λ r. ⌜ ticksAs (now (w .entry)) st (proposeAnswer (now (w .entry)) st l (now (records .entry))) r ⌝ }
+pub extern "C" fn timo_propose(
+    w: &Script,
+    c: &mut Words,
+    n: usize,
+    l: u32,
+    records: &[Record],
+) -> Ticked
+    ensures { λ r. ⌜ ticksAs (now (w .entry)) (record { c = now (c .entry); n = n }) (proposeAnswer (now (w .entry)) (record { c = now (c .entry); n = n }) l (now (records .entry))) r (now (c .exit)) ⌝ }
 {
-    propose(w, st, l, records)
+    propose(w, c, n, l, records)
 }
 
 // The forced report: question 17.

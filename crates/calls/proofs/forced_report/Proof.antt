@@ -5,9 +5,6 @@ use borrow.Author.Needs.{needs}
 use Rattle.calls.proofs.forced_report.Statement.{statement}
 use Rattle.calls.proofs.forced_report.Tie as tie
 
-is-valid-requires : tie.Need-is-valid-requires
-is-valid-requires c κs = search needs
-
 forced-valid-requires : tie.Need-forced-valid-requires
 forced-valid-requires c κs = sym (c .before .is-valid .ensures) ∙ c .if1 .taken
 
@@ -24,4 +21,4 @@ returns-2 c =
     rw v
 
 pub forced-report-spec : {M : Type 1} → statement M
-forced-report-spec = tie.close (tie.spec is-valid-requires forced-valid-requires returns returns-2)
+forced-report-spec = tie.close (tie.spec (λ c κs. search needs) forced-valid-requires returns returns-2)

@@ -5,23 +5,14 @@ use borrow.Author.Needs.{needs}
 use Rattle.calls.proofs.step_at.Statement.{statement}
 use Rattle.calls.proofs.step_at.Tie as tie
 
-is-valid-requires : tie.Need-is-valid-requires
-is-valid-requires c κs = search needs
-
 step-valid-requires : tie.Need-step-valid-requires
 step-valid-requires c κs = sym (c .before .before .before .is-valid .ensures) ∙ c .before .before .if1 .taken
-
-same-length : tie.Need-same-length
-same-length c = search needs
 
 returns : tie.Need-returns
 unfolding stepAnswer
 returns c =
     let v = sym (c .before .before .before .before .before .is-valid .ensures) ∙ c .before .before .before .before .if1 .taken in
     rw v (c .before .step-valid .ensures)
-
-refuse-requires : tie.Need-refuse-requires
-refuse-requires c κs = search needs
 
 returns-2 : tie.Need-returns-2
 unfolding stepAnswer
@@ -32,4 +23,4 @@ returns-2 c =
 pub step-at-spec : {M : Type 1} → statement M
 step-at-spec =
     tie.close
-    (tie.spec is-valid-requires step-valid-requires same-length returns refuse-requires returns-2)
+    (tie.spec (λ c κs. search needs) step-valid-requires (λ c. search needs) returns (λ c κs. search needs) returns-2)

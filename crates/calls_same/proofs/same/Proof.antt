@@ -6,15 +6,9 @@ use borrow.Author.Needs.{needs}
 use Rattle.calls_same.proofs.same.Statement.{statement}
 use Rattle.calls_same.proofs.same.Tie as tie
 
-is-valid-requires : tie.Need-is-valid-requires
-is-valid-requires c κs = search needs
-
 returns : tie.Need-returns
 unfolding sameAnswer
 returns c = rw (failed (c .if1 .taken) (c .before .is-valid .ensures))
-
-is-valid-requires-2 : tie.Need-is-valid-requires-2
-is-valid-requires-2 c κs = search needs
 
 returns-2 : tie.Need-returns-2
 unfolding sameAnswer
@@ -31,9 +25,9 @@ pub same-spec : {M : Type 1} → statement M
 same-spec =
     tie.close
     (tie.spec
-    is-valid-requires
+    (λ c κs. search needs)
     returns
-    is-valid-requires-2
+    (λ c κs. search needs)
     returns-2
     same-networks-requires
     returns-3)

@@ -11,9 +11,6 @@ use borrow.Author.Needs.{needs}
 use Rattle.host.proofs.action_label.Statement.{statement}
 use Rattle.host.proofs.action_label.Tie as tie
 
-is-valid-requires : tie.Need-is-valid-requires
-is-valid-requires c κs = search needs
-
 returns : tie.Need-returns
 unfolding labelAnswer actionAnswer
 returns c = let v = sym (c .before .is-valid .ensures) ∙ not-true _ (c .if1 .taken) in rw v (refuses 17 _)
@@ -26,12 +23,6 @@ returns-2 c =
     let v = sym (c .before .before .before .before .is-valid .ensures) ∙ not-false _ (c .before .before .before .if1 .left) in
     answers-as (label-refused _ _ _ _ _ _ (c .before .before .label-at .result) v (c .before .before .label-at .ensures) (c .if2 .taken)) (refuses _ _)
 
-give-label-requires : tie.Need-give-label-requires
-give-label-requires c κs = search needs
-
-same-length : tie.Need-same-length
-same-length c = search needs
-
 returns-3 : tie.Need-returns-3
 returns-3 c =
     let v = sym (c .before .before .before .before .before .before .before .before .before .is-valid .ensures) ∙ not-false _ (c .before .before .before .before .before .before .before .before .if1 .left) in
@@ -41,10 +32,10 @@ pub action-label-spec : {M : Type 1} → statement M
 action-label-spec =
     tie.close
     (tie.spec
-    is-valid-requires
+    (λ c κs. search needs)
     returns
     label-at-requires
     returns-2
-    give-label-requires
-    same-length
+    (λ c κs. search needs)
+    (λ c. search needs)
     returns-3)

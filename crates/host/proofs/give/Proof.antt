@@ -15,12 +15,6 @@ returns c = let a = c .before .before .before .args in too-long (take (a .k) (a 
 slice-aggregate-put-all : tie.Need-slice-aggregate-put-all
 slice-aggregate-put-all c = sym (length-take-le (c .before .before .before .before .args .k) (c .before .before .before .before .args .s .now) (c .before .before .before .before .pre))
 
-put-all-requires : tie.Need-put-all-requires
-put-all-requires c κs = search needs
-
-same-length : tie.Need-same-length
-same-length c = search needs
-
 returns-2 : tie.Need-returns-2
 returns-2 c =
     let a = c .before .before .before .before .before .before .before .before .args in
@@ -28,4 +22,4 @@ returns-2 c =
 
 pub give-spec : {M : Type 1} → statement M
 give-spec =
-    tie.close (tie.spec returns slice-aggregate-put-all put-all-requires same-length returns-2)
+    tie.close (tie.spec returns slice-aggregate-put-all (λ c κs. search needs) (λ c. search needs) returns-2)

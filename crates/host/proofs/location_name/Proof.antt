@@ -11,15 +11,9 @@ use borrow.Author.Needs.{needs}
 use Rattle.host.proofs.location_name.Statement.{statement}
 use Rattle.host.proofs.location_name.Tie as tie
 
-is-valid-requires : tie.Need-is-valid-requires
-is-valid-requires c κs = search needs
-
 returns : tie.Need-returns
 unfolding nameAnswer
 returns c = let v = sym (c .before .is-valid .ensures) ∙ not-true _ (c .if1 .taken) in rw v (refuses 17 _)
-
-word-requires : tie.Need-word-requires
-word-requires c κs = search needs
 
 returns-2 : tie.Need-returns-2
 unfolding nameAnswer
@@ -27,21 +21,6 @@ returns-2 c =
     let v = sym (c .before .before .before .is-valid .ensures) ∙ not-false _ (c .before .before .if1 .left) in
     let h : locsIn (c .before .before .before .before .before .args .w .now) ≤ c .before .before .before .before .before .args .l = omega (arith, c .before .word .ensures, c .if2 .taken) in
     rw (v, le-ltb _ _ h) (refuses 8 _)
-
-wide-requires : tie.Need-wide-requires
-wide-requires c κs = search needs
-
-mul-give-name : tie.Need-mul-give-name
-mul-give-name c = search needs
-
-add-give-name : tie.Need-add-give-name
-add-give-name c = search needs
-
-give-name-requires : tie.Need-give-name-requires
-give-name-requires c κs = search needs
-
-same-length : tie.Need-same-length
-same-length c = search needs
 
 returns-3 : tie.Need-returns-3
 unfolding nameAnswer locName
@@ -54,13 +33,13 @@ pub location-name-spec : {M : Type 1} → statement M
 location-name-spec =
     tie.close
     (tie.spec
-    is-valid-requires
+    (λ c κs. search needs)
     returns
-    word-requires
+    (λ c κs. search needs)
     returns-2
-    wide-requires
-    mul-give-name
-    add-give-name
-    give-name-requires
-    same-length
+    (λ c κs. search needs)
+    (λ c. search needs)
+    (λ c. search needs)
+    (λ c κs. search needs)
+    (λ c. search needs)
     returns-3)

@@ -6,12 +6,6 @@ use borrow.Author.Needs.{needs}
 use Rattle.host.proofs.locations.Statement.{statement}
 use Rattle.host.proofs.locations.Tie as tie
 
-is-valid-requires : tie.Need-is-valid-requires
-is-valid-requires c κs = search needs
-
-word-requires : tie.Need-word-requires
-word-requires c κs = search needs
-
 returns : tie.Need-returns
 unfolding locationsAnswer
 returns c = let v = sym (c .before .before .is-valid .ensures) ∙ c .before .if1 .taken in rw (v, c .word .ensures)
@@ -21,4 +15,4 @@ unfolding locationsAnswer
 returns-2 c = let v = sym (c .before .is-valid .ensures) ∙ c .if1 .left in rw v
 
 pub locations-spec : {M : Type 1} → statement M
-locations-spec = tie.close (tie.spec is-valid-requires word-requires returns returns-2)
+locations-spec = tie.close (tie.spec (λ c κs. search needs) (λ c κs. search needs) returns returns-2)

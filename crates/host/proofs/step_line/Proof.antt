@@ -12,15 +12,9 @@ use borrow.Author.Needs.{needs}
 use Rattle.host.proofs.step_line.Statement.{statement}
 use Rattle.host.proofs.step_line.Tie as tie
 
-is-valid-requires : tie.Need-is-valid-requires
-is-valid-requires c κs = search needs
-
 returns : tie.Need-returns
 unfolding lineAnswer
 returns c = let v = sym (c .before .is-valid .ensures) ∙ not-true _ (c .if1 .taken) in rw v (refuses 17 _)
-
-slice-aggregate-step-valid : tie.Need-slice-aggregate-step-valid
-slice-aggregate-step-valid c = search needs
 
 step-valid-requires : tie.Need-step-valid-requires
 step-valid-requires c κs = sym (c .before .before .before .before .is-valid .ensures) ∙ not-false _ (c .before .before .before .if1 .left)
@@ -30,29 +24,17 @@ returns-2 c =
     let v = sym (c .before .before .before .before .before .before .before .before .is-valid .ensures) ∙ not-false _ (c .before .before .before .before .before .before .before .if1 .left) in
     answers-as (line-refused _ _ _ _ _ _ _ _ (asked-first _ _ _ 0 _ _ _ _ v (c .before .before .before .step-valid .ensures)) (c .if2 .taken)) (refuses _ _)
 
-slice-aggregate-put-line : tie.Need-slice-aggregate-put-line
-slice-aggregate-put-line c = search needs
-
-slice-aggregate-put-line-2 : tie.Need-slice-aggregate-put-line-2
-slice-aggregate-put-line-2 c = search needs
-
 put-line-requires : tie.Need-put-line-requires
 put-line-requires c κs =
     let v = sym (c .before .before .before .before .before .before .before .before .before .before .is-valid .ensures) ∙ not-false _ (c .before .before .before .before .before .before .before .before .before .if1 .left) in
     let z = c .before .before .if2 .left in
     step-holds _ _ _ _ _ _ _ _ (asked-first _ _ _ 0 _ _ _ _ v (c .before .before .before .before .before .step-valid .ensures)) (omega arith)
 
-slice-aggregate-give : tie.Need-slice-aggregate-give
-slice-aggregate-give c = search needs
-
 give-requires : tie.Need-give-requires
 give-requires c κs =
     let v = sym (c .before .before .before .before .before .before .before .before .before .before .before .before .before .before .is-valid .ensures) ∙ not-false _ (c .before .before .before .before .before .before .before .before .before .before .before .before .before .if1 .left) in
     let h = fits (c .before .before .before .put-line .ensures) (line-short _ _ v _) (omega arith) in
     omega (arith, h, c .before .before .before .put-line .kept)
-
-same-length : tie.Need-same-length
-same-length c = search needs
 
 returns-3 : tie.Need-returns-3
 returns-3 c =
@@ -64,15 +46,15 @@ pub step-line-spec : {M : Type 1} → statement M
 step-line-spec =
     tie.close
     (tie.spec
-    is-valid-requires
+    (λ c κs. search needs)
     returns
-    slice-aggregate-step-valid
+    (λ c. search needs)
     step-valid-requires
     returns-2
-    slice-aggregate-put-line
-    slice-aggregate-put-line-2
+    (λ c. search needs)
+    (λ c. search needs)
     put-line-requires
-    slice-aggregate-give
+    (λ c. search needs)
     give-requires
-    same-length
+    (λ c. search needs)
     returns-3)

@@ -8,11 +8,5 @@ use Rattle.run_emit.proofs.emit.Tie as tie
 slice-aggregate-write-all : tie.Need-slice-aggregate-write-all
 slice-aggregate-write-all c = sym (length-take-le (c .before .before .args .n) (c .before .before .args .out .now) (c .before .before .pre))
 
-write-all-requires : tie.Need-write-all-requires
-write-all-requires c κs = search needs
-
-returns : tie.Need-returns
-returns c = search needs
-
 pub emit-spec : {M : Type 1} → statement M
-emit-spec = tie.close (tie.spec slice-aggregate-write-all write-all-requires returns)
+emit-spec = tie.close (tie.spec slice-aggregate-write-all (λ c κs. search needs) (λ c. search needs))

@@ -33,9 +33,6 @@ part-read-some-end c =
     let v = c .before .loop .inv .0 in
     search needs
 
-read-some-requires : tie.Need-read-some-requires Inv-loop μ-loop
-read-some-requires c κs = search needs
-
 same-length : tie.Need-same-length Inv-loop μ-loop
 same-length c = c .before .before .buf .given .1 ∙ c .before .before .before .before .before .before .loop .inv .1
 
@@ -60,8 +57,9 @@ loop-less c = omega (arith, c .before .before .before .before .before .buf .give
 
 loop-again : tie.Need-loop-again Inv-loop μ-loop
 loop-again c =
-    let q = c .before .before .before .before .before .buf .given .1 in
-    (omega (arith, q, mid-len (c .before .before .before .before .before .before .before .before .before .loop .n) (length (c .before .before .before .before .before .before .before .before .before .loop .buf)) (c .before .before .before .before .before .before .before .before .before .loop .buf) (omega arith), c .before .before .before .before .before .before .read-some .ensures, c .before .before .before .before .before .before .before .before .before .loop .inv .0), q ∙ c .before .before .before .before .before .before .before .before .before .loop .inv .1)
+    let past = c .before .before .before .before .before in
+    let q = past .buf .given .1 in
+    (omega (arith, q, mid-len (past .before .before .before .before .loop .n) (length (past .before .before .before .before .loop .buf)) (past .before .before .before .before .loop .buf) (omega arith), past .before .read-some .ensures, past .before .before .before .before .loop .inv .0), q ∙ past .before .before .before .before .loop .inv .1)
 
 same-length-3 : tie.Need-same-length-3 Inv-loop μ-loop
 same-length-3 c = c .before .loop .inv .1
@@ -81,7 +79,7 @@ read-input-spec =
     sub-read-some
     part-read-some-start
     part-read-some-end
-    read-some-requires
+    (λ c κs. search needs)
     same-length
     returns
     same-length-2

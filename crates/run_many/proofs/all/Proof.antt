@@ -11,15 +11,6 @@ Inv-loop s a₀ a = a ≤ length s
 abbrev μ-loop : tie.MeasureT-loop
 μ-loop s a₀ a = length s - a
 
-loop-holds : tie.Need-loop-holds Inv-loop μ-loop
-loop-holds c = search needs
-
-mark-requires : tie.Need-mark-requires Inv-loop μ-loop
-mark-requires c κs = search needs
-
-sub-one : tie.Need-sub-one Inv-loop μ-loop
-sub-one c = search needs
-
 part-one-start : tie.Need-part-one-start Inv-loop μ-loop
 part-one-start c =
     let e = c .mark .ensures in
@@ -30,16 +21,10 @@ part-one-end c =
     let e = c .mark .ensures in
     search needs
 
-one-requires : tie.Need-one-requires Inv-loop μ-loop
-one-requires c κs = search needs
-
 sub-if1 : tie.Need-sub-if1 Inv-loop μ-loop
 sub-if1 c =
     let e = c .before .before .mark .ensures in
     search needs
-
-returns : tie.Need-returns Inv-loop μ-loop
-returns c = search needs
 
 add-a : tie.Need-add-a Inv-loop μ-loop
 add-a c =
@@ -56,24 +41,21 @@ loop-again c =
     let e = c .before .before .before .mark .ensures in
     search needs
 
-returns-2 : tie.Need-returns-2 Inv-loop μ-loop
-returns-2 c = search needs
-
 pub all-spec : {M : Type 1} → statement M
 all-spec =
     tie.close
     (tie.spec
     Inv-loop
     μ-loop
-    loop-holds
-    mark-requires
-    sub-one
+    (λ c. search needs)
+    (λ c κs. search needs)
+    (λ c. search needs)
     part-one-start
     part-one-end
-    one-requires
+    (λ c κs. search needs)
     sub-if1
-    returns
+    (λ c. search needs)
     add-a
     loop-less
     loop-again
-    returns-2)
+    (λ c. search needs))

@@ -5,13 +5,10 @@ use Rattle.run_print.proofs.Pieces.{begins}
 use Rattle.run_print.proofs.begin.Statement.{statement}
 use Rattle.run_print.proofs.begin.Tie as tie
 
-read-over-requires : tie.Need-read-over-requires
-read-over-requires c κs = search needs
-
 returns : tie.Need-returns
 returns c =
     let b = begins _ _ _ _ _ (c .before .read-over .ensures) in
     (refl, b .0, b .1, c .before .read-over .ensures)
 
 pub begin-spec : {M : Type 1} → statement M
-begin-spec = tie.close (tie.spec read-over-requires returns)
+begin-spec = tie.close (tie.spec (λ c κs. search needs) returns)

@@ -7,15 +7,6 @@ use Rattle.run_print.proofs.Pieces.{piece-refused, piece-ending, piece-
 use Rattle.run_print.proofs.next_piece.Statement.{statement}
 use Rattle.run_print.proofs.next_piece.Tie as tie
 
-put-refused-requires : tie.Need-put-refused-requires
-put-refused-requires c κs = search needs
-
-finished-requires : tie.Need-finished-requires
-finished-requires c κs = search needs
-
-same-length : tie.Need-same-length
-same-length c = search needs
-
 returns : tie.Need-returns
 returns c =
     let p = c .before .before .before .before .before .before .before .before .pre in
@@ -25,12 +16,6 @@ put-ending-requires : tie.Need-put-ending-requires
 put-ending-requires c κs =
     let p = c .before .before .before .before .before .before .before .pre in
     (p .1 .1 (omega (arith, c .before .before .before .before .if1 .left)) .0, p .2)
-
-finished-requires-2 : tie.Need-finished-requires-2
-finished-requires-2 c κs = search needs
-
-same-length-2 : tie.Need-same-length-2
-same-length-2 c = search needs
 
 returns-2 : tie.Need-returns-2
 returns-2 c =
@@ -49,22 +34,10 @@ turn-requires c κs =
     let v = c .before .before .before .before .before .before .before .before .pre .1 .1 (omega (arith, c .before .before .before .before .before .if1 .left)) in
     (v .0, v .1)
 
-finished-requires-3 : tie.Need-finished-requires-3
-finished-requires-3 c κs = search needs
-
-same-length-3 : tie.Need-same-length-3
-same-length-3 c = search needs
-
 returns-3 : tie.Need-returns-3
 returns-3 c =
     let p = c .before .before .before .before .before .before .before .before .before .before .before .before .before .before .pre in
     piece-stopped _ _ (p .0) (p .1) (omega (arith, c .before .before .before .before .before .before .before .before .before .before .before .if1 .left)) (omega (arith, c .before .before .before .before .before .before .before .before .if2 .left)) _ _ _ (c .before .before .before .before .before .turn .ensures) (p .2) _ (c .before .if3 .taken) (c .finished3 .ensures)
-
-word-requires : tie.Need-word-requires
-word-requires c κs = search needs
-
-wide-requires : tie.Need-wide-requires
-wide-requires c κs = search needs
 
 add-if4 : tie.Need-add-if4
 add-if4 c =
@@ -73,20 +46,13 @@ add-if4 c =
     let a = v .1 in
     search needs
 
-add-before-step : tie.Need-add-before-step
-add-before-step c = search needs
-
-before-step-requires : tie.Need-before-step-requires
-before-step-requires c κs = search needs
-
-same-length-4 : tie.Need-same-length-4
-same-length-4 c = search needs
-
 returns-4 : tie.Need-returns-4
 returns-4 c =
-    let p = c .before .before .before .before .before .before .before .before .before .before .before .before .before .before .before .before .before .before .before .before .pre in
-    let e = c .before .before .before .before .wide .ensures ∙ c .before .before .before .before .before .word .ensures in
-    piece-next _ _ (p .0) (p .1) (omega (arith, c .before .before .before .before .before .before .before .before .before .before .before .before .before .before .before .before .before .if1 .left)) (omega (arith, c .before .before .before .before .before .before .before .before .before .before .before .before .before .before .if2 .left)) _ _ _ (c .before .before .before .before .before .before .before .before .before .before .before .turn .ensures) (p .2) (omega (arith, c .before .before .before .before .before .before .before .if3 .left)) _ (c .before .before .if4 .taken ∙ e) (c .before-step .ensures)
+    let past = c .before .before .before .before in
+    let far = past .before .before .before in
+    let p = far .before .before .before .before .before .before .before .before .before .before .before .before .before .pre in
+    let e = past .wide .ensures ∙ past .before .word .ensures in
+    piece-next _ _ (p .0) (p .1) (omega (arith, far .before .before .before .before .before .before .before .before .before .before .if1 .left)) (omega (arith, far .before .before .before .before .before .before .before .if2 .left)) _ _ _ (far .before .before .before .before .turn .ensures) (p .2) (omega (arith, far .if3 .left)) _ (c .before .before .if4 .taken ∙ e) (c .before-step .ensures)
 
 add-before-step-2 : tie.Need-add-before-step-2
 add-before-step-2 c =
@@ -95,43 +61,39 @@ add-before-step-2 c =
     let a = v .1 in
     search needs
 
-before-step-requires-2 : tie.Need-before-step-requires-2
-before-step-requires-2 c κs = search needs
-
-same-length-5 : tie.Need-same-length-5
-same-length-5 c = search needs
-
 returns-5 : tie.Need-returns-5
 returns-5 c =
-    let p = c .before .before .before .before .before .before .before .before .before .before .before .before .before .before .before .before .before .before .before .before .pre in
-    let e = c .before .before .before .before .wide .ensures ∙ c .before .before .before .before .before .word .ensures in
-    piece-on _ _ (p .0) (p .1) (omega (arith, c .before .before .before .before .before .before .before .before .before .before .before .before .before .before .before .before .before .if1 .left)) (omega (arith, c .before .before .before .before .before .before .before .before .before .before .before .before .before .before .if2 .left)) _ _ _ (c .before .before .before .before .before .before .before .before .before .before .before .turn .ensures) (p .2) (omega (arith, c .before .before .before .before .before .before .before .if3 .left)) _ (λ q. c .before .before .if4 .left (q ∙ sym e)) (c .before-step2 .ensures)
+    let past = c .before .before .before .before in
+    let far = past .before .before .before in
+    let p = far .before .before .before .before .before .before .before .before .before .before .before .before .before .pre in
+    let e = past .wide .ensures ∙ past .before .word .ensures in
+    piece-on _ _ (p .0) (p .1) (omega (arith, far .before .before .before .before .before .before .before .before .before .before .if1 .left)) (omega (arith, far .before .before .before .before .before .before .before .if2 .left)) _ _ _ (far .before .before .before .before .turn .ensures) (p .2) (omega (arith, far .if3 .left)) _ (λ q. c .before .before .if4 .left (q ∙ sym e)) (c .before-step2 .ensures)
 
 pub next-piece-spec : {M : Type 1} → statement M
 next-piece-spec =
     tie.close
     (tie.spec
-    put-refused-requires
-    finished-requires
-    same-length
+    (λ c κs. search needs)
+    (λ c κs. search needs)
+    (λ c. search needs)
     returns
     put-ending-requires
-    finished-requires-2
-    same-length-2
+    (λ c κs. search needs)
+    (λ c. search needs)
     returns-2
     cast-turn
     turn-requires
-    finished-requires-3
-    same-length-3
+    (λ c κs. search needs)
+    (λ c. search needs)
     returns-3
-    word-requires
-    wide-requires
+    (λ c κs. search needs)
+    (λ c κs. search needs)
     add-if4
-    add-before-step
-    before-step-requires
-    same-length-4
+    (λ c. search needs)
+    (λ c κs. search needs)
+    (λ c. search needs)
     returns-4
     add-before-step-2
-    before-step-requires-2
-    same-length-5
+    (λ c κs. search needs)
+    (λ c. search needs)
     returns-5)

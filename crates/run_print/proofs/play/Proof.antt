@@ -6,7 +6,7 @@ use mathlib.Core.Bool.{true}
 use mathlib.Core.Path.{_≡_, refl, _∙_}
 use lib.ListN.{length}
 use borrow.Author.Needs.{needs}
-use Rattle.table.specs.Meaning.{defsOf, netOf}
+use Rattle.table.specs.Meaning.{contextOf, netOf}
 use Rattle.table.specs.Valid.{valid}
 use Rattle.text_build.specs.Rows.{locsOf}
 use Rattle.run_print.specs.Print.{four, playing}
@@ -16,16 +16,10 @@ use Rattle.run_print.proofs.play.Statement.{statement}
 use Rattle.run_print.proofs.play.Tie as tie
 
 abbrev Inv-loop : tie.InvT-loop
-Inv-loop w buf₀ n now₀ at₀ round₀ l₀ buf now at round l = (valid w now ≡ true) × (l < n) × (round * 64 + l ≤ 256) × (length buf ≡ length buf₀) × Playing w buf₀ (playing (defsOf w) (four (locsOf w)) (netOf w now₀)) buf at now round l × (at ≤ 13_329 * (round * 64 + l))
+Inv-loop w buf₀ n now₀ at₀ round₀ l₀ buf now at round l = (valid w now ≡ true) × (l < n) × (round * 64 + l ≤ 256) × (length buf ≡ length buf₀) × Playing w buf₀ (playing (contextOf w) (four (locsOf w)) (netOf w now₀)) buf at now round l × (at ≤ 13_329 * (round * 64 + l))
 
 abbrev μ-loop : tie.MeasureT-loop
 μ-loop w buf₀ n now₀ at₀ round₀ l₀ buf now at round l = (4 - round) * 100 - l
-
-word-requires : tie.Need-word-requires Inv-loop μ-loop
-word-requires c κs = search needs
-
-wide-requires : tie.Need-wide-requires Inv-loop μ-loop
-wide-requires c κs = search needs
 
 loop-holds : tie.Need-loop-holds Inv-loop μ-loop
 loop-holds c =
@@ -53,11 +47,12 @@ same-length c =
 
 returns : tie.Need-returns Inv-loop μ-loop
 returns c =
-    let v = c .before .before .before .before .before .before .before .loop .inv in
-    let e = c .before .before .before .before .before .before .before .before .wide .ensures ∙ c .before .before .before .before .before .before .before .before .before .word .ensures in
+    let past = c .before .before .before .before in
+    let v = past .before .before .before .loop .inv in
+    let e = past .before .before .before .before .wide .ensures ∙ past .before .before .before .before .before .word .ensures in
     let a = v .1 in
-    let f = turn-ends _ (c .before .before .before .before .before .before .before .loop .now) (c .before .before .before .before .before .before .before .loop .l) (v .0) _ _ _ _ (c .before .before .before .before .turn .ensures) in
-    (play-stopped _ (c .before .before .before .before .before .before .before .loop .now) (c .before .before .before .before .before .before .before .loop .round) (c .before .before .before .before .before .before .before .loop .l) (c .before .before .before .before .before .before .loop-test .taken) (omega arith) (v .4) _ (c .before .before .before .before .turn .ensures) (c .if1 .taken), omega arith)
+    let f = turn-ends _ (past .before .before .before .loop .now) (past .before .before .before .loop .l) (v .0) _ _ _ _ (past .turn .ensures) in
+    (play-stopped _ (past .before .before .before .loop .now) (past .before .before .before .loop .round) (past .before .before .before .loop .l) (past .before .before .loop-test .taken) (omega arith) (v .4) _ (past .turn .ensures) (c .if1 .taken), omega arith)
 
 add-l : tie.Need-add-l Inv-loop μ-loop
 add-l c =
@@ -82,15 +77,16 @@ loop-less c =
 
 loop-again : tie.Need-loop-again Inv-loop μ-loop
 loop-again c =
-    let v = c .before .before .before .before .before .before .before .before .before .loop .inv in
-    let e = c .before .before .before .before .before .before .before .before .before .before .wide .ensures ∙ c .before .before .before .before .before .before .before .before .before .before .before .word .ensures in
+    let past = c .before .before .before .before .before in
+    let v = past .before .before .before .before .loop .inv in
+    let e = past .before .before .before .before .before .wide .ensures ∙ past .before .before .before .before .before .before .word .ensures in
     let a = v .1 in
-    let b = c .before .before .before .before .before .before .before .before .loop-test .taken in
+    let b = past .before .before .before .loop-test .taken in
     let z = c .before .before .if1 .left in
-    let p = play-on _ (c .before .before .before .before .before .before .before .before .before .loop .now) (c .before .before .before .before .before .before .before .before .before .loop .round) (c .before .before .before .before .before .before .before .before .before .loop .l) b (omega arith) (v .4) _ (c .before .before .before .before .before .before .turn .ensures) (omega arith) in
-    let f = turn-ends _ (c .before .before .before .before .before .before .before .before .before .loop .now) (c .before .before .before .before .before .before .before .before .before .loop .l) (v .0) _ _ _ _ (c .before .before .before .before .before .before .turn .ensures) in
+    let p = play-on _ (past .before .before .before .before .loop .now) (past .before .before .before .before .loop .round) (past .before .before .before .before .loop .l) b (omega arith) (v .4) _ (past .before .turn .ensures) (omega arith) in
+    let f = turn-ends _ (past .before .before .before .before .loop .now) (past .before .before .before .before .loop .l) (v .0) _ _ _ _ (past .before .turn .ensures) in
     let g = locs-few _ _ (v .0) in
-    (p .0, omega arith, omega arith, c .before .before .before .before .before .buf .given ∙ v .3, play-next _ (c .before .before .before .before .before .before .before .before .before .loop .now) (c .before .before .before .before .before .before .before .before .before .loop .round) (c .before .before .before .before .before .before .before .before .before .loop .l) b (omega arith) (v .4) _ (c .before .before .before .before .before .before .turn .ensures) (omega arith) (c .if2 .taken ∙ e), omega arith)
+    (p .0, omega arith, omega arith, past .buf .given ∙ v .3, play-next _ (past .before .before .before .before .loop .now) (past .before .before .before .before .loop .round) (past .before .before .before .before .loop .l) b (omega arith) (v .4) _ (past .before .turn .ensures) (omega arith) (c .if2 .taken ∙ e), omega arith)
 
 loop-less-2 : tie.Need-loop-less-2 Inv-loop μ-loop
 loop-less-2 c =
@@ -133,8 +129,8 @@ play-spec =
     (tie.spec
     Inv-loop
     μ-loop
-    word-requires
-    wide-requires
+    (λ c κs. search needs)
+    (λ c κs. search needs)
     loop-holds
     cast-turn
     turn-requires

@@ -7,15 +7,6 @@ use Rattle.run_print.proofs.Fits.{refused-ends}
 use Rattle.run_print.proofs.printout.Statement.{statement}
 use Rattle.run_print.proofs.printout.Tie as tie
 
-read-requires : tie.Need-read-requires
-read-requires c κs = search needs
-
-put-refused-requires : tie.Need-put-refused-requires
-put-refused-requires c κs = search needs
-
-same-length : tie.Need-same-length
-same-length c = search needs
-
 returns : tie.Need-returns
 returns c =
     let h = whole-number _ _ _ _ _ (c .before .before .before .before .before .before .read .ensures) (c .before .before .before .before .if1 .taken) in
@@ -25,9 +16,6 @@ returns c =
 play-requires : tie.Need-play-requires
 play-requires c κs = whole-good _ _ _ _ _ (c .before .before .before .before .before .read .ensures) (omega (arith, c .before .before .before .if1 .left))
 
-same-length-2 : tie.Need-same-length-2
-same-length-2 c = search needs
-
 returns-2 : tie.Need-returns-2
 returns-2 c = (same (whole-printed _ _ _ _ _ (c .before .before .before .before .before .before .before .before .read .ensures) (omega (arith, c .before .before .before .before .before .before .if1 .left))) (c .before .before .play .ensures .0), c .before .before .play .ensures .1)
 
@@ -35,10 +23,10 @@ pub printout-spec : {M : Type 1} → statement M
 printout-spec =
     tie.close
     (tie.spec
-    read-requires
-    put-refused-requires
-    same-length
+    (λ c κs. search needs)
+    (λ c κs. search needs)
+    (λ c. search needs)
     returns
     play-requires
-    same-length-2
+    (λ c. search needs)
     returns-2)

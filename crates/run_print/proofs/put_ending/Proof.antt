@@ -9,15 +9,6 @@ use Rattle.run_print.proofs.Pieces.{front-ending}
 use Rattle.run_print.proofs.put_ending.Statement.{statement}
 use Rattle.run_print.proofs.put_ending.Tie as tie
 
-write-requires : tie.Need-write-requires
-write-requires c κs = search needs
-
-put-refused-requires : tie.Need-put-refused-requires
-put-refused-requires c κs = search needs
-
-same-length : tie.Need-same-length
-same-length c = search needs
-
 returns : tie.Need-returns
 returns c =
     let p = c .before .before .before .before .before .before .before .before .before .before .before .before .before .pre in
@@ -25,9 +16,6 @@ returns c =
     let n = c .before .before .before .before .if1 .taken in
     let f = front-ending _ _ (same (ending-refused _ _ (p .0) (p .1) _ x n) (c .before .before .put-refused .ensures)) (c .before .before .before .before .before .before .before .buf .given ∙ p .1) in
     (f .0, f .1, f .2 ∙ ap (drop (c .before .before .put-refused .result)) (ending-kept _ _ (p .0) (p .1) _ x n))
-
-same-length-2 : tie.Need-same-length-2
-same-length-2 c = search needs
 
 returns-2 : tie.Need-returns-2
 returns-2 c =
@@ -38,4 +26,4 @@ returns-2 c =
 pub put-ending-spec : {M : Type 1} → statement M
 put-ending-spec =
     tie.close
-    (tie.spec write-requires put-refused-requires same-length returns same-length-2 returns-2)
+    (tie.spec (λ c κs. search needs) (λ c κs. search needs) (λ c. search needs) returns (λ c. search needs) returns-2)

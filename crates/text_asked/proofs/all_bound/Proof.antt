@@ -6,7 +6,7 @@ use mathlib.Core.Path.{_≡_, sym, _∙_}
 use mathlib.Core.Bool.{true}
 use borrow.Author.Needs.{needs}
 use borrow.Author.Count.{below-none, below-more}
-use Rattle.table.specs.Words.{partsIn, field, headAt}
+use Rattle.table.specs.Words.{partsIn, field, headAt, countField}
 use Rattle.text_tree.specs.Asked.{valuesBound, allBound}
 use Rattle.table.proofs.ValidLists.{below-all, below-miss}
 use Rattle.table.proofs.ValidBool.{failed, passed}
@@ -14,16 +14,10 @@ use Rattle.text_asked.proofs.all_bound.Statement.{statement}
 use Rattle.text_asked.proofs.all_bound.Tie as tie
 
 abbrev Inv-loop : tie.InvT-loop
-Inv-loop w n i₀ i = (n ≡ partsIn w) × (i ≤ n) × ((k : ℕ) → k < i → valuesBound (field w k 8) (headAt w k) ≡ true)
+Inv-loop w n i₀ i = (n ≡ partsIn w) × (i ≤ n) × ((k : ℕ) → k < i → valuesBound w k (field w k countField) (headAt w k) ≡ true)
 
 abbrev μ-loop : tie.MeasureT-loop
 μ-loop w n i₀ i = n - i
-
-word-requires : tie.Need-word-requires Inv-loop μ-loop
-word-requires c κs = search needs
-
-wide-requires : tie.Need-wide-requires Inv-loop μ-loop
-wide-requires c κs = search needs
 
 loop-holds : tie.Need-loop-holds Inv-loop μ-loop
 loop-holds c = (c .wide .ensures ∙ c .before .word .ensures, omega arith, below-none _)
@@ -36,7 +30,7 @@ unfolding allBound
 returns c =
     let w = c .before .before .before .before .before .before .args .w .now in
     let l = c .before .before .before .loop in
-    sym (below-miss (λ k. valuesBound (field w k 8) (headAt w k)) (partsIn w) (l .i) (omega (arith, l .inv .0)) (failed (c .if1 .taken) (c .before .values-bound .ensures)))
+    sym (below-miss (λ k. valuesBound w k (field w k countField) (headAt w k)) (partsIn w) (l .i) (omega (arith, l .inv .0)) (failed (c .if1 .taken) (c .before .values-bound .ensures)))
 
 add-i : tie.Need-add-i Inv-loop μ-loop
 add-i c = omega (arith, c .before .before .before .loop .inv .0, c .before .before .before .before .before .before .pre)
@@ -52,7 +46,7 @@ unfolding allBound
 returns-2 c =
     let w = c .before .before .before .before .args .w .now in
     let l = c .before .loop in
-    sym (below-all (λ k. valuesBound (field w k 8) (headAt w k)) (partsIn w) (λ k b. l .inv .2 k (omega (arith, l .inv .0))))
+    sym (below-all (λ k. valuesBound w k (field w k countField) (headAt w k)) (partsIn w) (λ k b. l .inv .2 k (omega (arith, l .inv .0))))
 
 pub all-bound-spec : {M : Type 1} → statement M
 all-bound-spec =
@@ -60,8 +54,8 @@ all-bound-spec =
     (tie.spec
     Inv-loop
     μ-loop
-    word-requires
-    wide-requires
+    (λ c κs. search needs)
+    (λ c κs. search needs)
     loop-holds
     values-bound-requires
     returns

@@ -6,7 +6,7 @@ use mathlib.Core.Path.{_≡_, ap, _∙_}
 use mathlib.Core.Bool.{true, false}
 use borrow.Author.Needs.{needs}
 use Rattle.terms.specs.Letters.{distinct}
-use Rattle.table.specs.Words.{defsIn, defName}
+use Rattle.table.specs.Words.{defsIn, defName, idsAt, rowSize}
 use Rattle.table.specs.Meaning.{listFrom}
 use Rattle.table.specs.Tests.{rowName}
 use Rattle.table.proofs.ValidBool.{failed, passed}
@@ -16,18 +16,9 @@ use Rattle.text_asked.proofs.apart.Statement.{statement}
 use Rattle.text_asked.proofs.apart.Tie as tie
 
 -- the identifiers stand 24 words apart
-ids-row : (w : List ℕ) (n : ℕ) → n ≡ defsIn w → distinct (listFrom 0 n (rowName w 10 24)) ≡ distinct (idsOf w)
+ids-row : (w : List ℕ) (n : ℕ) → n ≡ defsIn w → distinct (listFrom 0 n (rowName w idsAt rowSize)) ≡ distinct (idsOf w)
 unfolding idsOf defName rowName
 ids-row w n e = ap (λ m. distinct (listFrom 0 m (defName w))) e
-
-word-requires : tie.Need-word-requires
-word-requires c κs = search needs
-
-wide-requires : tie.Need-wide-requires
-wide-requires c κs = search needs
-
-all-apart-requires : tie.Need-all-apart-requires
-all-apart-requires c κs = search needs
 
 returns : tie.Need-returns
 unfolding apart
@@ -36,9 +27,6 @@ returns c =
     let n = c .before .before .wide .ensures ∙ c .before .before .before .word .ensures in
     let h : distinct (idsOf w) ≡ false = failed (c .if1 .taken) (c .before .all-apart .ensures ∙ ids-row w _ n) in
     rw h
-
-each-apart-requires : tie.Need-each-apart-requires
-each-apart-requires c κs = search needs
 
 returns-2 : tie.Need-returns-2
 unfolding apart
@@ -51,4 +39,4 @@ returns-2 c =
 pub apart-spec : {M : Type 1} → statement M
 apart-spec =
     tie.close
-    (tie.spec word-requires wide-requires all-apart-requires returns each-apart-requires returns-2)
+    (tie.spec (λ c κs. search needs) (λ c κs. search needs) (λ c κs. search needs) returns (λ c κs. search needs) returns-2)

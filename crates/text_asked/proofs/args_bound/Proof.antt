@@ -6,21 +6,18 @@ use mathlib.Core.Path.{_≡_, sym, ap, _∙_}
 use mathlib.Core.Bool.{true, false}
 use borrow.Author.Needs.{needs}
 use borrow.Author.Count.{below-none, below-more}
-use Rattle.table.specs.Words.{field}
+use Rattle.table.specs.Words.{field, argField}
 use Rattle.text_tree.specs.Asked.{inScope}
-use Rattle.table.proofs.ValidParts.{args-all, args-miss}
+use Rattle.table_valid.proofs.ValidParts.{args-all, args-miss}
 use Rattle.table.proofs.ValidBool.{failed, passed}
 use Rattle.text_asked.proofs.args_bound.Statement.{statement}
 use Rattle.text_asked.proofs.args_bound.Tie as tie
 
 abbrev Inv-loop : tie.InvT-loop
-Inv-loop w i n m e k₀ k = (e ≡ m) × (k ≤ 4) × ((j : ℕ) → j < k → inScope n (field w i (17 + j)) ≡ true)
+Inv-loop w i n m e k₀ k = (e ≡ m) × (k ≤ 4) × ((j : ℕ) → j < k → inScope n (field w i (argField + j)) ≡ true)
 
 abbrev μ-loop : tie.MeasureT-loop
 μ-loop w i n m e k₀ k = 4 - k
-
-wide-requires : tie.Need-wide-requires Inv-loop μ-loop
-wide-requires c κs = search needs
 
 loop-holds : tie.Need-loop-holds Inv-loop μ-loop
 loop-holds c = (c .wide .ensures, omega arith, below-none _)
@@ -37,19 +34,13 @@ returns c =
 add-field : tie.Need-add-field Inv-loop μ-loop
 add-field c = omega arith
 
-field-requires : tie.Need-field-requires Inv-loop μ-loop
-field-requires c κs = search needs
-
-in-scope-requires : tie.Need-in-scope-requires Inv-loop μ-loop
-in-scope-requires c κs = search needs
-
 returns-2 : tie.Need-returns-2 Inv-loop μ-loop
 returns-2 c =
     let a = c .before .before .before .before .before .before .before .args in
     let w = a .w .now in
     let i = a .i in
     let n = a .n in
-    let r : inScope n (field w i (17 + c .before .before .before .before .before .loop .k)) ≡ false = failed (c .if2 .taken) (c .before .in-scope .ensures ∙ ap (inScope n) (c .before .before .field .ensures)) in
+    let r : inScope n (field w i (argField + c .before .before .before .before .before .loop .k)) ≡ false = failed (c .if2 .taken) (c .before .in-scope .ensures ∙ ap (inScope n) (c .before .before .field .ensures)) in
     let l = c .before .before .before .before .before .loop in
     sym (args-miss w i (inScope n) (a .m) (l .k) (omega (arith, l .inv .0)) (omega arith) r)
 
@@ -65,7 +56,7 @@ loop-again c =
     let w = a .w .now in
     let i = a .i in
     let n = a .n in
-    let r : inScope n (field w i (17 + c .before .before .before .before .before .loop .k)) ≡ true = passed (c .if2 .left) (c .before .in-scope .ensures ∙ ap (inScope n) (c .before .before .field .ensures)) in
+    let r : inScope n (field w i (argField + c .before .before .before .before .before .loop .k)) ≡ true = passed (c .if2 .left) (c .before .in-scope .ensures ∙ ap (inScope n) (c .before .before .field .ensures)) in
     let l = c .before .before .before .before .before .loop in
     (l .inv .0, omega arith, below-more _ _ (l .inv .2) r)
 
@@ -84,12 +75,12 @@ args-bound-spec =
     (tie.spec
     Inv-loop
     μ-loop
-    wide-requires
+    (λ c κs. search needs)
     loop-holds
     returns
     add-field
-    field-requires
-    in-scope-requires
+    (λ c κs. search needs)
+    (λ c κs. search needs)
     returns-2
     add-k
     loop-less

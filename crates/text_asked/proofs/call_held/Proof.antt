@@ -6,50 +6,32 @@ use mathlib.Core.Bool.{true, false}
 use lib.Dec.{eqb, ltb}
 use borrow.Author.Tests.{lt-ltb, le-ltb}
 use borrow.Author.Needs.{needs}
-use Rattle.table.specs.Words.{defsIn, arityOf, field}
+use Rattle.table.specs.Words.{defsIn, arityOf, field, kindField, nameField}
 use Rattle.text_asked.proofs.Rows.{held-call, held-other}
 use Rattle.text_asked.proofs.call_held.Statement.{statement}
 use Rattle.text_asked.proofs.call_held.Tie as tie
-
-field-requires : tie.Need-field-requires
-field-requires c κs = search needs
 
 returns : tie.Need-returns
 returns c =
     let a = c .before .before .args in
     sym (held-other (a .w .now) (a .i) (λ e. c .if1 .taken (c .before .field .ensures ∙ e)))
 
-word-requires : tie.Need-word-requires
-word-requires c κs = search needs
-
-field-requires-2 : tie.Need-field-requires-2
-field-requires-2 c κs = search needs
-
 returns-2 : tie.Need-returns-2
 returns-2 c =
     let a = c .before .before .before .before .before .args in
     let w = a .w .now in
     let i = a .i in
-    let k : field w i 0 ≡ 4 = sym (c .before .before .before .before .field .ensures) ∙ c .before .before .before .if1 .left in
-    let h : ltb (field w i 1) (defsIn w) ≡ false = le-ltb (field w i 1) (defsIn w) (omega (arith, c .if2 .taken, c .before .field2 .ensures, c .before .before .word .ensures)) in
+    let k : field w i kindField ≡ 4 = sym (c .before .before .before .before .field .ensures) ∙ c .before .before .before .if1 .left in
+    let h : ltb (field w i nameField) (defsIn w) ≡ false = le-ltb (field w i nameField) (defsIn w) (omega (arith, c .if2 .taken, c .before .field2 .ensures, c .before .before .word .ensures)) in
     sym (held-call w i k ∙ rw h)
-
-field-requires-3 : tie.Need-field-requires-3
-field-requires-3 c κs = search needs
-
-wide-requires : tie.Need-wide-requires
-wide-requires c κs = search needs
-
-arity-of-requires : tie.Need-arity-of-requires
-arity-of-requires c κs = search needs
 
 returns-3 : tie.Need-returns-3
 returns-3 c =
     let a = c .before .before .before .before .before .before .before .before .args in
     let w = a .w .now in
     let i = a .i in
-    let k : field w i 0 ≡ 4 = sym (c .before .before .before .before .before .before .before .field .ensures) ∙ c .before .before .before .before .before .before .if1 .left in
-    let h : ltb (field w i 1) (defsIn w) ≡ true = lt-ltb (field w i 1) (defsIn w) (omega (arith, c .before .before .before .if2 .left, c .before .before .before .before .field2 .ensures, c .before .before .before .before .before .word .ensures)) in
+    let k : field w i kindField ≡ 4 = sym (c .before .before .before .before .before .before .before .field .ensures) ∙ c .before .before .before .before .before .before .if1 .left in
+    let h : ltb (field w i nameField) (defsIn w) ≡ true = lt-ltb (field w i nameField) (defsIn w) (omega (arith, c .before .before .before .if2 .left, c .before .before .before .before .field2 .ensures, c .before .before .before .before .before .word .ensures)) in
     ap₂ eqb (c .before .before .field3 .ensures) (c .arity-of .ensures ∙ ap (arityOf w) (c .before .wide .ensures ∙ c .before .before .before .before .field2 .ensures))
     ∙ sym (held-call w i k ∙ rw h)
 
@@ -57,12 +39,12 @@ pub call-held-spec : {M : Type 1} → statement M
 call-held-spec =
     tie.close
     (tie.spec
-    field-requires
+    (λ c κs. search needs)
     returns
-    word-requires
-    field-requires-2
+    (λ c κs. search needs)
+    (λ c κs. search needs)
     returns-2
-    field-requires-3
-    wide-requires
-    arity-of-requires
+    (λ c κs. search needs)
+    (λ c κs. search needs)
+    (λ c κs. search needs)
     returns-3)

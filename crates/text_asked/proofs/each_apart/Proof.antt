@@ -19,12 +19,6 @@ Inv-loop w n d₀ d = (n ≡ defsIn w) × (d ≤ n) × ((k : ℕ) → k < d → 
 abbrev μ-loop : tie.MeasureT-loop
 μ-loop w n d₀ d = n - d
 
-word-requires : tie.Need-word-requires Inv-loop μ-loop
-word-requires c κs = search needs
-
-wide-requires : tie.Need-wide-requires Inv-loop μ-loop
-wide-requires c κs = search needs
-
 loop-holds : tie.Need-loop-holds Inv-loop μ-loop
 loop-holds c = (c .wide .ensures ∙ c .before .word .ensures, omega arith, below-none _)
 
@@ -58,8 +52,8 @@ each-apart-spec =
     (tie.spec
     Inv-loop
     μ-loop
-    word-requires
-    wide-requires
+    (λ c κs. search needs)
+    (λ c κs. search needs)
     loop-holds
     params-apart-requires
     returns

@@ -10,36 +10,12 @@ use Rattle.text_asked.proofs.Rows.{params-four}
 use Rattle.text_asked.proofs.params_apart.Statement.{statement}
 use Rattle.text_asked.proofs.params_apart.Tie as tie
 
-arity-of-requires : tie.Need-arity-of-requires
-arity-of-requires c κs = search needs
-
-wide-requires : tie.Need-wide-requires
-wide-requires c κs = search needs
-
-mul-all-apart : tie.Need-mul-all-apart
-mul-all-apart c = search needs
-
-add-all-apart : tie.Need-add-all-apart
-add-all-apart c = search needs
-
-all-apart-requires : tie.Need-all-apart-requires
-all-apart-requires c κs = search needs
-
 returns : tie.Need-returns
 returns c =
     let s = c .before .before .before .before .args in
     let w = s .w .now in
     let a : c .before .before .wide .result ≡ arityOf w (s .d) = c .before .before .wide .ensures ∙ c .before .before .before .arity-of .ensures in
     c .all-apart .ensures ∙ ap distinct (sym (params-four w (s .d) (omega (arith, a, c .before .if1 .taken))))
-
-mul-all-apart-2 : tie.Need-mul-all-apart-2
-mul-all-apart-2 c = search needs
-
-add-all-apart-2 : tie.Need-add-all-apart-2
-add-all-apart-2 c = search needs
-
-all-apart-requires-2 : tie.Need-all-apart-requires-2
-all-apart-requires-2 c κs = search needs
 
 returns-2 : tie.Need-returns-2
 returns-2 c =
@@ -52,13 +28,13 @@ pub params-apart-spec : {M : Type 1} → statement M
 params-apart-spec =
     tie.close
     (tie.spec
-    arity-of-requires
-    wide-requires
-    mul-all-apart
-    add-all-apart
-    all-apart-requires
+    (λ c κs. search needs)
+    (λ c κs. search needs)
+    (λ c. search needs)
+    (λ c. search needs)
+    (λ c κs. search needs)
     returns
-    mul-all-apart-2
-    add-all-apart-2
-    all-apart-requires-2
+    (λ c. search needs)
+    (λ c. search needs)
+    (λ c κs. search needs)
     returns-2)

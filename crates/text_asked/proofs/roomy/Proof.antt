@@ -7,12 +7,9 @@ use Rattle.text_tree.specs.Asked.{roomy}
 use Rattle.text_asked.proofs.roomy.Statement.{statement}
 use Rattle.text_asked.proofs.roomy.Tie as tie
 
-word-requires : tie.Need-word-requires
-word-requires c κs = search needs
-
 returns : tie.Need-returns
 unfolding roomy
 returns c = ap (λ n. eqb n 0) (c .word .ensures)
 
 pub roomy-spec : {M : Type 1} → statement M
-roomy-spec = tie.close (tie.spec word-requires returns)
+roomy-spec = tie.close (tie.spec (λ c κs. search needs) returns)

@@ -7,21 +7,6 @@ use Rattle.text_asked.proofs.Rows.{bound-value, bound-call, bound-other
 use Rattle.text_asked.proofs.values_bound.Statement.{statement}
 use Rattle.text_asked.proofs.values_bound.Tie as tie
 
-field-requires : tie.Need-field-requires
-field-requires c κs = search needs
-
-field-requires-2 : tie.Need-field-requires-2
-field-requires-2 c κs = search needs
-
-field-requires-3 : tie.Need-field-requires-3
-field-requires-3 c κs = search needs
-
-args-bound-requires : tie.Need-args-bound-requires
-args-bound-requires c κs = search needs
-
-in-scope-requires : tie.Need-in-scope-requires
-in-scope-requires c κs = search needs
-
 returns : tie.Need-returns
 returns c =
     let f = c .before .before in
@@ -53,11 +38,11 @@ pub values-bound-spec : {M : Type 1} → statement M
 values-bound-spec =
     tie.close
     (tie.spec
-    field-requires
-    field-requires-2
-    field-requires-3
-    args-bound-requires
-    in-scope-requires
+    (λ c κs. search needs)
+    (λ c κs. search needs)
+    (λ c κs. search needs)
+    (λ c κs. search needs)
+    (λ c κs. search needs)
     returns
     returns-2
     returns-3

@@ -6,9 +6,6 @@ use borrow.Author.Needs.{needs}
 use Rattle.text_build.proofs.byte_in.Statement.{statement}
 use Rattle.text_build.proofs.byte_in.Tie as tie
 
-shared-slice-read-result : tie.Need-shared-slice-read-result
-shared-slice-read-result c = search needs
-
 cast-result : tie.Need-cast-result
 cast-result c = omega (arith, c .shared-slice-known .given (c .before .before .args .i))
 
@@ -19,4 +16,4 @@ returns-2 : tie.Need-returns-2
 returns-2 c = record { same = sym (List·getD-eq-default (c .before .args .w .now) 0 (omega arith)); small = omega arith }
 
 pub byte-in-spec : {M : Type 1} → statement M
-byte-in-spec = tie.close (tie.spec shared-slice-read-result cast-result returns returns-2)
+byte-in-spec = tie.close (tie.spec (λ c. search needs) cast-result returns returns-2)

@@ -7,7 +7,7 @@ use mathlib.Core.Bool.{true, false}
 use mathlib.Core.Path.{_≡_, ap, _∙_}
 use Rattle.terms.specs.Names.{sameName}
 use Rattle.table.specs.Tests.{keyName, rowName}
-use Rattle.table.proofs.NamesRows.{row-near}
+use Rattle.table.proofs.Rows.{row-near}
 use Rattle.table.specs.Meaning.{listFrom}
 use Rattle.table.specs.Valid.{index}
 use Rattle.text_build.proofs.Finding.{left, left-here, left-on, left-over, left-all}
@@ -40,9 +40,6 @@ add-is-named c =
     let h = c .loop-test .taken in
     let r = row-near (a .d) (a .n) (c .before .loop .j) (q .1) (q .2) (omega arith) in
     omega (arith, r, q .0)
-
-is-named-requires : tie.Need-is-named-requires Inv-loop μ-loop
-is-named-requires c κs = search needs
 
 returns : tie.Need-returns Inv-loop μ-loop
 unfolding rowName
@@ -85,7 +82,7 @@ find-spec =
     loop-holds
     mul-is-named
     add-is-named
-    is-named-requires
+    (λ c κs. search needs)
     returns
     add-j
     loop-less

@@ -5,15 +5,6 @@ use borrow.Author.Needs.{needs}
 use Rattle.text_build.proofs.held_in.Statement.{statement}
 use Rattle.text_build.proofs.held_in.Tie as tie
 
-mul-wide : tie.Need-mul-wide
-mul-wide c = search needs
-
-element-copy-out-wide : tie.Need-element-copy-out-wide
-element-copy-out-wide c = search needs
-
-wide-requires : tie.Need-wide-requires
-wide-requires c κs = search needs
-
 returns : tie.Need-returns
 unfolding heldIn
 returns c = omega (arith, c .before .wide .ensures)
@@ -23,4 +14,4 @@ unfolding heldIn
 returns-2 c = omega (arith, c .before .wide .ensures)
 
 pub held-in-spec : {M : Type 1} → statement M
-held-in-spec = tie.close (tie.spec mul-wide element-copy-out-wide wide-requires returns returns-2)
+held-in-spec = tie.close (tie.spec (λ c. search needs) (λ c. search needs) (λ c κs. search needs) returns returns-2)

@@ -6,39 +6,6 @@ use borrow.Author.Needs.{needs}
 use Rattle.text_build.proofs.put_key.Statement.{statement}
 use Rattle.text_build.proofs.put_key.Tie as tie
 
-mul-w : tie.Need-mul-w
-mul-w c = search needs
-
-element-write-w : tie.Need-element-write-w
-element-write-w c = search needs
-
-add-w : tie.Need-add-w
-add-w c = search needs
-
-mul-w-2 : tie.Need-mul-w-2
-mul-w-2 c = search needs
-
-element-write-w-2 : tie.Need-element-write-w-2
-element-write-w-2 c = search needs
-
-add-w-2 : tie.Need-add-w-2
-add-w-2 c = search needs
-
-mul-w-3 : tie.Need-mul-w-3
-mul-w-3 c = search needs
-
-element-write-w-3 : tie.Need-element-write-w-3
-element-write-w-3 c = search needs
-
-add-w-3 : tie.Need-add-w-3
-add-w-3 c = search needs
-
-mul-w-4 : tie.Need-mul-w-4
-mul-w-4 c = search needs
-
-element-write-w-4 : tie.Need-element-write-w-4
-element-write-w-4 c = search needs
-
 returns : tie.Need-returns
 returns c =
     let o = c .args .o in
@@ -51,15 +18,15 @@ pub put-key-spec : {M : Type 1} → statement M
 put-key-spec =
     tie.close
     (tie.spec
-    mul-w
-    element-write-w
-    add-w
-    mul-w-2
-    element-write-w-2
-    add-w-2
-    mul-w-3
-    element-write-w-3
-    add-w-3
-    mul-w-4
-    element-write-w-4
+    (λ c. search needs)
+    (λ c. search needs)
+    (λ c. search needs)
+    (λ c. search needs)
+    (λ c. search needs)
+    (λ c. search needs)
+    (λ c. search needs)
+    (λ c. search needs)
+    (λ c. search needs)
+    (λ c. search needs)
+    (λ c. search needs)
     returns)

@@ -6,33 +6,6 @@ use borrow.Author.Needs.{needs}
 use Rattle.text_build.proofs.put_row.Statement.{statement}
 use Rattle.text_build.proofs.put_row.Tie as tie
 
-mul-o : tie.Need-mul-o
-mul-o c = search needs
-
-add-o : tie.Need-add-o
-add-o c = search needs
-
-cast-n : tie.Need-cast-n
-cast-n c = search needs
-
-put-front-requires : tie.Need-put-front-requires
-put-front-requires c κs = search needs
-
-add-put-eight : tie.Need-add-put-eight
-add-put-eight c = search needs
-
-slice-aggregate-put-eight : tie.Need-slice-aggregate-put-eight
-slice-aggregate-put-eight c = search needs
-
-put-eight-requires : tie.Need-put-eight-requires
-put-eight-requires c κs = search needs
-
-add-put-tail : tie.Need-add-put-tail
-add-put-tail c = search needs
-
-put-tail-requires : tie.Need-put-tail-requires
-put-tail-requires c κs = search needs
-
 returns : tie.Need-returns
 returns c =
     let a = c .before .before .before .before .before .before .before .before .before .args in
@@ -43,13 +16,13 @@ pub put-row-spec : {M : Type 1} → statement M
 put-row-spec =
     tie.close
     (tie.spec
-    mul-o
-    add-o
-    cast-n
-    put-front-requires
-    add-put-eight
-    slice-aggregate-put-eight
-    put-eight-requires
-    add-put-tail
-    put-tail-requires
+    (λ c. search needs)
+    (λ c. search needs)
+    (λ c. search needs)
+    (λ c κs. search needs)
+    (λ c. search needs)
+    (λ c. search needs)
+    (λ c κs. search needs)
+    (λ c. search needs)
+    (λ c κs. search needs)
     returns)

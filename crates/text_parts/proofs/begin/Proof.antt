@@ -12,18 +12,6 @@ use borrow.Author.Needs.{needs}
 use Rattle.text_parts.proofs.begin.Statement.{statement}
 use Rattle.text_parts.proofs.begin.Tie as tie
 
-skip-blanks-requires : tie.Need-skip-blanks-requires
-skip-blanks-requires c κs = search needs
-
-word-end-requires : tie.Need-word-end-requires
-word-end-requires c κs = search needs
-
-sub-sort-of : tie.Need-sub-sort-of
-sub-sort-of c = search needs
-
-part-sort-of-start : tie.Need-part-sort-of-start
-part-sort-of-start c = search needs
-
 part-sort-of-end : tie.Need-part-sort-of-end
 part-sort-of-end c =
     let a = c .before .before .before .before .args in
@@ -38,9 +26,6 @@ sort-of-requires c κs =
     let k = c .before .before .before .skip-blanks .ensures in
     let w = c .before .before .word-end .ensures in
     word-alnum (a .s .now) (a .at) _ _ k w
-
-begin-by-requires : tie.Need-begin-by-requires
-begin-by-requires c κs = search needs
 
 returns : tie.Need-returns
 returns c =
@@ -60,12 +45,12 @@ pub begin-spec : {M : Type 1} → statement M
 begin-spec =
     tie.close
     (tie.spec
-    skip-blanks-requires
-    word-end-requires
-    sub-sort-of
-    part-sort-of-start
+    (λ c κs. search needs)
+    (λ c κs. search needs)
+    (λ c. search needs)
+    (λ c. search needs)
     part-sort-of-end
     sort-of-requires
-    begin-by-requires
+    (λ c κs. search needs)
     returns
     returns-2)

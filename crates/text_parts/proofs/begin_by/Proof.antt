@@ -13,45 +13,6 @@ use Rattle.text_parts.proofs.begin_by.Tie as tie
 enum-told : tie.Need-enum-told
 enum-told c = search needs
 
-enum-told-2 : tie.Need-enum-told-2
-enum-told-2 c = search needs
-
-go-begin-requires : tie.Need-go-begin-requires
-go-begin-requires c κs = search needs
-
-enum-told-3 : tie.Need-enum-told-3
-enum-told-3 c = search needs
-
-comm-begin-requires : tie.Need-comm-begin-requires
-comm-begin-requires c κs = search needs
-
-enum-told-4 : tie.Need-enum-told-4
-enum-told-4 c = search needs
-
-comm-begin-requires-2 : tie.Need-comm-begin-requires-2
-comm-begin-requires-2 c κs = search needs
-
-enum-told-5 : tie.Need-enum-told-5
-enum-told-5 c = search needs
-
-enum-told-6 : tie.Need-enum-told-6
-enum-told-6 c = search needs
-
-call-begin-requires : tie.Need-call-begin-requires
-call-begin-requires c κs = search needs
-
-enum-told-7 : tie.Need-enum-told-7
-enum-told-7 c = search needs
-
-call-begin-requires-2 : tie.Need-call-begin-requires-2
-call-begin-requires-2 c κs = search needs
-
-enum-told-8 : tie.Need-enum-told-8
-enum-told-8 c = search needs
-
-enum-told-9 : tie.Need-enum-told-9
-enum-told-9 c = search needs
-
 returns : tie.Need-returns
 returns c =
     let a = c .before .before .before .args in
@@ -72,9 +33,6 @@ returns-4 c =
     let a = c .before .before .before .before .args in
     c .comm-begin2 .ensures ∙ sym (open-in (lex (drop (a .at) (a .s .now)))) ∙ sym (ap (λ k. openForm (headIs k) (lex (drop (a .at) (a .s .now)))) (c .before .enum-told4 .given .1))
 
-returns-5 : tie.Need-returns-5
-returns-5 c = search needs
-
 returns-6 : tie.Need-returns-6
 returns-6 c =
     let a = c .before .before .before .before .args in
@@ -85,36 +43,30 @@ returns-7 c =
     let a = c .before .before .before .before .args in
     c .call-begin2 .ensures ∙ sym (ap (λ k. openForm (headIs k) (lex (drop (a .at) (a .s .now)))) (c .before .enum-told7 .given .1))
 
-returns-8 : tie.Need-returns-8
-returns-8 c = search needs
-
-returns-9 : tie.Need-returns-9
-returns-9 c = search needs
-
 pub begin-by-spec : {M : Type 1} → statement M
 begin-by-spec =
     tie.close
     (tie.spec
     enum-told
-    enum-told-2
-    go-begin-requires
-    enum-told-3
-    comm-begin-requires
-    enum-told-4
-    comm-begin-requires-2
-    enum-told-5
-    enum-told-6
-    call-begin-requires
-    enum-told-7
-    call-begin-requires-2
-    enum-told-8
-    enum-told-9
+    (λ c. search needs)
+    (λ c κs. search needs)
+    (λ c. search needs)
+    (λ c κs. search needs)
+    (λ c. search needs)
+    (λ c κs. search needs)
+    (λ c. search needs)
+    (λ c. search needs)
+    (λ c κs. search needs)
+    (λ c. search needs)
+    (λ c κs. search needs)
+    (λ c. search needs)
+    (λ c. search needs)
     returns
     returns-2
     returns-3
     returns-4
-    returns-5
+    (λ c. search needs)
     returns-6
     returns-7
-    returns-8
-    returns-9)
+    (λ c. search needs)
+    (λ c. search needs))

@@ -7,9 +7,6 @@ use borrow.Author.Needs.{needs}
 use Rattle.text_parts.proofs.call_begin.Statement.{statement}
 use Rattle.text_parts.proofs.call_begin.Tie as tie
 
-list-of-requires : tie.Need-list-of-requires
-list-of-requires c κs = search needs
-
 returns : tie.Need-returns
 returns c =
     let a = c .before .before .before .args in
@@ -21,4 +18,4 @@ returns-2 c =
     call-done (a .s .now) (lex (drop (a .at) (a .s .now))) _ (c .before .list-of .ensures) (c .match .rest .1)
 
 pub call-begin-spec : {M : Type 1} → statement M
-call-begin-spec = tie.close (tie.spec list-of-requires returns returns-2)
+call-begin-spec = tie.close (tie.spec (λ c κs. search needs) returns returns-2)

@@ -12,12 +12,6 @@ sign-after-requires : tie.Need-sign-after-requires
 unfolding lexFrom classOf
 sign-after-requires c κs = λ l. refl
 
-one-more-requires : tie.Need-one-more-requires
-one-more-requires c κs = search needs
-
-one-more-requires-2 : tie.Need-one-more-requires-2
-one-more-requires-2 c κs = search needs
-
 returns : tie.Need-returns
 returns c =
     let a = c .before .before .before .before .args in
@@ -25,4 +19,4 @@ returns c =
 
 pub closed-spec : {M : Type 1} → statement M
 closed-spec =
-    tie.close (tie.spec sign-after-requires one-more-requires one-more-requires-2 returns)
+    tie.close (tie.spec sign-after-requires (λ c κs. search needs) (λ c κs. search needs) returns)

@@ -10,9 +10,6 @@ use Rattle.terms.specs.Characters.{classOf}
 use Rattle.text_parts.proofs.comma_field.Statement.{statement}
 use Rattle.text_parts.proofs.comma_field.Tie as tie
 
-field-at-requires : tie.Need-field-at-requires
-field-at-requires c κs = search needs
-
 eat-requires : tie.Need-eat-requires
 unfolding lexFrom classOf
 eat-requires c κs = λ l. refl
@@ -28,4 +25,4 @@ returns-2 c =
     c .eat .ensures ∙ ap (λ x. bind x (λ u. the comma)) (done (a .s .now) (c .before .before .field-at .ensures) (c .before .match .rest .1))
 
 pub comma-field-spec : {M : Type 1} → statement M
-comma-field-spec = tie.close (tie.spec field-at-requires eat-requires returns returns-2)
+comma-field-spec = tie.close (tie.spec (λ c κs. search needs) eat-requires returns returns-2)

@@ -16,9 +16,6 @@ eat-requires : tie.Need-eat-requires
 unfolding lexFrom classOf
 eat-requires c κs = λ l. refl
 
-names-at-requires : tie.Need-names-at-requires
-names-at-requires c κs = search needs
-
 returns : tie.Need-returns
 returns c =
     let a = c .before .before .before .args in
@@ -32,4 +29,4 @@ returns-2 c =
     c .names-at .ensures ∙ list-open (fits (a .f)) (lex (drop (a .at) s)) _ (done s (c .before .before .eat .ensures) (c .before .match .rest .1))
 
 pub list-of-spec : {M : Type 1} → statement M
-list-of-spec = tie.close (tie.spec eat-requires names-at-requires returns returns-2)
+list-of-spec = tie.close (tie.spec eat-requires (λ c κs. search needs) returns returns-2)

@@ -25,18 +25,12 @@ loop-holds c =
     let a = c .before .args in
     names-first (namesForm (fits (a .f)) (lex (drop (a .at) (a .s .now))))
 
-field-at-requires : tie.Need-field-at-requires Inv-loop μ-loop
-field-at-requires c κs = search needs
-
 returns : tie.Need-returns Inv-loop μ-loop
 returns c =
     let a = c .before .before .before .before .args in
     let s = a .s .now in
     let l = c .before .before .loop in
     ap (mapped (λ u. 0)) (ended-bad s) ∙ names-none (fits (a .f)) (lex (drop (l .here) s)) (l .n) (failed s (c .before .field-at .ensures) (c .if1 .taken)) ∙ l .inv
-
-one-more-requires : tie.Need-one-more-requires Inv-loop μ-loop
-one-more-requires c κs = search needs
 
 eat-requires : tie.Need-eat-requires Inv-loop μ-loop
 unfolding lexFrom classOf
@@ -74,9 +68,9 @@ names-at-spec =
     Inv-loop
     μ-loop
     loop-holds
-    field-at-requires
+    (λ c κs. search needs)
     returns
-    one-more-requires
+    (λ c κs. search needs)
     eat-requires
     eat-requires-2
     returns-2

@@ -9,12 +9,6 @@ use borrow.Author.Needs.{needs}
 use Rattle.text_parts.proofs.pair_fields.Statement.{statement}
 use Rattle.text_parts.proofs.pair_fields.Tie as tie
 
-comma-field-requires : tie.Need-comma-field-requires
-comma-field-requires c κs = search needs
-
-comma-field-requires-2 : tie.Need-comma-field-requires-2
-comma-field-requires-2 c κs = search needs
-
 returns : tie.Need-returns
 returns c =
     let a = c .before .before .before .args in
@@ -27,4 +21,4 @@ returns-2 c =
 
 pub pair-fields-spec : {M : Type 1} → statement M
 pair-fields-spec =
-    tie.close (tie.spec comma-field-requires comma-field-requires-2 returns returns-2)
+    tie.close (tie.spec (λ c κs. search needs) (λ c κs. search needs) returns returns-2)

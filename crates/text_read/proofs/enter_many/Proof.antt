@@ -6,18 +6,9 @@ use Rattle.text_read.proofs.Answering.{may-fill}
 use Rattle.text_read.proofs.enter_many.Statement.{statement}
 use Rattle.text_read.proofs.enter_many.Tie as tie
 
-slice-aggregate-enter-kept : tie.Need-slice-aggregate-enter-kept
-slice-aggregate-enter-kept c = search needs
-
 enter-kept-requires : tie.Need-enter-kept-requires
 enter-kept-requires c κs = (c .before .before .before .before .pre .0, c .before .before .before .before .pre .1, c .before .before .before .before .pre .2, omega (arith, may-fill _ _ (c .before .before .before .before .pre .0) _ refl (c .before .before .before .before .pre .1) .0))
 
-same-length : tie.Need-same-length
-same-length c = search needs
-
-returns : tie.Need-returns
-returns c = search needs
-
 pub enter-many-spec : {M : Type 1} → statement M
 enter-many-spec =
-    tie.close (tie.spec slice-aggregate-enter-kept enter-kept-requires same-length returns)
+    tie.close (tie.spec (λ c. search needs) enter-kept-requires (λ c. search needs) (λ c. search needs))

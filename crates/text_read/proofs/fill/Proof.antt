@@ -5,27 +5,6 @@ use Rattle.text_read.proofs.Answering.{network-at, behind-small, networ
 use Rattle.text_read.proofs.fill.Statement.{statement}
 use Rattle.text_read.proofs.fill.Tie as tie
 
-cast-w : tie.Need-cast-w
-cast-w c = search needs
-
-element-write-w : tie.Need-element-write-w
-element-write-w c = search needs
-
-cast-w-2 : tie.Need-cast-w-2
-cast-w-2 c = search needs
-
-element-write-w-2 : tie.Need-element-write-w-2
-element-write-w-2 c = search needs
-
-less-requires : tie.Need-less-requires
-less-requires c κs = search needs
-
-put-heads-requires : tie.Need-put-heads-requires
-put-heads-requires c κs = search needs
-
-put-bodies-requires : tie.Need-put-bodies-requires
-put-bodies-requires c κs = search needs
-
 put-network-requires : tie.Need-put-network-requires
 put-network-requires c κs =
     let x = c .before .before .before .before .before .before .before .before .pre .2 in
@@ -34,9 +13,6 @@ put-network-requires c κs =
     let h = c .before .before .before .before .before .before .before .before .pre .0 in
     (behind-small x _ b (omega arith), network-at x _ b)
 
-same-length : tie.Need-same-length
-same-length c = search needs
-
 returns : tie.Need-returns
 returns c = λ x. filled _ _ _ (c .before .before .before .before .before .before .before .before .less .ensures) x (c .before .before .before .before .before .before .put-heads .ensures x) _ (c .before .before .before .before .put-bodies .ensures x) (network-of x _ (c .before .before .before .before .put-bodies .ensures x) (c .before .put-network .ensures))
 
@@ -44,13 +20,13 @@ pub fill-spec : {M : Type 1} → statement M
 fill-spec =
     tie.close
     (tie.spec
-    cast-w
-    element-write-w
-    cast-w-2
-    element-write-w-2
-    less-requires
-    put-heads-requires
-    put-bodies-requires
+    (λ c. search needs)
+    (λ c. search needs)
+    (λ c. search needs)
+    (λ c. search needs)
+    (λ c κs. search needs)
+    (λ c κs. search needs)
+    (λ c κs. search needs)
     put-network-requires
-    same-length
+    (λ c. search needs)
     returns)

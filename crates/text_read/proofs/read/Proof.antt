@@ -6,35 +6,11 @@ use Rattle.text_read.proofs.Answering.{way-1, answer-no}
 use Rattle.text_read.proofs.read.Statement.{statement}
 use Rattle.text_read.proofs.read.Tie as tie
 
-scan-requires : tie.Need-scan-requires
-scan-requires c κs = search needs
-
-limits-requires : tie.Need-limits-requires
-limits-requires c κs = search needs
-
-refuse-requires : tie.Need-refuse-requires
-refuse-requires c κs = search needs
-
 returns : tie.Need-returns
 returns c = way-1 _ _ (c .before .before .before .scan .ensures) _ (c .before .before .limits .ensures) (c .before .if1 .taken) _ _ _ _ (c .refuse .ensures) refl
 
-slice-aggregate-try-enter : tie.Need-slice-aggregate-try-enter
-slice-aggregate-try-enter c = search needs
-
-try-enter-requires : tie.Need-try-enter-requires
-try-enter-requires c κs = search needs
-
-refuse-requires-2 : tie.Need-refuse-requires-2
-refuse-requires-2 c κs = search needs
-
 returns-2 : tie.Need-returns-2
 returns-2 c = answer-no (c .before .before .before .before .try-enter .ensures .answer) (c .before .if2 .taken) _ _ _ (c .refuse2 .ensures) (c .before .before .before .before .try-enter .ensures .back (c .before .if2 .taken))
-
-slice-aggregate-accept : tie.Need-slice-aggregate-accept
-slice-aggregate-accept c = search needs
-
-accept-requires : tie.Need-accept-requires
-accept-requires c κs = search needs
 
 returns-3 : tie.Need-returns-3
 returns-3 c = c .before .before .before .before .before .before .try-enter .ensures .answer .yes (omega (arith, c .before .before .before .if2 .left)) _ _ (c .accept .ensures .0) (c .accept .ensures .1)
@@ -43,14 +19,14 @@ pub read-spec : {M : Type 1} → statement M
 read-spec =
     tie.close
     (tie.spec
-    scan-requires
-    limits-requires
-    refuse-requires
+    (λ c κs. search needs)
+    (λ c κs. search needs)
+    (λ c κs. search needs)
     returns
-    slice-aggregate-try-enter
-    try-enter-requires
-    refuse-requires-2
+    (λ c. search needs)
+    (λ c κs. search needs)
+    (λ c κs. search needs)
     returns-2
-    slice-aggregate-accept
-    accept-requires
+    (λ c. search needs)
+    (λ c κs. search needs)
     returns-3)

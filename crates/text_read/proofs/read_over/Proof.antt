@@ -5,41 +5,11 @@ use Rattle.text_read.proofs.Answering.{way-1, answer-no}
 use Rattle.text_read.proofs.read_over.Statement.{statement}
 use Rattle.text_read.proofs.read_over.Tie as tie
 
-scan-requires : tie.Need-scan-requires
-scan-requires c κs = search needs
-
-limits-requires : tie.Need-limits-requires
-limits-requires c κs = search needs
-
-wipe-requires : tie.Need-wipe-requires
-wipe-requires c κs = search needs
-
-refuse-requires : tie.Need-refuse-requires
-refuse-requires c κs = search needs
-
 returns : tie.Need-returns
 returns c = way-1 _ _ (c .before .before .before .before .before .scan .ensures) _ (c .before .before .before .before .limits .ensures) (c .before .before .before .if1 .taken) _ _ _ _ (c .refuse .ensures) (c .before .wipe .ensures)
 
-slice-aggregate-enter : tie.Need-slice-aggregate-enter
-slice-aggregate-enter c = search needs
-
-enter-requires : tie.Need-enter-requires
-enter-requires c κs = search needs
-
-wipe-requires-2 : tie.Need-wipe-requires-2
-wipe-requires-2 c κs = search needs
-
-refuse-requires-2 : tie.Need-refuse-requires-2
-refuse-requires-2 c κs = search needs
-
 returns-2 : tie.Need-returns-2
 returns-2 c = answer-no (c .before .before .before .before .before .before .enter .ensures .answer) (c .before .before .before .if2 .taken) _ _ _ (c .refuse2 .ensures) (c .before .wipe2 .ensures)
-
-slice-aggregate-accept : tie.Need-slice-aggregate-accept
-slice-aggregate-accept c = search needs
-
-accept-requires : tie.Need-accept-requires
-accept-requires c κs = search needs
 
 returns-3 : tie.Need-returns-3
 returns-3 c = c .before .before .before .before .before .before .enter .ensures .answer .yes (omega (arith, c .before .before .before .if2 .left)) _ _ (c .accept .ensures .0) (c .accept .ensures .1)
@@ -48,16 +18,16 @@ pub read-over-spec : {M : Type 1} → statement M
 read-over-spec =
     tie.close
     (tie.spec
-    scan-requires
-    limits-requires
-    wipe-requires
-    refuse-requires
+    (λ c κs. search needs)
+    (λ c κs. search needs)
+    (λ c κs. search needs)
+    (λ c κs. search needs)
     returns
-    slice-aggregate-enter
-    enter-requires
-    wipe-requires-2
-    refuse-requires-2
+    (λ c. search needs)
+    (λ c κs. search needs)
+    (λ c κs. search needs)
+    (λ c κs. search needs)
     returns-2
-    slice-aggregate-accept
-    accept-requires
+    (λ c. search needs)
+    (λ c κs. search needs)
     returns-3)

@@ -4,11 +4,8 @@ use borrow.Author.Needs.{needs}
 use Rattle.text_read.proofs.refuse.Statement.{statement}
 use Rattle.text_read.proofs.refuse.Tie as tie
 
-no-state-requires : tie.Need-no-state-requires
-no-state-requires c κs = search needs
-
 returns : tie.Need-returns
 returns c = ap (λ x. record { code = c .before .args .n; state = x }) (c .no-state .ensures)
 
 pub refuse-spec : {M : Type 1} → statement M
-refuse-spec = tie.close (tie.spec no-state-requires returns)
+refuse-spec = tie.close (tie.spec (λ c κs. search needs) returns)

@@ -19,17 +19,8 @@ Inv-loop s at here₀ t₀ here t = Gathered s at here t
 abbrev μ-loop : tie.MeasureT-loop
 μ-loop s at here₀ t₀ here t = length s - here
 
-none-requires : tie.Need-none-requires Inv-loop μ-loop
-none-requires c κs = search needs
-
 loop-holds : tie.Need-loop-holds Inv-loop μ-loop
 loop-holds c = gathered-first (c .before .before .args .s .now) (c .before .before .args .at) (c .none .result) (ap totalsOf (c .none .ensures))
-
-located-at-requires : tie.Need-located-at-requires Inv-loop μ-loop
-located-at-requires c κs = search needs
-
-plus-requires : tie.Need-plus-requires Inv-loop μ-loop
-plus-requires c κs = search needs
 
 sign-behind-requires : tie.Need-sign-behind-requires Inv-loop μ-loop
 unfolding lexFrom classOf
@@ -62,10 +53,10 @@ all-located-spec =
     (tie.spec
     Inv-loop
     μ-loop
-    none-requires
+    (λ c κs. search needs)
     loop-holds
-    located-at-requires
-    plus-requires
+    (λ c κs. search needs)
+    (λ c κs. search needs)
     sign-behind-requires
     returns
     loop-less

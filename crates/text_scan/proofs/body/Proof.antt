@@ -6,16 +6,10 @@ use borrow.Author.Needs.{needs}
 use Rattle.text_scan.proofs.body.Statement.{statement}
 use Rattle.text_scan.proofs.body.Tie as tie
 
-read-process-requires : tie.Need-read-process-requires
-read-process-requires c κs = search needs
-
-sign-after-requires : tie.Need-sign-after-requires
-sign-after-requires c κs = search needs
-
 returns : tie.Need-returns
 returns c =
     let a = c .before .before .before .args in
     body-is (a .s .now) (a .at) (a .c) _ _ (c .before .read-process .ensures) (c .sign-after .ensures) refl
 
 pub body-spec : {M : Type 1} → statement M
-body-spec = tie.close (tie.spec read-process-requires sign-after-requires returns)
+body-spec = tie.close (tie.spec (λ c κs. search needs) (λ c κs. search needs) returns)

@@ -11,23 +11,11 @@ use Rattle.terms.specs.Characters.{classOf}
 use Rattle.text_scan.proofs.def_at.Statement.{statement}
 use Rattle.text_scan.proofs.def_at.Tie as tie
 
-field-at-requires : tie.Need-field-at-requires
-field-at-requires c κs = search needs
-
-none-requires : tie.Need-none-requires
-none-requires c κs = search needs
-
 returns : tie.Need-returns
 returns c =
     let s = c .before .before .before .before .args .s .now in
     let ts = lex (drop (c .before .before .before .before .args .at) s) in
     totaled-bad s _ (ap (λ t. t .end) (c .none .ensures)) ∙ def-1 ts (failed s (c .before .before .field-at .ensures) (c .before .if1 .taken))
-
-list-of-requires : tie.Need-list-of-requires
-list-of-requires c κs = search needs
-
-none-requires-2 : tie.Need-none-requires-2
-none-requires-2 c κs = search needs
 
 returns-2 : tie.Need-returns-2
 returns-2 c =
@@ -38,9 +26,6 @@ returns-2 c =
 eat-requires : tie.Need-eat-requires
 unfolding lexFrom classOf
 eat-requires c κs = λ l. refl
-
-none-requires-3 : tie.Need-none-requires-3
-none-requires-3 c κs = search needs
 
 returns-3 : tie.Need-returns-3
 returns-3 c =
@@ -54,22 +39,23 @@ body-requires c κs = λ l. refl
 
 returns-4 : tie.Need-returns-4
 returns-4 c =
-    let s = c .before .before .before .before .before .before .before .before .args .s .now in
-    let ts = lex (drop (c .before .before .before .before .before .before .before .before .args .at) s) in
-    totaled-body s (ofBody (c .before .before .before .before .list-of .result .count)) _ _ refl refl ∙ def-4 ts _ (done s (c .before .before .before .before .before .before .field-at .ensures) (c .before .before .before .before .before .if1 .left)) _ _ (listed-ok s _ _ (c .before .before .before .before .list-of .ensures) (c .before .before .before .if2 .left)) _ (done s (c .before .before .eat .ensures) (c .before .if3 .left)) _ (c .body .ensures)
+    let past = c .before .before .before .before in
+    let s = past .before .before .before .before .args .s .now in
+    let ts = lex (drop (past .before .before .before .before .args .at) s) in
+    totaled-body s (ofBody (past .list-of .result .count)) _ _ refl refl ∙ def-4 ts _ (done s (past .before .before .field-at .ensures) (past .before .if1 .left)) _ _ (listed-ok s _ _ (past .list-of .ensures) (c .before .before .before .if2 .left)) _ (done s (c .before .before .eat .ensures) (c .before .if3 .left)) _ (c .body .ensures)
 
 pub def-at-spec : {M : Type 1} → statement M
 def-at-spec =
     tie.close
     (tie.spec
-    field-at-requires
-    none-requires
+    (λ c κs. search needs)
+    (λ c κs. search needs)
     returns
-    list-of-requires
-    none-requires-2
+    (λ c κs. search needs)
+    (λ c κs. search needs)
     returns-2
     eat-requires
-    none-requires-3
+    (λ c κs. search needs)
     returns-3
     body-requires
     returns-4)

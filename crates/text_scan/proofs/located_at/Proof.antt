@@ -11,12 +11,6 @@ use Rattle.terms.specs.Characters.{classOf}
 use Rattle.text_scan.proofs.located_at.Statement.{statement}
 use Rattle.text_scan.proofs.located_at.Tie as tie
 
-field-at-requires : tie.Need-field-at-requires
-field-at-requires c κs = search needs
-
-none-requires : tie.Need-none-requires
-none-requires c κs = search needs
-
 returns : tie.Need-returns
 returns c =
     let s = c .before .before .before .before .args .s .now in
@@ -26,9 +20,6 @@ returns c =
 eat-requires : tie.Need-eat-requires
 unfolding lexFrom classOf
 eat-requires c κs = λ l. refl
-
-none-requires-2 : tie.Need-none-requires-2
-none-requires-2 c κs = search needs
 
 returns-2 : tie.Need-returns-2
 returns-2 c =
@@ -50,11 +41,11 @@ pub located-at-spec : {M : Type 1} → statement M
 located-at-spec =
     tie.close
     (tie.spec
-    field-at-requires
-    none-requires
+    (λ c κs. search needs)
+    (λ c κs. search needs)
     returns
     eat-requires
-    none-requires-2
+    (λ c κs. search needs)
     returns-2
     body-requires
     returns-3)

@@ -10,12 +10,6 @@ use Rattle.terms.specs.Characters.{classOf}
 use Rattle.text_scan.proofs.net_next.Statement.{statement}
 use Rattle.text_scan.proofs.net_next.Tie as tie
 
-skip-blanks-requires : tie.Need-skip-blanks-requires
-skip-blanks-requires c κs = search needs
-
-word-end-requires : tie.Need-word-end-requires
-word-end-requires c κs = search needs
-
 eat-requires : tie.Need-eat-requires
 unfolding lexFrom classOf
 eat-requires c κs = λ l. refl
@@ -47,4 +41,4 @@ returns-3 c =
 pub net-next-spec : {M : Type 1} → statement M
 net-next-spec =
     tie.close
-    (tie.spec skip-blanks-requires word-end-requires eat-requires returns returns-2 returns-3)
+    (tie.spec (λ c κs. search needs) (λ c κs. search needs) eat-requires returns returns-2 returns-3)

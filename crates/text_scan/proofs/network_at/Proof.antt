@@ -8,27 +8,15 @@ use Rattle.terms.specs.Characters.{classOf}
 use Rattle.text_scan.proofs.network_at.Statement.{statement}
 use Rattle.text_scan.proofs.network_at.Tie as tie
 
-all-located-requires : tie.Need-all-located-requires
-all-located-requires c κs = search needs
-
 sign-behind-requires : tie.Need-sign-behind-requires
 unfolding lexFrom classOf
 sign-behind-requires c κs = λ l. refl
-
-none-requires : tie.Need-none-requires
-none-requires c κs = search needs
 
 returns : tie.Need-returns
 returns c =
     let s = c .before .before .before .before .before .args .s .now in
     let at = c .before .before .before .before .before .args .at in
     totaled-bad s _ (ap (λ t. t .end) (c .none .ensures)) ∙ network-no-dot s at _ (c .before .before .before .all-located .ensures) _ (c .before .before .sign-behind .ensures) (c .before .if1 .taken)
-
-skip-blanks-requires : tie.Need-skip-blanks-requires
-skip-blanks-requires c κs = search needs
-
-none-requires-2 : tie.Need-none-requires-2
-none-requires-2 c κs = search needs
 
 returns-2 : tie.Need-returns-2
 returns-2 c =
@@ -46,11 +34,11 @@ pub network-at-spec : {M : Type 1} → statement M
 network-at-spec =
     tie.close
     (tie.spec
-    all-located-requires
+    (λ c κs. search needs)
     sign-behind-requires
-    none-requires
+    (λ c κs. search needs)
     returns
-    skip-blanks-requires
-    none-requires-2
+    (λ c κs. search needs)
+    (λ c κs. search needs)
     returns-2
     returns-3)

@@ -6,17 +6,8 @@ use borrow.Author.Needs.{needs}
 use Rattle.text_scan.proofs.scan.Statement.{statement}
 use Rattle.text_scan.proofs.scan.Tie as tie
 
-unread-requires : tie.Need-unread-requires
-unread-requires c κs = search needs
-
 returns : tie.Need-returns
 returns c = c .unread .ensures ∙ scan-long (c .before .before .before .args .text .now) (c .before .if1 .taken)
-
-text-at-requires : tie.Need-text-at-requires
-text-at-requires c κs = search needs
-
-unread-requires-2 : tie.Need-unread-requires-2
-unread-requires-2 c κs = search needs
 
 returns-2 : tie.Need-returns-2
 returns-2 c =
@@ -29,4 +20,4 @@ returns-3 c =
 pub scan-spec : {M : Type 1} → statement M
 scan-spec =
     tie.close
-    (tie.spec unread-requires returns text-at-requires unread-requires-2 returns-2 returns-3)
+    (tie.spec (λ c κs. search needs) returns (λ c κs. search needs) (λ c κs. search needs) returns-2 returns-3)

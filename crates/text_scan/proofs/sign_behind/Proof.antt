@@ -5,9 +5,6 @@ use borrow.Author.Needs.{needs}
 use Rattle.text_scan.proofs.sign_behind.Statement.{statement}
 use Rattle.text_scan.proofs.sign_behind.Tie as tie
 
-eat-requires : tie.Need-eat-requires
-eat-requires c κs = search needs
-
 returns : tie.Need-returns
 returns c =
     let a = c .before .before .args in
@@ -19,4 +16,4 @@ returns-2 c =
     behind-some (a .s .now) (a .t) (a .c) (c .before .match .rest .1) _ (c .eat .ensures)
 
 pub sign-behind-spec : {M : Type 1} → statement M
-sign-behind-spec = tie.close (tie.spec eat-requires returns returns-2)
+sign-behind-spec = tie.close (tie.spec (λ c κs. search needs) returns returns-2)

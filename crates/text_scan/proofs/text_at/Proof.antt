@@ -15,20 +15,8 @@ Inv-loop s at here₀ t₀ here t = Before s at here t
 abbrev μ-loop : tie.MeasureT-loop
 μ-loop s at here₀ t₀ here t = length s - here
 
-none-requires : tie.Need-none-requires Inv-loop μ-loop
-none-requires c κs = search needs
-
 loop-holds : tie.Need-loop-holds Inv-loop μ-loop
 loop-holds c = before-first (c .before .before .args .s .now) (c .before .before .args .at) (c .none .result) (ap totalsOf (c .none .ensures))
-
-net-next-requires : tie.Need-net-next-requires Inv-loop μ-loop
-net-next-requires c κs = search needs
-
-network-at-requires : tie.Need-network-at-requires Inv-loop μ-loop
-network-at-requires c κs = search needs
-
-plus-requires : tie.Need-plus-requires Inv-loop μ-loop
-plus-requires c κs = search needs
 
 returns : tie.Need-returns Inv-loop μ-loop
 returns c =
@@ -36,12 +24,6 @@ returns c =
     let at = c .before .before .before .before .before .before .before .args .at in
     let l = c .before .before .before .before .loop in
     ap (totaled s) (c .plus .ensures) ∙ before-network s at (l .here) (l .t) (l .inv) (sym (c .before .before .if1 .taken) ∙ c .before .before .before .net-next .ensures) _ (c .before .network-at .ensures)
-
-def-at-requires : tie.Need-def-at-requires Inv-loop μ-loop
-def-at-requires c κs = search needs
-
-plus-requires-2 : tie.Need-plus-requires-2 Inv-loop μ-loop
-plus-requires-2 c κs = search needs
 
 returns-2 : tie.Need-returns-2 Inv-loop μ-loop
 returns-2 c =
@@ -70,14 +52,14 @@ text-at-spec =
     (tie.spec
     Inv-loop
     μ-loop
-    none-requires
+    (λ c κs. search needs)
     loop-holds
-    net-next-requires
-    network-at-requires
-    plus-requires
+    (λ c κs. search needs)
+    (λ c κs. search needs)
+    (λ c κs. search needs)
     returns
-    def-at-requires
-    plus-requires-2
+    (λ c κs. search needs)
+    (λ c κs. search needs)
     returns-2
     loop-less
     loop-again)

@@ -6,12 +6,6 @@ use borrow.Author.Needs.{needs}
 use Rattle.text_words.proofs.capital_sort.Statement.{statement}
 use Rattle.text_words.proofs.capital_sort.Tie as tie
 
-slice-aggregate-is-same : tie.Need-slice-aggregate-is-same
-slice-aggregate-is-same c = search needs
-
-is-same-requires : tie.Need-is-same-requires
-is-same-requires c κs = search needs
-
 returns : tie.Need-returns
 returns c = capital-reserved _ (c .before .before .before .before .pre .0) (sym (c .before .is-same .ensures) ∙ c .if1 .taken)
 
@@ -25,4 +19,4 @@ returns-3 c = capital-long _ (c .before .before .before .before .before .pre .0)
 
 pub capital-sort-spec : {M : Type 1} → statement M
 capital-sort-spec =
-    tie.close (tie.spec slice-aggregate-is-same is-same-requires returns returns-2 returns-3)
+    tie.close (tie.spec (λ c. search needs) (λ c κs. search needs) returns returns-2 returns-3)

@@ -7,20 +7,11 @@ use borrow.Author.Needs.{needs}
 use Rattle.text_words.proofs.digit_sort.Statement.{statement}
 use Rattle.text_words.proofs.digit_sort.Tie as tie
 
-is-plain-requires : tie.Need-is-plain-requires
-is-plain-requires c κs = search needs
-
 returns : tie.Need-returns
 returns c = digit-not-plain _ (c .before .before .before .pre) (sym (c .before .is-plain .ensures) ∙ not-true _ (c .if1 .taken))
 
-all-digits-requires : tie.Need-all-digits-requires
-all-digits-requires c κs = search needs
-
 returns-2 : tie.Need-returns-2
 returns-2 c = digit-not-digits _ (c .before .before .before .before .before .pre) (sym (c .before .all-digits .ensures) ∙ not-true _ (c .if2 .taken))
-
-number-of-requires : tie.Need-number-of-requires
-number-of-requires c κs = search needs
 
 returns-3 : tie.Need-returns-3
 returns-3 c =
@@ -34,10 +25,10 @@ pub digit-sort-spec : {M : Type 1} → statement M
 digit-sort-spec =
     tie.close
     (tie.spec
-    is-plain-requires
+    (λ c κs. search needs)
     returns
-    all-digits-requires
+    (λ c κs. search needs)
     returns-2
-    number-of-requires
+    (λ c κs. search needs)
     returns-3
     returns-4)

@@ -5,15 +5,6 @@ use borrow.Author.Needs.{needs}
 use Rattle.text_words.proofs.eat.Statement.{statement}
 use Rattle.text_words.proofs.eat.Tie as tie
 
-skip-blanks-requires : tie.Need-skip-blanks-requires
-skip-blanks-requires c κs = search needs
-
-shared-slice-read-if2 : tie.Need-shared-slice-read-if2
-shared-slice-read-if2 c = search needs
-
-add-result : tie.Need-add-result
-add-result c = search needs
-
 returns : tie.Need-returns
 returns c =
     let k = c .before .before .before in
@@ -34,4 +25,4 @@ returns-3 c =
 pub eat-spec : {M : Type 1} → statement M
 eat-spec =
     tie.close
-    (tie.spec skip-blanks-requires shared-slice-read-if2 add-result returns returns-2 returns-3)
+    (tie.spec (λ c κs. search needs) (λ c. search needs) (λ c. search needs) returns returns-2 returns-3)

@@ -11,11 +11,8 @@ returns c = plain-empty (c .before .args .w .now) (c .if1 .taken)
 returns-2 : tie.Need-returns-2
 returns-2 c = plain-one (c .before .before .args .w .now) (c .if2 .taken)
 
-shared-slice-read-result : tie.Need-shared-slice-read-result
-shared-slice-read-result c = search needs
-
 returns-3 : tie.Need-returns-3
 returns-3 c = plain-long (c .before .before .before .args .w .now) (c .before .before .if1 .left) (c .before .if2 .left)
 
 pub is-plain-spec : {M : Type 1} → statement M
-is-plain-spec = tie.close (tie.spec returns returns-2 shared-slice-read-result returns-3)
+is-plain-spec = tie.close (tie.spec returns returns-2 (λ c. search needs) returns-3)

@@ -22,9 +22,6 @@ returns c = same-lengths _ _ (c .if1 .taken)
 loop-holds : tie.Need-loop-holds Inv-loop μ-loop
 loop-holds c = (c .if1 .left, refl)
 
-shared-slice-read-if2 : tie.Need-shared-slice-read-if2 Inv-loop μ-loop
-shared-slice-read-if2 c = search needs
-
 shared-slice-read-if2-2 : tie.Need-shared-slice-read-if2-2 Inv-loop μ-loop
 shared-slice-read-if2-2 c = let h = c .before .before .before .loop .inv .0 in omega arith
 
@@ -34,9 +31,6 @@ returns-2 c =
     let h = l .inv .0 in
     let g = c .before .before .before .loop-test .taken in
     same-off _ _ (l .i) g (omega arith) (c .if2 .taken) ∙ l .inv .1
-
-add-i : tie.Need-add-i Inv-loop μ-loop
-add-i c = search needs
 
 loop-less : tie.Need-loop-less Inv-loop μ-loop
 loop-less c = omega arith
@@ -63,10 +57,10 @@ is-same-spec =
     μ-loop
     returns
     loop-holds
-    shared-slice-read-if2
+    (λ c. search needs)
     shared-slice-read-if2-2
     returns-2
-    add-i
+    (λ c. search needs)
     loop-less
     loop-again
     returns-3)

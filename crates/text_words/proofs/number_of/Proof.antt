@@ -29,20 +29,8 @@ returns c =
       exact = λ g. absurd (omega (arith, l .inv .1, number-least (l .n) (drop (l .i) (c .before .before .before .before .args .w .now))));
     }
 
-mul-n : tie.Need-mul-n Inv-loop μ-loop
-mul-n c = search needs
-
-shared-slice-read-digit-value : tie.Need-shared-slice-read-digit-value Inv-loop μ-loop
-shared-slice-read-digit-value c = search needs
-
-digit-value-requires : tie.Need-digit-value-requires Inv-loop μ-loop
-digit-value-requires c κs = search needs
-
 add-n : tie.Need-add-n Inv-loop μ-loop
 add-n c = omega (arith, c .digit-value .ensures, c .before .shared-slice-known2 .given (c .before .before .before .before .loop .i))
-
-add-i : tie.Need-add-i Inv-loop μ-loop
-add-i c = search needs
 
 loop-less : tie.Need-loop-less Inv-loop μ-loop
 loop-less c = omega arith
@@ -67,11 +55,11 @@ number-of-spec =
     μ-loop
     loop-holds
     returns
-    mul-n
-    shared-slice-read-digit-value
-    digit-value-requires
+    (λ c. search needs)
+    (λ c. search needs)
+    (λ c κs. search needs)
     add-n
-    add-i
+    (λ c. search needs)
     loop-less
     loop-again
     returns-2)

@@ -7,23 +7,11 @@ use borrow.Author.Needs.{needs}
 use Rattle.text_words.proofs.small_sort.Statement.{statement}
 use Rattle.text_words.proofs.small_sort.Tie as tie
 
-slice-aggregate-is-same : tie.Need-slice-aggregate-is-same
-slice-aggregate-is-same c = search needs
-
-is-same-requires : tie.Need-is-same-requires
-is-same-requires c κs = search needs
-
 returns : tie.Need-returns
 unfolding sortOf
 returns c =
     let e1 = sym (c .before .is-same .ensures) ∙ c .if1 .taken in
     rw (e1)
-
-slice-aggregate-is-same-2 : tie.Need-slice-aggregate-is-same-2
-slice-aggregate-is-same-2 c = search needs
-
-is-same-requires-2 : tie.Need-is-same-requires-2
-is-same-requires-2 c κs = search needs
 
 returns-2 : tie.Need-returns-2
 unfolding sortOf
@@ -31,12 +19,6 @@ returns-2 c =
     let e1 = sym (c .before .before .before .before .is-same .ensures) ∙ c .before .before .before .if1 .left in
     let e2 = sym (c .before .is-same2 .ensures) ∙ c .if2 .taken in
     rw (e1, e2)
-
-slice-aggregate-is-same-3 : tie.Need-slice-aggregate-is-same-3
-slice-aggregate-is-same-3 c = search needs
-
-is-same-requires-3 : tie.Need-is-same-requires-3
-is-same-requires-3 c κs = search needs
 
 returns-3 : tie.Need-returns-3
 unfolding sortOf
@@ -46,12 +28,6 @@ returns-3 c =
     let e3 = sym (c .before .is-same3 .ensures) ∙ c .if3 .taken in
     rw (e1, e2, e3)
 
-slice-aggregate-is-same-4 : tie.Need-slice-aggregate-is-same-4
-slice-aggregate-is-same-4 c = search needs
-
-is-same-requires-4 : tie.Need-is-same-requires-4
-is-same-requires-4 c κs = search needs
-
 returns-4 : tie.Need-returns-4
 unfolding sortOf
 returns-4 c =
@@ -60,12 +36,6 @@ returns-4 c =
     let e3 = sym (c .before .before .before .before .is-same3 .ensures) ∙ c .before .before .before .if3 .left in
     let e4 = sym (c .before .is-same4 .ensures) ∙ c .if4 .taken in
     rw (e1, e2, e3, e4)
-
-slice-aggregate-is-same-5 : tie.Need-slice-aggregate-is-same-5
-slice-aggregate-is-same-5 c = search needs
-
-is-same-requires-5 : tie.Need-is-same-requires-5
-is-same-requires-5 c κs = search needs
 
 returns-5 : tie.Need-returns-5
 unfolding sortOf
@@ -100,20 +70,20 @@ pub small-sort-spec : {M : Type 1} → statement M
 small-sort-spec =
     tie.close
     (tie.spec
-    slice-aggregate-is-same
-    is-same-requires
+    (λ c. search needs)
+    (λ c κs. search needs)
     returns
-    slice-aggregate-is-same-2
-    is-same-requires-2
+    (λ c. search needs)
+    (λ c κs. search needs)
     returns-2
-    slice-aggregate-is-same-3
-    is-same-requires-3
+    (λ c. search needs)
+    (λ c κs. search needs)
     returns-3
-    slice-aggregate-is-same-4
-    is-same-requires-4
+    (λ c. search needs)
+    (λ c κs. search needs)
     returns-4
-    slice-aggregate-is-same-5
-    is-same-requires-5
+    (λ c. search needs)
+    (λ c κs. search needs)
     returns-5
     returns-6
     returns-7)

@@ -19,19 +19,10 @@ abbrev μ-loop : tie.MeasureT-loop
 loop-holds : tie.Need-loop-holds Inv-loop μ-loop
 loop-holds c = running-first _ _
 
-shared-slice-read-is-alnum : tie.Need-shared-slice-read-is-alnum Inv-loop μ-loop
-shared-slice-read-is-alnum c = search needs
-
-is-alnum-requires : tie.Need-is-alnum-requires Inv-loop μ-loop
-is-alnum-requires c κs = search needs
-
 returns : tie.Need-returns Inv-loop μ-loop
 returns c =
     let l = c .before .before .before .before .loop in
     running-stop _ _ (l .i) (l .inv) (c .before .before .before .loop-test .taken) (sym (c .before .is-alnum .ensures) ∙ not-true _ (c .if1 .taken))
-
-add-i : tie.Need-add-i Inv-loop μ-loop
-add-i c = search needs
 
 loop-less : tie.Need-loop-less Inv-loop μ-loop
 loop-less c = omega arith
@@ -51,10 +42,10 @@ word-end-spec =
     Inv-loop
     μ-loop
     loop-holds
-    shared-slice-read-is-alnum
-    is-alnum-requires
+    (λ c. search needs)
+    (λ c κs. search needs)
     returns
-    add-i
+    (λ c. search needs)
     loop-less
     loop-again
     returns-2)

@@ -7,9 +7,6 @@ use borrow.Author.Needs.{needs}
 use Rattle.text_write.proofs.write.Statement.{statement}
 use Rattle.text_write.proofs.write.Tie as tie
 
-is-valid-requires : tie.Need-is-valid-requires
-is-valid-requires c κs = search needs
-
 returns : tie.Need-returns
 returns c =
     let a = c .before .before .before .args in
@@ -18,12 +15,6 @@ returns c =
 write-valid-requires : tie.Need-write-valid-requires
 write-valid-requires c κs = sym (c .before .before .is-valid .ensures) ∙ not-false _ (c .before .if1 .left)
 
-same-length : tie.Need-same-length
-same-length c = search needs
-
-returns-2 : tie.Need-returns-2
-returns-2 c = search needs
-
 pub write-spec : {M : Type 1} → statement M
 write-spec =
-    tie.close (tie.spec is-valid-requires returns write-valid-requires same-length returns-2)
+    tie.close (tie.spec (λ c κs. search needs) returns write-valid-requires (λ c. search needs) (λ c. search needs))

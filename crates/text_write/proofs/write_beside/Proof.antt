@@ -9,9 +9,6 @@ use Rattle.text_write.proofs.write_beside.Tie as tie
 write-text-requires : tie.Need-write-text-requires
 write-text-requires c κs = c .before .before .before .pre
 
-same-length : tie.Need-same-length
-same-length c = search needs
-
 returns : tie.Need-returns
 returns c =
     let a = c .before .before .before .before .before .before .before .args in
@@ -21,45 +18,31 @@ returns c =
 write-text-requires-2 : tie.Need-write-text-requires-2
 write-text-requires-2 c κs = c .before .before .before .before .before .before .before .before .before .pre
 
-same-length-2 : tie.Need-same-length-2
-same-length-2 c = search needs
-
-same-length-3 : tie.Need-same-length-3
-same-length-3 c = search needs
-
 returns-2 : tie.Need-returns-2
 returns-2 c =
     let a = c .before .before .before .before .before .before .before .before .before .before .before .before .args in
     let p = c .before .before .before .before .before .before .before .before .before .before .before .before .pre in
     says-text (a .w .now) (record { c = a .c .now; n = a .n }) (a .buf .now) (p .0) (p .1) (c .before .before .before .before .before .before .before .before .write-text .result) (c .before .before .before .before .before .before .before .before .write-text .ensures .place) (c .before .before .before .before .before .if1 .left) (omega arith) (c .before .before .write-text2 .ensures)
 
-copy-front-requires : tie.Need-copy-front-requires
-copy-front-requires c κs = search needs
-
-same-length-4 : tie.Need-same-length-4
-same-length-4 c = search needs
-
-same-length-5 : tie.Need-same-length-5
-same-length-5 c = search needs
-
 returns-3 : tie.Need-returns-3
 returns-3 c =
-    let a = c .before .before .before .before .before .before .before .before .before .before .before .before .before .args in
-    let p = c .before .before .before .before .before .before .before .before .before .before .before .before .before .pre in
-    says-copied (a .w .now) (record { c = a .c .now; n = a .n }) (a .buf .now) (p .0) (p .1) (c .before .before .before .before .before .before .before .before .before .write-text .result) (c .before .before .before .before .before .before .before .before .before .write-text .ensures .place) (c .before .before .before .before .before .before .if1 .left) (omega arith) (omega arith) (omega arith) (c .before .before .before .before .before .before .before .before .before .write-text .ensures) (c .before .before .copy-front .ensures)
+    let past = c .before .before .before .before .before .before in
+    let a = past .before .before .before .before .before .before .before .args in
+    let p = past .before .before .before .before .before .before .before .pre in
+    says-copied (a .w .now) (record { c = a .c .now; n = a .n }) (a .buf .now) (p .0) (p .1) (past .before .before .before .write-text .result) (past .before .before .before .write-text .ensures .place) (past .if1 .left) (omega arith) (omega arith) (omega arith) (past .before .before .before .write-text .ensures) (c .before .before .copy-front .ensures)
 
 pub write-beside-spec : {M : Type 1} → statement M
 write-beside-spec =
     tie.close
     (tie.spec
     write-text-requires
-    same-length
+    (λ c. search needs)
     returns
     write-text-requires-2
-    same-length-2
-    same-length-3
+    (λ c. search needs)
+    (λ c. search needs)
     returns-2
-    copy-front-requires
-    same-length-4
-    same-length-5
+    (λ c κs. search needs)
+    (λ c. search needs)
+    (λ c. search needs)
     returns-3)

@@ -17,26 +17,11 @@ returns c =
     let p = c .before .before .before .pre in
     says-14 (a .w .now) (record { c = a .c .now; n = a .n }) (a .buf .now) p (unmarked-table (a .w .now) (record { c = a .c .now; n = a .n }) ∙ sym (c .before .all-unmarked .ensures) ∙ not-true _ (c .if1 .taken))
 
-word-requires : tie.Need-word-requires
-word-requires c κs = search needs
-
-slice-aggregate-write-beside : tie.Need-slice-aggregate-write-beside
-slice-aggregate-write-beside c = search needs
-
 write-beside-requires : tie.Need-write-beside-requires
 write-beside-requires c κs =
     let a = c .before .before .before .before .before .before .before .args in
     let p = c .before .before .before .before .before .before .before .pre in
     (p, unmarked-table (a .w .now) (record { c = a .c .now; n = a .n }) ∙ sym (c .before .before .before .before .before .all-unmarked .ensures) ∙ not-false _ (c .before .before .before .before .if1 .left))
-
-same-length : tie.Need-same-length
-same-length c = search needs
-
-returns-2 : tie.Need-returns-2
-returns-2 c = search needs
-
-slice-aggregate-write-beside-2 : tie.Need-slice-aggregate-write-beside-2
-slice-aggregate-write-beside-2 c = search needs
 
 write-beside-requires-2 : tie.Need-write-beside-requires-2
 write-beside-requires-2 c κs =
@@ -44,24 +29,18 @@ write-beside-requires-2 c κs =
     let p = c .before .before .before .before .before .before .before .pre in
     (p, unmarked-table (a .w .now) (record { c = a .c .now; n = a .n }) ∙ sym (c .before .before .before .before .before .all-unmarked .ensures) ∙ not-false _ (c .before .before .before .before .if1 .left))
 
-same-length-2 : tie.Need-same-length-2
-same-length-2 c = search needs
-
-returns-3 : tie.Need-returns-3
-returns-3 c = search needs
-
 pub write-valid-spec : {M : Type 1} → statement M
 write-valid-spec =
     tie.close
     (tie.spec
     all-unmarked-requires
     returns
-    word-requires
-    slice-aggregate-write-beside
+    (λ c κs. search needs)
+    (λ c. search needs)
     write-beside-requires
-    same-length
-    returns-2
-    slice-aggregate-write-beside-2
+    (λ c. search needs)
+    (λ c. search needs)
+    (λ c. search needs)
     write-beside-requires-2
-    same-length-2
-    returns-3)
+    (λ c. search needs)
+    (λ c. search needs))

@@ -6,16 +6,10 @@ use borrow.Author.Needs.{needs}
 use Rattle.timo.proofs.timo_printout.Statement.{statement}
 use Rattle.timo.proofs.timo_printout.Tie as tie
 
-printout-requires : tie.Need-printout-requires
-printout-requires c κs = search needs
-
-same-length : tie.Need-same-length
-same-length c = search needs
-
 returns : tie.Need-returns
 returns c =
     let p = c .before .before .printout .ensures in
     (shows (p .0) (omega arith) (omega arith), p .1)
 
 pub timo-printout-spec : {M : Type 1} → statement M
-timo-printout-spec = tie.close (tie.spec printout-requires same-length returns)
+timo-printout-spec = tie.close (tie.spec (λ c κs. search needs) (λ c. search needs) returns)

@@ -19,9 +19,6 @@ loop-holds c = (c .before .pre .0, c .before .pre .1, refl)
 same-length : tie.Need-same-length Inv-loop μ-loop
 same-length c = c .before .loop .inv .2
 
-returns : tie.Need-returns Inv-loop μ-loop
-returns c = search needs
-
 next-piece-requires : tie.Need-next-piece-requires Inv-loop μ-loop
 next-piece-requires c κs =
     let v = c .before .before .loop .inv in
@@ -32,9 +29,6 @@ emit-requires c κs = omega (arith, c .before .before .before .next-piece .ensur
 
 same-length-2 : tie.Need-same-length-2 Inv-loop μ-loop
 same-length-2 c = c .before .before .before .before .buf .given ∙ c .before .before .before .before .before .before .before .before .loop .inv .2
-
-returns-2 : tie.Need-returns-2 Inv-loop μ-loop
-returns-2 c = search needs
 
 loop-less : tie.Need-loop-less Inv-loop μ-loop
 loop-less c = omega (arith, ap length (c .before .before .before .before .before .before .next-piece .ensures .first))
@@ -52,10 +46,10 @@ show-spec =
     μ-loop
     loop-holds
     same-length
-    returns
+    (λ c. search needs)
     next-piece-requires
     emit-requires
     same-length-2
-    returns-2
+    (λ c. search needs)
     loop-less
     loop-again)

@@ -10,13 +10,11 @@ use Rattle.calls.proofs.run.run.Statement.{statement}
 use Rattle.calls.proofs.run.run.Tie as tie
 
 abbrev Inv-loop : tie.InvT-loop
-Inv-loop w calls codes₀ n m good state₀ j₀ codes state j = (n ≡ length calls) × (m ≡ length codes₀) × (j ≤ n) × Running w state₀ calls codes₀ codes j state × (good ≡ valid w state₀)
+Inv-loop w c₀ n calls codes₀ number room good k₀ j₀ c codes k j =
+    (number ≡ length calls) × (room ≡ length codes₀) × (j ≤ number) × Running w (record { c = c₀; n = n }) calls codes₀ codes j (record { c = c; n = k }) × (good ≡ valid w (record { c = c₀; n = n }))
 
 abbrev μ-loop : tie.MeasureT-loop
-μ-loop w calls codes₀ n m good state₀ j₀ codes state j = n - j
-
-is-valid-requires : tie.Need-is-valid-requires Inv-loop μ-loop
-is-valid-requires c κs = search needs
+μ-loop w c₀ n calls codes₀ number room good k₀ j₀ c codes k j = number - j
 
 loop-holds : tie.Need-loop-holds Inv-loop μ-loop
 loop-holds c = (refl, refl, omega arith, running-begin _ _ _ _, c .is-valid .ensures)
@@ -29,29 +27,11 @@ returns c =
     let i = c .before .before .loop .inv in
     (running-end (i .3), omega (arith, i .3 .few))
 
-mul-e : tie.Need-mul-e Inv-loop μ-loop
-mul-e c = search needs
-
-shared-slice-copy-out-e : tie.Need-shared-slice-copy-out-e Inv-loop μ-loop
-shared-slice-copy-out-e c = search needs
-
-array-read-call : tie.Need-array-read-call Inv-loop μ-loop
-array-read-call c = search needs
-
-array-read-call-2 : tie.Need-array-read-call-2 Inv-loop μ-loop
-array-read-call-2 c = search needs
-
-array-read-call-3 : tie.Need-array-read-call-3 Inv-loop μ-loop
-array-read-call-3 c = search needs
-
 call-requires : tie.Need-call-requires Inv-loop μ-loop
-call-requires c κs = let i = c .before .before .before .loop .inv in i .4 ∙ sym (i .3 .good)
-
-mul-codes : tie.Need-mul-codes Inv-loop μ-loop
-mul-codes c = search needs
+call-requires c κs = let i = c .before .before .before .before .loop .inv in i .4 ∙ sym (i .3 .good)
 
 slice-write-codes : tie.Need-slice-write-codes Inv-loop μ-loop
-slice-write-codes c = omega (arith, c .before .before .before .before .loop .inv .3 .size)
+slice-write-codes c = omega (arith, c .before .before .before .before .before .loop .inv .3 .size)
 
 add-j : tie.Need-add-j Inv-loop μ-loop
 add-j c = omega arith
@@ -62,7 +42,7 @@ loop-less c = omega arith
 loop-again : tie.Need-loop-again Inv-loop μ-loop
 loop-again c =
     let i = c .before .before .before .before .before .loop .inv in
-    (i .0, i .1, omega arith, running-more _ _ _ _ _ _ _ _ _ (omega arith) (omega arith) (i .3) (c .before .call .ensures), i .4)
+    (i .0, i .1, omega arith, running-more _ _ _ _ _ _ _ _ _ (omega arith) (omega arith) (i .3) (c .call .ensures), i .4)
 
 same-length-2 : tie.Need-same-length-2 Inv-loop μ-loop
 same-length-2 c = c .before .loop .inv .3 .size
@@ -78,17 +58,17 @@ run-spec =
     (tie.spec
     Inv-loop
     μ-loop
-    is-valid-requires
+    (λ c κs. search needs)
     loop-holds
     same-length
     returns
-    mul-e
-    shared-slice-copy-out-e
-    array-read-call
-    array-read-call-2
-    array-read-call-3
+    (λ c. search needs)
+    (λ c. search needs)
+    (λ c. search needs)
+    (λ c. search needs)
+    (λ c. search needs)
     call-requires
-    mul-codes
+    (λ c. search needs)
     slice-write-codes
     add-j
     loop-less

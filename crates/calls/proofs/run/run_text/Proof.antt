@@ -6,28 +6,19 @@ use borrow.Author.Needs.{needs}
 use Rattle.calls.proofs.run.run_text.Statement.{statement}
 use Rattle.calls.proofs.run.run_text.Tie as tie
 
-read-requires : tie.Need-read-requires
-read-requires c κs = search needs
-
 returns : tie.Need-returns
 returns c =
-    let a = c .before .before .before .before .before .before .before .args in
-    let r = c .before .before .before .read in
-    text-refused (a .text .now) (a .w .now) _ (r .result) (r .ensures) (a .calls .now) (a .codes .now) (c .if1 .taken)
-
-run-requires : tie.Need-run-requires
-run-requires c κs = search needs
-
-same-length : tie.Need-same-length
-same-length c = search needs
+    let a = c .before .before .before .before .before .before .args in
+    let r = c .before .before .read in
+    text-refused (a .text .now) (a .w .now) _ (r .result) (r .ensures) (a .c .now) (a .calls .now) (a .codes .now) (c .if1 .taken)
 
 returns-2 : tie.Need-returns-2
 returns-2 c =
-    let a = c .before .before .before .before .before .before .before .before .before .before .before .before .before .args in
-    let r = c .before .before .before .before .before .before .before .before .before .read in
-    let x = c .before .before .before .run in
+    let a = c .before .before .before .before .before .before .before .before .before .before .before .before .before .before .args in
+    let r = c .before .before .before .before .before .before .before .before .before .before .read in
+    let x = c .before .before .run in
     let z : r .result .code ≡ 0 = omega arith in
-    text-ran (a .text .now) (a .w .now) _ (r .result) (r .ensures) (a .calls .now) (a .codes .now) _ (x .result .done) (x .result .state) z (x .ensures .0) (x .ensures .1)
+    text-ran (a .text .now) (a .w .now) _ (r .result) (r .ensures) (a .c .now) (a .calls .now) (a .codes .now) _ _ (x .result .done) (x .result .n) z (x .ensures .0) (x .ensures .1)
 
 pub run-text-spec : {M : Type 1} → statement M
-run-text-spec = tie.close (tie.spec read-requires returns run-requires same-length returns-2)
+run-text-spec = tie.close (tie.spec (λ c κs. search needs) returns (λ c κs. search needs) (λ c. search needs) returns-2)

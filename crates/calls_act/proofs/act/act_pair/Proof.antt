@@ -1,58 +1,59 @@
 -- `act_pair` meets its contract: two positions in use hold good components, and what they become is put in their places.
 use native.Mathlib.Omega.{arith}
+use mathlib.Core.Path.{refl}
+use Rattle.table.specs.declared.State.{State}
 use Rattle.calls_act.proofs.Positions.{few-comps, comp-good, valid-parts, two-left, two-out-p, two-out-q}
 use borrow.Author.Needs.{needs}
 use Rattle.calls_act.proofs.act.act_pair.Statement.{statement}
 use Rattle.calls_act.proofs.act.act_pair.Tie as tie
 
-refuse-requires : tie.Need-refuse-requires
-refuse-requires c κs = search needs
-
 returns : tie.Need-returns
 returns c =
-    let a = c .before .before .before .args in
-    rw (c .refuse .ensures) (two-out-p (a .w .now) (a .st) (a .p) (a .q) (c .before .before .before .pre) (c .before .if1 .taken))
-
-refuse-requires-2 : tie.Need-refuse-requires-2
-refuse-requires-2 c κs = search needs
+    let a = c .before .before .args in
+    rw (two-out-p (a .w .now) (record { c = a .c .now; n = a .n }) (a .p) (a .q) (c .before .if1 .taken)) (c .refuse .ensures, refl)
 
 returns-2 : tie.Need-returns-2
 returns-2 c =
-    let a = c .before .before .before .before .before .args in
-    rw (c .refuse2 .ensures) (two-out-q (a .w .now) (a .st) (a .p) (a .q) (c .before .before .before .before .before .pre) (c .before .before .before .if1 .left) (c .before .if2 .taken))
+    let a = c .before .before .before .args in
+    rw (two-out-q (a .w .now) (record { c = a .c .now; n = a .n }) (a .p) (a .q) (c .before .before .if1 .left) (c .before .if2 .taken)) (c .refuse2 .ensures, refl)
 
-entry-requires : tie.Need-entry-requires
-entry-requires c κs = omega (arith, few-comps (c .before .before .before .before .args .w .now) (c .before .before .before .before .args .st) (c .before .before .before .before .pre))
+comp-at-requires : tie.Need-comp-at-requires
+comp-at-requires c κs = omega (arith, few-comps _ _ (c .before .before .before .before .before .pre))
 
-entry-requires-2 : tie.Need-entry-requires-2
-entry-requires-2 c κs = omega (arith, few-comps (c .before .before .before .before .before .args .w .now) (c .before .before .before .before .before .args .st) (c .before .before .before .before .before .pre))
+comp-at-requires-2 : tie.Need-comp-at-requires-2
+comp-at-requires-2 c κs = omega (arith, few-comps _ _ (c .before .before .before .before .before .before .before .pre))
 
 fire-pair-requires : tie.Need-fire-pair-requires
 fire-pair-requires c κs =
-    let a = c .before .before .before .before .before .before .args in
-    (valid-parts (a .w .now) (a .st) (c .before .before .before .before .before .before .pre) .0, rw (c .before .entry .ensures .0) (comp-good (a .w .now) (a .st) (c .before .before .before .before .before .before .pre) (a .p) (c .before .before .before .before .if1 .left)), rw (c .entry2 .ensures .0) (comp-good (a .w .now) (a .st) (c .before .before .before .before .before .before .pre) (a .q) (c .before .before .if2 .left)))
+    let past = c .before .before .before .before .before .before in
+    let a = past .before .before .args in
+    let st : State = record { c = a .c .now; n = a .n } in
+    (valid-parts (a .w .now) st (past .before .before .pre) .0, rw (c .before .before .comp-at .ensures) (comp-good (a .w .now) st (past .before .before .pre) (a .p) (past .before .if1 .left)), rw (c .comp-at2 .ensures) (comp-good (a .w .now) st (past .before .before .pre) (a .q) (past .if2 .left)))
 
 settle-two-requires : tie.Need-settle-two-requires
 settle-two-requires c κs =
-    let h = few-comps (c .before .before .before .before .before .before .before .args .w .now) (c .before .before .before .before .before .before .before .args .st) (c .before .before .before .before .before .before .before .pre) in
+    let h = few-comps _ _ (c .before .before .before .before .before .before .before .before .before .before .pre) in
     (omega arith, omega arith)
 
 returns-3 : tie.Need-returns-3
 returns-3 c =
-    let a = c .before .before .before .before .before .before .before .before .args in
-    let l = c .before .before .before .entry .ensures .1 in
-    rw (c .settle-two .ensures) (two-left (a .w .now) (a .st) (a .p) (a .q) (c .before .fire-pair .result) (c .before .before .before .before .before .before .before .before .pre) l (c .before .before .before .before .before .before .if1 .left) (c .before .before .before .before .if2 .left) (rw (c .before .before .before .entry .ensures .0, c .before .before .entry2 .ensures .0) at (c .before .fire-pair .ensures)))
+    let past = c .before .before .before .before .before in
+    let a = past .before .before .before .before .before .before .args in
+    let st : State = record { c = a .c .now; n = a .n } in
+    rw (c .settle-two .ensures .0, c .settle-two .ensures .1)
+    (two-left (a .w .now) st (a .p) (a .q) (c .before .before .fire-pair .result) (past .before .before .before .before .before .before .pre) (past .before .before .sized .ensures) (past .before .before .before .before .before .if1 .left) (past .before .before .before .before .if2 .left) (rw (past .comp-at .ensures, c .before .before .before .comp-at2 .ensures) at (c .before .before .fire-pair .ensures)))
 
 pub act-pair-spec : {M : Type 1} → statement M
 act-pair-spec =
     tie.close
     (tie.spec
-    refuse-requires
+    (λ c κs. search needs)
     returns
-    refuse-requires-2
+    (λ c κs. search needs)
     returns-2
-    entry-requires
-    entry-requires-2
+    (λ c κs. search needs)
+    comp-at-requires
+    comp-at-requires-2
     fire-pair-requires
     settle-two-requires
     returns-3)

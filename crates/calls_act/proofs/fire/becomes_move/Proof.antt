@@ -7,38 +7,8 @@ use borrow.Author.Needs.{needs}
 use Rattle.calls_act.proofs.fire.becomes_move.Statement.{statement}
 use Rattle.calls_act.proofs.fire.becomes_move.Tie as tie
 
-enum-known-h : tie.Need-enum-known-h
-enum-known-h c = search needs
-
-value-in-requires : tie.Need-value-in-requires
-value-in-requires c κs = search needs
-
-left-requires : tie.Need-left-requires
-left-requires c κs = search needs
-
 enum-told : tie.Need-enum-told
 enum-told c = search needs
-
-not-fired-requires : tie.Need-not-fired-requires
-not-fired-requires c κs = search needs
-
-enum-told-2 : tie.Need-enum-told-2
-enum-told-2 c = search needs
-
-not-fired-requires-2 : tie.Need-not-fired-requires-2
-not-fired-requires-2 c κs = search needs
-
-enum-told-3 : tie.Need-enum-told-3
-enum-told-3 c = search needs
-
-not-fired-requires-3 : tie.Need-not-fired-requires-3
-not-fired-requires-3 c κs = search needs
-
-enum-told-4 : tie.Need-enum-told-4
-enum-told-4 c = search needs
-
-not-fired-requires-4 : tie.Need-not-fired-requires-4
-not-fired-requires-4 c κs = search needs
 
 returns : tie.Need-returns
 unfolding oneOf becomesAt
@@ -64,17 +34,17 @@ pub becomes-move-spec : {M : Type 1} → statement M
 becomes-move-spec =
     tie.close
     (tie.spec
-    enum-known-h
-    value-in-requires
-    left-requires
+    (λ c. search needs)
+    (λ c κs. search needs)
+    (λ c κs. search needs)
     enum-told
-    not-fired-requires
-    enum-told-2
-    not-fired-requires-2
-    enum-told-3
-    not-fired-requires-3
-    enum-told-4
-    not-fired-requires-4
+    (λ c κs. search needs)
+    (λ c. search needs)
+    (λ c κs. search needs)
+    (λ c. search needs)
+    (λ c κs. search needs)
+    (λ c. search needs)
+    (λ c κs. search needs)
     returns
     returns-2
     returns-3

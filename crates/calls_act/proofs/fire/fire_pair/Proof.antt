@@ -2,29 +2,20 @@
 use mathlib.Core.Path.{ap, _∙_}
 use borrow.Author.Tests.{lt-ltb, le-ltb}
 use Rattle.table.specs.Words.{headAt}
-use Rattle.table.specs.Fire.{meetAt, togetherAt}
+use Rattle.table.specs.Fire.{meetAt, togetherAt, fitsTogether}
 use Rattle.calls_act.specs.Fired.{twoOf}
 use Rattle.calls_act.proofs.Heads.{place-fits}
 use borrow.Author.Needs.{needs}
 use Rattle.calls_act.proofs.fire.fire_pair.Statement.{statement}
 use Rattle.calls_act.proofs.fire.fire_pair.Tie as tie
 
-not-met-requires : tie.Need-not-met-requires
-not-met-requires c κs = search needs
-
 returns : tie.Need-returns
-unfolding twoOf togetherAt
+unfolding twoOf togetherAt fitsTogether
 returns c = rw (c .not-met .ensures, lt-ltb _ _ (c .before .if1 .taken))
 
-not-met-requires-2 : tie.Need-not-met-requires-2
-not-met-requires-2 c κs = search needs
-
 returns-2 : tie.Need-returns-2
-unfolding twoOf togetherAt
+unfolding twoOf togetherAt fitsTogether
 returns-2 c = rw (c .not-met2 .ensures, le-ltb _ _ (c .before .before .before .if1 .left), lt-ltb _ _ (c .before .if2 .taken))
-
-wide-requires : tie.Need-wide-requires
-wide-requires c κs = search needs
 
 head-at-requires : tie.Need-head-at-requires
 head-at-requires c κs =
@@ -32,20 +23,14 @@ head-at-requires c κs =
     let q = c .before .before .before .before .before .pre in
     rw (c .wide .ensures) (place-fits (a .w .now) (a .c) (q .0) (q .1))
 
-wide-requires-2 : tie.Need-wide-requires-2
-wide-requires-2 c κs = search needs
-
 head-at-requires-2 : tie.Need-head-at-requires-2
 head-at-requires-2 c κs =
     let a = c .before .before .before .before .before .before .before .args in
     let q = c .before .before .before .before .before .before .before .pre in
     rw (c .wide2 .ensures) (place-fits (a .w .now) (a .e) (q .0) (q .2))
 
-meet-requires : tie.Need-meet-requires
-meet-requires c κs = search needs
-
 returns-3 : tie.Need-returns-3
-unfolding togetherAt
+unfolding togetherAt fitsTogether
 returns-3 c =
     let a = c .before .before .before .before .before .before .before .before .before .args in
     c .meet .ensures
@@ -57,13 +42,13 @@ pub fire-pair-spec : {M : Type 1} → statement M
 fire-pair-spec =
     tie.close
     (tie.spec
-    not-met-requires
+    (λ c κs. search needs)
     returns
-    not-met-requires-2
+    (λ c κs. search needs)
     returns-2
-    wide-requires
+    (λ c κs. search needs)
     head-at-requires
-    wide-requires-2
+    (λ c κs. search needs)
     head-at-requires-2
-    meet-requires
+    (λ c κs. search needs)
     returns-3)

@@ -7,38 +7,8 @@ use borrow.Author.Needs.{needs}
 use Rattle.calls_act.proofs.fire.meet.Statement.{statement}
 use Rattle.calls_act.proofs.fire.meet.Tie as tie
 
-enum-known-h : tie.Need-enum-known-h
-enum-known-h c = search needs
-
-value-in-requires : tie.Need-value-in-requires
-value-in-requires c κs = search needs
-
-meets-input-requires : tie.Need-meets-input-requires
-meets-input-requires c κs = search needs
-
 enum-told : tie.Need-enum-told
 enum-told c = search needs
-
-not-met-requires : tie.Need-not-met-requires
-not-met-requires c κs = search needs
-
-enum-told-2 : tie.Need-enum-told-2
-enum-told-2 c = search needs
-
-not-met-requires-2 : tie.Need-not-met-requires-2
-not-met-requires-2 c κs = search needs
-
-enum-told-3 : tie.Need-enum-told-3
-enum-told-3 c = search needs
-
-not-met-requires-3 : tie.Need-not-met-requires-3
-not-met-requires-3 c κs = search needs
-
-enum-told-4 : tie.Need-enum-told-4
-enum-told-4 c = search needs
-
-not-met-requires-4 : tie.Need-not-met-requires-4
-not-met-requires-4 c κs = search needs
 
 returns : tie.Need-returns
 returns c =
@@ -74,17 +44,17 @@ pub meet-spec : {M : Type 1} → statement M
 meet-spec =
     tie.close
     (tie.spec
-    enum-known-h
-    value-in-requires
-    meets-input-requires
+    (λ c. search needs)
+    (λ c κs. search needs)
+    (λ c κs. search needs)
     enum-told
-    not-met-requires
-    enum-told-2
-    not-met-requires-2
-    enum-told-3
-    not-met-requires-3
-    enum-told-4
-    not-met-requires-4
+    (λ c κs. search needs)
+    (λ c. search needs)
+    (λ c κs. search needs)
+    (λ c. search needs)
+    (λ c κs. search needs)
+    (λ c. search needs)
+    (λ c κs. search needs)
     returns
     returns-2
     returns-3

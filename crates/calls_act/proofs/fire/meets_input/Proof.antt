@@ -7,23 +7,11 @@ use borrow.Author.Needs.{needs}
 use Rattle.calls_act.proofs.fire.meets_input.Statement.{statement}
 use Rattle.calls_act.proofs.fire.meets_input.Tie as tie
 
-enum-known-g : tie.Need-enum-known-g
-enum-known-g c = search needs
-
-left-requires : tie.Need-left-requires
-left-requires c κs = search needs
-
-received-requires : tie.Need-received-requires
-received-requires c κs = search needs
-
 returns : tie.Need-returns
 unfolding twoOf meetsInput handed
 returns c =
     let a = c .before .before .before .before .before .before .before .before .args in
     rw (c .received .ensures, c .before .left .ensures) (sym (ap (meetsInput (a .c) (a .e) (a .d) (a .x) (a .p)) (c .before .before .before .before .before .before .g .given .1) ∙ rw (eq-eqb _ _ (c .before .before .before .before .if1 .taken), eq-eqb _ _ (c .before .before .before .if2 .taken))))
-
-not-met-requires : tie.Need-not-met-requires
-not-met-requires c κs = search needs
 
 returns-2 : tie.Need-returns-2
 unfolding twoOf meetsInput
@@ -31,32 +19,8 @@ returns-2 c =
     let a = c .before .before .before .before .before .before .args in
     rw (c .not-met .ensures) (sym (ap (meetsInput (a .c) (a .e) (a .d) (a .x) (a .p)) (c .before .before .before .before .g .given .1) ∙ rw (eq-eqb _ _ (c .before .before .if1 .taken), ne-eqb _ _ (c .before .if2 .left))))
 
-not-met-requires-2 : tie.Need-not-met-requires-2
-not-met-requires-2 c κs = search needs
-
 enum-told : tie.Need-enum-told
 enum-told c = search needs
-
-not-met-requires-3 : tie.Need-not-met-requires-3
-not-met-requires-3 c κs = search needs
-
-enum-told-2 : tie.Need-enum-told-2
-enum-told-2 c = search needs
-
-not-met-requires-4 : tie.Need-not-met-requires-4
-not-met-requires-4 c κs = search needs
-
-enum-told-3 : tie.Need-enum-told-3
-enum-told-3 c = search needs
-
-not-met-requires-5 : tie.Need-not-met-requires-5
-not-met-requires-5 c κs = search needs
-
-enum-told-4 : tie.Need-enum-told-4
-enum-told-4 c = search needs
-
-not-met-requires-6 : tie.Need-not-met-requires-6
-not-met-requires-6 c κs = search needs
 
 returns-3 : tie.Need-returns-3
 unfolding twoOf meetsInput
@@ -92,21 +56,21 @@ pub meets-input-spec : {M : Type 1} → statement M
 meets-input-spec =
     tie.close
     (tie.spec
-    enum-known-g
-    left-requires
-    received-requires
+    (λ c. search needs)
+    (λ c κs. search needs)
+    (λ c κs. search needs)
     returns
-    not-met-requires
+    (λ c κs. search needs)
     returns-2
-    not-met-requires-2
+    (λ c κs. search needs)
     enum-told
-    not-met-requires-3
-    enum-told-2
-    not-met-requires-4
-    enum-told-3
-    not-met-requires-5
-    enum-told-4
-    not-met-requires-6
+    (λ c κs. search needs)
+    (λ c. search needs)
+    (λ c κs. search needs)
+    (λ c. search needs)
+    (λ c κs. search needs)
+    (λ c. search needs)
+    (λ c κs. search needs)
     returns-3
     returns-4
     returns-5

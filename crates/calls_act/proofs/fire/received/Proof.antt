@@ -8,24 +8,9 @@ use borrow.Author.Needs.{needs}
 use Rattle.calls_act.proofs.fire.received.Statement.{statement}
 use Rattle.calls_act.proofs.fire.received.Tie as tie
 
-wide-requires : tie.Need-wide-requires
-wide-requires c κs = search needs
-
-mul-vals : tie.Need-mul-vals
-mul-vals c = search needs
-
-array-write-vals : tie.Need-array-write-vals
-array-write-vals c = search needs
-
-left-requires : tie.Need-left-requires
-left-requires c κs = search needs
-
 returns : tie.Need-returns
 unfolding leftAt
 returns c = rw (c .left .ensures, c .before .before .wide .ensures)
-
-left-requires-2 : tie.Need-left-requires-2
-left-requires-2 c κs = search needs
 
 returns-2 : tie.Need-returns-2
 unfolding leftAt
@@ -38,10 +23,10 @@ pub received-spec : {M : Type 1} → statement M
 received-spec =
     tie.close
     (tie.spec
-    wide-requires
-    mul-vals
-    array-write-vals
-    left-requires
+    (λ c κs. search needs)
+    (λ c. search needs)
+    (λ c. search needs)
+    (λ c κs. search needs)
     returns
-    left-requires-2
+    (λ c κs. search needs)
     returns-2)

@@ -12,15 +12,6 @@ returns : tie.Need-returns
 unfolding valueIn
 returns c = simp (lt-ltb _ _ (c .if1 .taken))
 
-wide-requires : tie.Need-wide-requires
-wide-requires c κs = search needs
-
-mul-result : tie.Need-mul-result
-mul-result c = search needs
-
-array-read-result : tie.Need-array-read-result
-array-read-result c = search needs
-
 returns-2 : tie.Need-returns-2
 unfolding valueIn
 returns-2 c = simp (le-ltb _ _ (c .before .before .if1 .left), ← c .before .wide .ensures)
@@ -33,4 +24,4 @@ returns-3 c =
 
 pub value-in-spec : {M : Type 1} → statement M
 value-in-spec =
-    tie.close (tie.spec returns wide-requires mul-result array-read-result returns-2 returns-3)
+    tie.close (tie.spec returns (λ c κs. search needs) (λ c. search needs) (λ c. search needs) returns-2 returns-3)

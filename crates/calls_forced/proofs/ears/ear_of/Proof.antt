@@ -12,17 +12,11 @@ returns : tie.Need-returns
 unfolding earOf
 returns c = rw (lt-ltb _ _ (c .if1 .taken))
 
-wide-requires : tie.Need-wide-requires
-wide-requires c κs = search needs
-
 head-at-requires : tie.Need-head-at-requires
 head-at-requires c κs =
     let a = c .before .before .before .args in
     let q = c .before .before .before .pre in
     rw (c .wide .ensures) (place-fits (a .w .now) (a .c) (q .0) (q .1))
-
-ear-in-requires : tie.Need-ear-in-requires
-ear-in-requires c κs = search needs
 
 returns-2 : tie.Need-returns-2
 unfolding earOf
@@ -31,4 +25,4 @@ returns-2 c =
     rw (le-ltb _ _ (c .before .before .before .if1 .left)) (c .ear-in .ensures ∙ ap (earIn (a .c .loc)) (c .before .head-at .ensures ∙ ap (headAt (a .w .now)) (c .before .before .wide .ensures)))
 
 pub ear-of-spec : {M : Type 1} → statement M
-ear-of-spec = tie.close (tie.spec returns wide-requires head-at-requires ear-in-requires returns-2)
+ear-of-spec = tie.close (tie.spec returns (λ c κs. search needs) head-at-requires (λ c κs. search needs) returns-2)

@@ -7,15 +7,6 @@ use borrow.Author.Needs.{needs}
 use Rattle.calls_forced.proofs.forced.forced_valid.Statement.{statement}
 use Rattle.calls_forced.proofs.forced.forced_valid.Tie as tie
 
-ears-in-requires : tie.Need-ears-in-requires
-ears-in-requires c κs = search needs
-
-pressed-in-requires : tie.Need-pressed-in-requires
-pressed-in-requires c κs = search needs
-
-set-of-requires : tie.Need-set-of-requires
-set-of-requires c κs = search needs
-
 returns : tie.Need-returns
 returns c =
     let a = c .before .before .before .before .before .args in
@@ -24,4 +15,4 @@ returns c =
 
 pub forced-valid-spec : {M : Type 1} → statement M
 forced-valid-spec =
-    tie.close (tie.spec ears-in-requires pressed-in-requires set-of-requires returns)
+    tie.close (tie.spec (λ c κs. search needs) (λ c κs. search needs) (λ c κs. search needs) returns)

@@ -12,41 +12,32 @@ returns : tie.Need-returns
 unfolding pressOf
 returns c = rw (lt-ltb _ _ (c .if1 .taken))
 
-wide-requires : tie.Need-wide-requires
-wide-requires c κs = search needs
-
 head-at-requires : tie.Need-head-at-requires
 head-at-requires c κs =
     let a = c .before .before .before .args in
     let q = c .before .before .before .pre in
     rw (c .wide .ensures) (place-fits (a .w .now) (a .c) (q .0) (q .1))
 
-presses-requires : tie.Need-presses-requires
-presses-requires c κs = search needs
-
-wide-requires-2 : tie.Need-wide-requires-2
-wide-requires-2 c κs = search needs
-
 returns-2 : tie.Need-returns-2
 unfolding pressOf
 returns-2 c =
     let a = c .before .before .before .before .before .before .before .args in
-    rw (le-ltb _ _ (c .before .before .before .before .before .if1 .left), sym (c .before .before .presses .ensures ∙ ap (pressesIn (a .ears .now) (a .c .loc) (a .c .timer)) (c .before .before .before .head-at .ensures ∙ ap (headAt (a .w .now)) (c .before .before .before .before .wide .ensures))) ∙ c .before .if2 .taken) (c .wide2 .ensures)
+    rw (le-ltb _ _ (c .before .before .before .before .before .if1 .left), sym (c .before .before .presses .ensures ∙ ap (pressesIn (a .ears .now) (a .c)) (c .before .before .before .head-at .ensures ∙ ap (headAt (a .w .now)) (c .before .before .before .before .wide .ensures))) ∙ c .before .if2 .taken) (c .wide2 .ensures)
 
 returns-3 : tie.Need-returns-3
 unfolding pressOf
 returns-3 c =
     let a = c .before .before .before .before .before .before .args in
-    rw (le-ltb _ _ (c .before .before .before .before .if1 .left), sym (c .before .presses .ensures ∙ ap (pressesIn (a .ears .now) (a .c .loc) (a .c .timer)) (c .before .before .head-at .ensures ∙ ap (headAt (a .w .now)) (c .before .before .before .wide .ensures))) ∙ c .if2 .left)
+    rw (le-ltb _ _ (c .before .before .before .before .if1 .left), sym (c .before .presses .ensures ∙ ap (pressesIn (a .ears .now) (a .c)) (c .before .before .head-at .ensures ∙ ap (headAt (a .w .now)) (c .before .before .before .wide .ensures))) ∙ c .if2 .left)
 
 pub press-of-spec : {M : Type 1} → statement M
 press-of-spec =
     tie.close
     (tie.spec
     returns
-    wide-requires
+    (λ c κs. search needs)
     head-at-requires
-    presses-requires
-    wide-requires-2
+    (λ c κs. search needs)
+    (λ c κs. search needs)
     returns-2
     returns-3)

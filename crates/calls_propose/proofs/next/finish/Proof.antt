@@ -1,4 +1,4 @@
--- `finish` meets its contract: the tick on what the actions leave; a refusal has the first state (Proposing).
+-- `finish` meets its contract: the tick on what the actions leave; a refusal puts the first components back (Proposing).
 use native.Mathlib.Omega.{arith}
 use mathlib.Core.Path.{_≡_}
 use Rattle.calls_propose.proofs.Proposing.{last-refused, last-none, last-all}
@@ -6,35 +6,27 @@ use borrow.Author.Needs.{needs}
 use Rattle.calls_propose.proofs.next.finish.Statement.{statement}
 use Rattle.calls_propose.proofs.next.finish.Tie as tie
 
-refuse-requires : tie.Need-refuse-requires
-refuse-requires c κs = search needs
-
 returns : tie.Need-returns
 returns c =
-    let a = c .before .before .before .args in
-    rw (c .refuse .ensures) (last-refused (a .w .now) (a .st) (a .out) (a .l) (c .before .before .before .pre .0) (λ e. omega arith))
+    let a = c .before .before .before .before .before .args in
+    rw (last-refused (a .w .now) (a .l) (record { c = a .t6 .c; n = a .n }) (a .c .now) (a .code) (λ e. omega arith)) (c .put-back .ensures)
 
 tick-valid-requires : tie.Need-tick-valid-requires
-tick-valid-requires c κs = search needs
-
-refuse-requires-2 : tie.Need-refuse-requires-2
-refuse-requires-2 c κs = search needs
+tick-valid-requires c κs = c .before .before .pre (omega arith) .good
 
 returns-2 : tie.Need-returns-2
 returns-2 c =
-    let a = c .before .before .before .before .before .before .before .args in
-    let g = c .before .before .before .before .before .before .before .pre in
-    let z : a .out .code ≡ 0 = omega arith in
-    rw (c .refuse2 .ensures) (last-none (a .w .now) (a .st) (a .out) (a .l) (g .0) (c .before .before .before .tick-valid .result) z (c .before .before .before .tick-valid .ensures) (λ e. omega arith))
+    let a = c .before .before .before .before .before .before .before .before .before .args in
+    let z : a .code ≡ 0 = omega arith in
+    rw (z, last-none (a .w .now) (a .l) (record { c = a .t6 .c; n = a .n }) (a .c .now) (c .before .before .before .before .before .before .before .before .before .pre z .here) _ _ (c .before .before .before .before .before .before .tick-valid .ensures) (λ e. omega arith)) (c .put-back2 .ensures)
 
 returns-3 : tie.Need-returns-3
 returns-3 c =
-    let a = c .before .before .before .before .before .before .args in
-    let g = c .before .before .before .before .before .before .pre in
-    let z : a .out .code ≡ 0 = omega arith in
-    last-all (a .w .now) (a .st) (a .out) (a .l) (g .0) (c .before .before .tick-valid .result) z (c .before .before .tick-valid .ensures) (g .1) (omega arith)
+    let a = c .before .before .before .before .before .args in
+    let z : a .code ≡ 0 = omega arith in
+    rw z (last-all (a .w .now) (a .l) (record { c = a .t6 .c; n = a .n }) (a .c .now) (c .before .before .before .before .before .pre z .here) _ _ (c .before .before .tick-valid .ensures) (c .before .before .before .before .before .pre z .past) (omega arith))
 
 pub finish-spec : {M : Type 1} → statement M
 finish-spec =
     tie.close
-    (tie.spec refuse-requires returns tick-valid-requires refuse-requires-2 returns-2 returns-3)
+    (tie.spec (λ c κs. search needs) returns tick-valid-requires (λ c κs. search needs) returns-2 returns-3)

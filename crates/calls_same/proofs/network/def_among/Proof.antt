@@ -19,12 +19,6 @@ Inv-loop w d v n e₀ e = (n ≡ defsIn v) × (e ≤ n) × (some (sameDef (defOf
 abbrev μ-loop : tie.MeasureT-loop
 μ-loop w d v n e₀ e = n - e
 
-word-requires : tie.Need-word-requires Inv-loop μ-loop
-word-requires c κs = search needs
-
-wide-requires : tie.Need-wide-requires Inv-loop μ-loop
-wide-requires c κs = search needs
-
 loop-holds : tie.Need-loop-holds Inv-loop μ-loop
 unfolding defsOf
 loop-holds c =
@@ -63,8 +57,8 @@ def-among-spec =
     (tie.spec
     Inv-loop
     μ-loop
-    word-requires
-    wide-requires
+    (λ c κs. search needs)
+    (λ c κs. search needs)
     loop-holds
     same-def-requires
     returns

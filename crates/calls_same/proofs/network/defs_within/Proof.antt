@@ -20,12 +20,6 @@ Inv-loop w v n d₀ d = (n ≡ defsIn w) × (d ≤ n) × (every (λ x. some (sam
 abbrev μ-loop : tie.MeasureT-loop
 μ-loop w v n d₀ d = n - d
 
-word-requires : tie.Need-word-requires Inv-loop μ-loop
-word-requires c κs = search needs
-
-wide-requires : tie.Need-wide-requires Inv-loop μ-loop
-wide-requires c κs = search needs
-
 loop-holds : tie.Need-loop-holds Inv-loop μ-loop
 unfolding within defsOf
 loop-holds c =
@@ -64,8 +58,8 @@ defs-within-spec =
     (tie.spec
     Inv-loop
     μ-loop
-    word-requires
-    wide-requires
+    (λ c κs. search needs)
+    (λ c κs. search needs)
     loop-holds
     def-among-requires
     returns

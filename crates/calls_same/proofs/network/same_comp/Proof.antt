@@ -5,7 +5,7 @@ use mathlib.Core.Path.{_≡_, ap, sym, _∙_}
 use Rattle.terms.specs.Names.{Name}
 use Rattle.terms.specs.Terms.{Process, Mark}
 use Rattle.terms.specs.Terms.Component.{comp}
-use Rattle.table.specs.Words.{locsAt, nameAt}
+use Rattle.table.specs.Words.{locsAt, nameAt, nameSize}
 use Rattle.table.specs.Meaning.{means}
 use Rattle.calls_same.proofs.Decided.{carried, differ, shown, placed, one-answer, equal-decides}
 use Rattle.calls_same.proofs.Networks.{comp-is}
@@ -25,56 +25,32 @@ held-is {x} {y} {m} {n} e =
 comp-same : {x y : Name} {m n : Mark × Process} → x ≡ y → m ≡ n → comp x (m .0) (m .1) ≡ comp y (n .0) (n .1)
 comp-same p q = rw (p, q)
 
-wide-requires : tie.Need-wide-requires
-wide-requires c κs = search needs
-
-mul-same-name : tie.Need-mul-same-name
-mul-same-name c = search needs
-
-add-same-name : tie.Need-add-same-name
-add-same-name c = search needs
-
-wide-requires-2 : tie.Need-wide-requires-2
-wide-requires-2 c κs = search needs
-
-mul-same-name-2 : tie.Need-mul-same-name-2
-mul-same-name-2 c = search needs
-
-add-same-name-2 : tie.Need-add-same-name-2
-add-same-name-2 c = search needs
-
-same-name-requires : tie.Need-same-name-requires
-same-name-requires c κs = search needs
-
 returns : tie.Need-returns
 returns c =
     let k = c .before .before .before .before .args in
     let p = comp-is (k .w .now) (k .c) in
     let q = comp-is (k .v .now) (k .d) in
-    one-answer (differ (placed (λ n. nameAt (k .w .now) (locsAt + n * 4)) (λ n. nameAt (k .v .now) (locsAt + n * 4)) (c .before .before .before .wide .ensures) (c .before .before .wide2 .ensures) (c .before .same-name .ensures)) (c .if1 .taken) (λ e. loc-is (sym p ∙ e ∙ q))) (equal-decides (means (k .w .now) (k .c)) (means (k .v .now) (k .d)))
-
-same-held-requires : tie.Need-same-held-requires
-same-held-requires c κs = search needs
+    one-answer (differ (placed (λ n. nameAt (k .w .now) (locsAt + n * nameSize)) (λ n. nameAt (k .v .now) (locsAt + n * nameSize)) (c .before .before .before .wide .ensures) (c .before .before .wide2 .ensures) (c .before .same-name .ensures)) (c .if1 .taken) (λ e. loc-is (sym p ∙ e ∙ q))) (equal-decides (means (k .w .now) (k .c)) (means (k .v .now) (k .d)))
 
 returns-2 : tie.Need-returns-2
 returns-2 c =
     let k = c .before .before .before .before .before .args in
     let p = comp-is (k .w .now) (k .c) in
     let q = comp-is (k .v .now) (k .d) in
-    let l = shown (placed (λ n. nameAt (k .w .now) (locsAt + n * 4)) (λ n. nameAt (k .v .now) (locsAt + n * 4)) (c .before .before .before .before .wide .ensures) (c .before .before .before .wide2 .ensures) (c .before .before .same-name .ensures)) (c .before .if1 .left) in
+    let l = shown (placed (λ n. nameAt (k .w .now) (locsAt + n * nameSize)) (λ n. nameAt (k .v .now) (locsAt + n * nameSize)) (c .before .before .before .before .wide .ensures) (c .before .before .before .wide2 .ensures) (c .before .before .same-name .ensures)) (c .before .if1 .left) in
     one-answer (carried (c .same-held .ensures) (λ e. p ∙ comp-same l e ∙ sym q) (λ e. held-is (sym p ∙ e ∙ q))) (equal-decides (means (k .w .now) (k .c)) (means (k .v .now) (k .d)))
 
 pub same-comp-spec : {M : Type 1} → statement M
 same-comp-spec =
     tie.close
     (tie.spec
-    wide-requires
-    mul-same-name
-    add-same-name
-    wide-requires-2
-    mul-same-name-2
-    add-same-name-2
-    same-name-requires
+    (λ c κs. search needs)
+    (λ c. search needs)
+    (λ c. search needs)
+    (λ c κs. search needs)
+    (λ c. search needs)
+    (λ c. search needs)
+    (λ c κs. search needs)
     returns
-    same-held-requires
+    (λ c κs. search needs)
     returns-2)

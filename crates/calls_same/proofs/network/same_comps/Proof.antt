@@ -92,13 +92,14 @@ each-less c = omega (arith, c .before .before .before .before .before .before .b
 
 each-again : tie.Need-each-again Inv-loop μ-loop Inv-each μ-each
 each-again c =
-    let s = c .before .before .before .before .before .before .before .before .before .before in
+    let past = c .before .before .before .before in
+    let s = past .before .before .before .before .before .before in
     let k = s .args in
-    let e = c .before .before .before .before .before .before .before .before .each in
-    let l = c .before .before .before .before .before .loop in
+    let e = past .before .before .before .before .each in
+    let l = past .before .loop in
     let left : Left (k .w .now) (k .v .now) (one s) (two s) (l .used) (l .k) = rw (l .inv .0, l .inv .1) (e .inv .2) in
-    let found = rw (c .before .before .before .before .before .before .comp-at .ensures, c .before .before .comp-at2 .ensures) at (sym (c .before .same-comp .ensures) ∙ c .if3 .taken) in
-    (omega (arith, c .before .before .before .before .before .before .before .each-test .taken, l .inv .1), e .inv .1, step (k .w .now) (k .v .now) (one s) (two s) (e .inv .1) (few-other s) (l .used) (l .k) left (l .p) (omega (arith, c .before .before .before .before .before .before .before .each-test .taken, l .inv .1)) (c .before .before .before .before .loop-test .taken) (free (c .before .before .before .if2 .taken)) (rw (l .inv .1) found) (rw (l .inv .1, ← c .before .before .before .before .before .before .comp-at .ensures) (l .inv .3)))
+    let found = rw (past .before .before .comp-at .ensures, c .before .before .comp-at2 .ensures) at (sym (c .before .same-comp .ensures) ∙ c .if3 .taken) in
+    (omega (arith, past .before .before .before .each-test .taken, l .inv .1), e .inv .1, step (k .w .now) (k .v .now) (one s) (two s) (e .inv .1) (few-other s) (l .used) (l .k) left (l .p) (omega (arith, past .before .before .before .each-test .taken, l .inv .1)) (past .loop-test .taken) (free (c .before .before .before .if2 .taken)) (rw (l .inv .1) found) (rw (l .inv .1, ← past .before .before .comp-at .ensures) (l .inv .3)))
 
 add-p : tie.Need-add-p Inv-loop μ-loop Inv-each μ-each
 add-p c = omega (arith, c .before .loop-test .taken, few (c .before .before .before .before .before .before .before))

@@ -57,18 +57,12 @@ add-same-name-2 c =
     let k = c .args in
     let h = few (k .v .now) (k .e) (c .pre .2) (c .pre .3) in omega arith
 
-same-name-requires : tie.Need-same-name-requires
-same-name-requires c κs = search needs
-
 returns : tie.Need-returns
 returns c =
     let k = c .before .before .args in
     let p = def-is (k .w .now) (k .d) in
     let q = def-is (k .v .now) (k .e) in
     one-answer (differ (c .before .same-name .ensures) (c .if1 .taken) (λ z. name-is (sym p ∙ z ∙ q))) (defs-decide (defOf (k .w .now) (k .d)) (defOf (k .v .now) (k .e)))
-
-same-params-requires : tie.Need-same-params-requires
-same-params-requires c κs = search needs
 
 returns-2 : tie.Need-returns-2
 returns-2 c =
@@ -82,21 +76,16 @@ body-of-requires c κs =
     let k = c .before .before .before .before .args in
     few (k .w .now) (k .d) (c .before .before .before .before .pre .0) (c .before .before .before .before .pre .1)
 
-wide-requires : tie.Need-wide-requires
-wide-requires c κs = search needs
-
 body-of-requires-2 : tie.Need-body-of-requires-2
 body-of-requires-2 c κs =
     let k = c .before .before .before .before .before .before .before .args in
     few (k .v .now) (k .e) (c .before .before .before .before .before .before .before .pre .2) (c .before .before .before .before .before .before .before .pre .3)
 
-wide-requires-2 : tie.Need-wide-requires-2
-wide-requires-2 c κs = search needs
-
 same-process-requires : tie.Need-same-process-requires
 same-process-requires c κs =
-    let k = c .before .before .before .before .before .before .before .before .before .before .args in
-    rw (c .before .before .before .before .wide .ensures, c .before .wide2 .ensures, c .before .before .before .before .before .body-of .ensures, c .before .before .body-of2 .ensures) (body-place (k .w .now) (k .d) (c .before .before .before .before .before .before .before .before .before .before .pre .0) (c .before .before .before .before .before .before .before .before .before .before .pre .1), body-place (k .v .now) (k .e) (c .before .before .before .before .before .before .before .before .before .before .pre .2) (c .before .before .before .before .before .before .before .before .before .before .pre .3))
+    let past = c .before .before .before .before in
+    let k = past .before .before .before .before .before .before .args in
+    rw (past .wide .ensures, c .before .wide2 .ensures, past .before .body-of .ensures, c .before .before .body-of2 .ensures) (body-place (k .w .now) (k .d) (past .before .before .before .before .before .before .pre .0) (past .before .before .before .before .before .before .pre .1), body-place (k .v .now) (k .e) (past .before .before .before .before .before .before .pre .2) (past .before .before .before .before .before .before .pre .3))
 
 returns-3 : tie.Need-returns-3
 returns-3 c =
@@ -116,13 +105,13 @@ same-def-spec =
     add-same-name
     mul-same-name-2
     add-same-name-2
-    same-name-requires
+    (λ c κs. search needs)
     returns
-    same-params-requires
+    (λ c κs. search needs)
     returns-2
     body-of-requires
-    wide-requires
+    (λ c κs. search needs)
     body-of-requires-2
-    wide-requires-2
+    (λ c κs. search needs)
     same-process-requires
     returns-3)

@@ -7,7 +7,7 @@ use Rattle.terms.specs.Names.{Name}
 use Rattle.terms.specs.Terms.{Part, Process, Mark}
 use Rattle.terms.specs.Terms.Process.{one}
 use Rattle.terms.specs.Terms.Mark.{none, by}
-use Rattle.table.specs.Words.{locsAt, nameAt}
+use Rattle.table.specs.Words.{locsAt, nameAt, nameSize}
 use Rattle.text_write.specs.Values.{partSeen, processSeen}
 use Rattle.text_write.proofs.Networks.{comp-place}
 use Rattle.calls_same.proofs.Decided.{never, carried, differ, shown, placed}
@@ -35,52 +35,27 @@ returns c =
     let q = free-parted (k .v .now) (c .before .before .before .before .before .before .pre .2) (k .d) (c .before .before .before .before .before .before .pre .3) (c .if2 .taken) in
     never (λ e. owned (sym p ∙ e ∙ q))
 
-wide-requires : tie.Need-wide-requires
-wide-requires c κs = search needs
-
-mul-same-name : tie.Need-mul-same-name
-mul-same-name c = search needs
-
-add-same-name : tie.Need-add-same-name
-add-same-name c = search needs
-
-wide-requires-2 : tie.Need-wide-requires-2
-wide-requires-2 c κs = search needs
-
-mul-same-name-2 : tie.Need-mul-same-name-2
-mul-same-name-2 c = search needs
-
-add-same-name-2 : tie.Need-add-same-name-2
-add-same-name-2 c = search needs
-
-same-name-requires : tie.Need-same-name-requires
-same-name-requires c κs = search needs
-
 returns-2 : tie.Need-returns-2
 returns-2 c =
     let k = c .before .before .before .before .before .before .before .before .before .before .args in
     let p = marked-parted (k .w .now) (c .before .before .before .before .before .before .before .before .before .before .pre .0) (k .c) (c .before .before .before .before .before .before .before .before .before .before .pre .1) (c .before .before .before .before .before .before .if1 .taken) in
     let q = marked-parted (k .v .now) (c .before .before .before .before .before .before .before .before .before .before .pre .2) (k .d) (c .before .before .before .before .before .before .before .before .before .before .pre .3) (c .before .before .before .before .if2 .left) in
-    differ (placed (λ n. nameAt (k .w .now) (locsAt + n * 4)) (λ n. nameAt (k .v .now) (locsAt + n * 4)) (c .before .before .before .wide .ensures) (c .before .before .wide2 .ensures) (c .before .same-name .ensures)) (c .if3 .taken) (λ e. owner-is (sym p ∙ e ∙ q))
-
-wide-requires-3 : tie.Need-wide-requires-3
-wide-requires-3 c κs = search needs
-
-wide-requires-4 : tie.Need-wide-requires-4
-wide-requires-4 c κs = search needs
+    differ (placed (λ n. nameAt (k .w .now) (locsAt + n * nameSize)) (λ n. nameAt (k .v .now) (locsAt + n * nameSize)) (c .before .before .before .wide .ensures) (c .before .before .wide2 .ensures) (c .before .same-name .ensures)) (c .if3 .taken) (λ e. owner-is (sym p ∙ e ∙ q))
 
 same-process-requires : tie.Need-same-process-requires
 same-process-requires c κs =
-    let k = c .before .before .before .before .before .before .before .before .before .before .before .before .before .before .args in
-    rw (c .before .before .before .wide3 .ensures, c .before .wide4 .ensures) (comp-place (k .w .now) (c .before .before .before .before .before .before .before .before .before .before .before .before .before .before .pre .0) (k .c) (c .before .before .before .before .before .before .before .before .before .before .before .before .before .before .pre .1), comp-place (k .v .now) (c .before .before .before .before .before .before .before .before .before .before .before .before .before .before .pre .2) (k .d) (c .before .before .before .before .before .before .before .before .before .before .before .before .before .before .pre .3))
+    let past = c .before .before .before .before .before .before .before .before .before .before .before .before .before .before in
+    let k = past .args in
+    rw (c .before .before .before .wide3 .ensures, c .before .wide4 .ensures) (comp-place (k .w .now) (past .pre .0) (k .c) (past .pre .1), comp-place (k .v .now) (past .pre .2) (k .d) (past .pre .3))
 
 returns-3 : tie.Need-returns-3
 returns-3 c =
-    let k = c .before .before .before .before .before .before .before .before .before .before .before .before .before .before .before .args in
-    let p = marked-parted (k .w .now) (c .before .before .before .before .before .before .before .before .before .before .before .before .before .before .before .pre .0) (k .c) (c .before .before .before .before .before .before .before .before .before .before .before .before .before .before .before .pre .1) (c .before .before .before .before .before .before .before .before .before .before .before .if1 .taken) in
-    let q = marked-parted (k .v .now) (c .before .before .before .before .before .before .before .before .before .before .before .before .before .before .before .pre .2) (k .d) (c .before .before .before .before .before .before .before .before .before .before .before .before .before .before .before .pre .3) (c .before .before .before .before .before .before .before .before .before .if2 .left) in
-    let o = shown (placed (λ n. nameAt (k .w .now) (locsAt + n * 4)) (λ n. nameAt (k .v .now) (locsAt + n * 4)) (c .before .before .before .before .before .before .before .before .wide .ensures) (c .before .before .before .before .before .before .before .wide2 .ensures) (c .before .before .before .before .before .before .same-name .ensures)) (c .before .before .before .before .before .if3 .left) in
-    carried (placed (λ z. processSeen (k .w .now) z (k .c .vals)) (λ z. processSeen (k .v .now) z (k .d .vals)) (c .before .before .before .before .wide3 .ensures) (c .before .before .wide4 .ensures) (c .same-process .ensures))
+    let past = c .before .before .before .before in
+    let k = past .before .before .before .before .before .before .before .before .before .before .before .args in
+    let p = marked-parted (k .w .now) (past .before .before .before .before .before .before .before .before .before .before .before .pre .0) (k .c) (past .before .before .before .before .before .before .before .before .before .before .before .pre .1) (past .before .before .before .before .before .before .before .if1 .taken) in
+    let q = marked-parted (k .v .now) (past .before .before .before .before .before .before .before .before .before .before .before .pre .2) (k .d) (past .before .before .before .before .before .before .before .before .before .before .before .pre .3) (past .before .before .before .before .before .if2 .left) in
+    let o = shown (placed (λ n. nameAt (k .w .now) (locsAt + n * nameSize)) (λ n. nameAt (k .v .now) (locsAt + n * nameSize)) (past .before .before .before .before .wide .ensures) (past .before .before .before .wide2 .ensures) (past .before .before .same-name .ensures)) (past .before .if3 .left) in
+    carried (placed (λ z. processSeen (k .w .now) z (k .c .vals)) (λ z. processSeen (k .v .now) z (k .d .vals)) (past .wide3 .ensures) (c .before .before .wide4 .ensures) (c .same-process .ensures))
     (λ e. p ∙ owned-same o e ∙ sym q) (λ e. ap (λ z. z .1) (sym p ∙ e ∙ q))
 
 returns-4 : tie.Need-returns-4
@@ -90,16 +65,11 @@ returns-4 c =
     let q = marked-parted (k .v .now) (c .before .before .before .before .before .before .pre .2) (k .d) (c .before .before .before .before .before .before .pre .3) (c .if4 .taken) in
     never (λ e. owned (sym q ∙ sym e ∙ p))
 
-wide-requires-5 : tie.Need-wide-requires-5
-wide-requires-5 c κs = search needs
-
-wide-requires-6 : tie.Need-wide-requires-6
-wide-requires-6 c κs = search needs
-
 same-part-requires : tie.Need-same-part-requires
 same-part-requires c κs =
-    let k = c .before .before .before .before .before .before .before .before .before .before .args in
-    rw (c .before .before .before .wide5 .ensures, c .before .wide6 .ensures) (comp-place (k .w .now) (c .before .before .before .before .before .before .before .before .before .before .pre .0) (k .c) (c .before .before .before .before .before .before .before .before .before .before .pre .1), comp-place (k .v .now) (c .before .before .before .before .before .before .before .before .before .before .pre .2) (k .d) (c .before .before .before .before .before .before .before .before .before .before .pre .3))
+    let past = c .before .before .before .before .before .before .before .before .before .before in
+    let k = past .args in
+    rw (c .before .before .before .wide5 .ensures, c .before .wide6 .ensures) (comp-place (k .w .now) (past .pre .0) (k .c) (past .pre .1), comp-place (k .v .now) (past .pre .2) (k .d) (past .pre .3))
 
 returns-5 : tie.Need-returns-5
 returns-5 c =
@@ -114,20 +84,20 @@ same-held-spec =
     tie.close
     (tie.spec
     returns
-    wide-requires
-    mul-same-name
-    add-same-name
-    wide-requires-2
-    mul-same-name-2
-    add-same-name-2
-    same-name-requires
+    (λ c κs. search needs)
+    (λ c. search needs)
+    (λ c. search needs)
+    (λ c κs. search needs)
+    (λ c. search needs)
+    (λ c. search needs)
+    (λ c κs. search needs)
     returns-2
-    wide-requires-3
-    wide-requires-4
+    (λ c κs. search needs)
+    (λ c κs. search needs)
     same-process-requires
     returns-3
     returns-4
-    wide-requires-5
-    wide-requires-6
+    (λ c κs. search needs)
+    (λ c κs. search needs)
     same-part-requires
     returns-5)

@@ -4,7 +4,7 @@ use Prim.Native.Nat.{ℕ, _+_, _-_, _*_, _≤_, _<_}
 use native.Mathlib.Omega.{arith}
 use mathlib.Core.Path.{_≡_, sym, _∙_}
 use borrow.Author.Count.{below-more}
-use Rattle.table.specs.Words.{rowSize, nameAt, arityOf}
+use Rattle.table.specs.Words.{rowSize, nameAt, arityOf, firstParam, nameSize}
 use Rattle.table.proofs.Tests.{script-fine, def-fine}
 use Rattle.calls_same.proofs.Decided.{never, always, differ, shown}
 use Rattle.calls_same.proofs.Fronts.{params-same, params-at, params-long}
@@ -13,7 +13,7 @@ use Rattle.calls_same.proofs.network.same_params.Statement.{statement}
 use Rattle.calls_same.proofs.network.same_params.Tie as tie
 
 abbrev Inv-loop : tie.InvT-loop
-Inv-loop w d v e n k₀ k = (n ≤ 4) × (k ≤ n) × (arityOf w d ≡ n) × (arityOf v e ≡ n) × ((m : ℕ) → m < k → nameAt w (14 + d * rowSize + m * 4) ≡ nameAt v (14 + e * rowSize + m * 4))
+Inv-loop w d v e n k₀ k = (n ≤ 4) × (k ≤ n) × (arityOf w d ≡ n) × (arityOf v e ≡ n) × ((m : ℕ) → m < k → nameAt w (firstParam + d * rowSize + m * nameSize) ≡ nameAt v (firstParam + e * rowSize + m * nameSize))
 
 abbrev μ-loop : tie.MeasureT-loop
 μ-loop w d v e n k₀ k = n - k
@@ -21,19 +21,14 @@ abbrev μ-loop : tie.MeasureT-loop
 arity-of-requires : tie.Need-arity-of-requires Inv-loop μ-loop
 arity-of-requires c κs = omega (arith, script-fine (c .args .w .now) (c .pre .0) .defs, c .pre .1)
 
-wide-requires : tie.Need-wide-requires Inv-loop μ-loop
-wide-requires c κs = search needs
-
 arity-of-requires-2 : tie.Need-arity-of-requires-2 Inv-loop μ-loop
 arity-of-requires-2 c κs = omega (arith, script-fine (c .before .before .args .v .now) (c .before .before .pre .2) .defs, c .before .before .pre .3)
 
-wide-requires-2 : tie.Need-wide-requires-2 Inv-loop μ-loop
-wide-requires-2 c κs = search needs
-
 returns : tie.Need-returns Inv-loop μ-loop
 returns c =
-    let k = c .before .before .before .before .before .args in
-    never (λ f. c .if1 .taken (c .before .before .before .wide .ensures ∙ c .before .before .before .before .arity-of .ensures ∙ params-long (k .w .now) (k .d) (k .v .now) (k .e) (def-fine (k .w .now) (c .before .before .before .before .before .pre .0) (k .d) (c .before .before .before .before .before .pre .1) .few) (def-fine (k .v .now) (c .before .before .before .before .before .pre .2) (k .e) (c .before .before .before .before .before .pre .3) .few) f ∙ sym (c .before .before .arity-of2 .ensures) ∙ sym (c .before .wide2 .ensures)))
+    let past = c .before .before .before .before in
+    let k = past .before .args in
+    never (λ f. c .if1 .taken (c .before .before .before .wide .ensures ∙ past .arity-of .ensures ∙ params-long (k .w .now) (k .d) (k .v .now) (k .e) (def-fine (k .w .now) (past .before .pre .0) (k .d) (past .before .pre .1) .few) (def-fine (k .v .now) (past .before .pre .2) (k .e) (past .before .pre .3) .few) f ∙ sym (c .before .before .arity-of2 .ensures) ∙ sym (c .before .wide2 .ensures)))
 
 loop-holds : tie.Need-loop-holds Inv-loop μ-loop
 loop-holds c =
@@ -66,9 +61,6 @@ mul-same-name-4 c = omega (arith, script-fine (c .before .before .before .before
 add-same-name-4 : tie.Need-add-same-name-4 Inv-loop μ-loop
 add-same-name-4 c = omega (arith, script-fine (c .before .before .before .before .before .before .before .args .v .now) (c .before .before .before .before .before .before .before .pre .2) .defs, c .before .before .before .before .before .before .before .pre .3, c .before .loop .inv .0, c .before .loop .inv .1, c .loop-test .taken)
 
-same-name-requires : tie.Need-same-name-requires Inv-loop μ-loop
-same-name-requires c κs = search needs
-
 returns-2 : tie.Need-returns-2 Inv-loop μ-loop
 returns-2 c =
     let k = c .before .before .before .before .before .before .before .before .before .args in
@@ -99,9 +91,9 @@ same-params-spec =
     Inv-loop
     μ-loop
     arity-of-requires
-    wide-requires
+    (λ c κs. search needs)
     arity-of-requires-2
-    wide-requires-2
+    (λ c κs. search needs)
     returns
     loop-holds
     mul-same-name
@@ -112,7 +104,7 @@ same-params-spec =
     add-same-name-3
     mul-same-name-4
     add-same-name-4
-    same-name-requires
+    (λ c κs. search needs)
     returns-2
     add-k
     loop-less

@@ -9,15 +9,6 @@ use borrow.Author.Needs.{needs}
 use Rattle.calls_same.proofs.parts.hide.Statement.{statement}
 use Rattle.calls_same.proofs.parts.hide.Tie as tie
 
-link-requires : tie.Need-link-requires
-link-requires c κs = search needs
-
-mul-vals : tie.Need-mul-vals
-mul-vals c = search needs
-
-element-write-vals : tie.Need-element-write-vals
-element-write-vals c = search needs
-
 returns : tie.Need-returns
 returns c = ap (λ n. set (c .before .before .args .vals .now) n 64) (c .before .link .ensures)
 
@@ -25,4 +16,4 @@ returns-2 : tie.Need-returns-2
 returns-2 c = sym (set-out (c .before .before .args .vals .now) (field (c .before .before .args .w .now) (c .before .before .args .i) 3) 64 (omega (arith, c .before .link .ensures, c .if1 .left)))
 
 pub hide-spec : {M : Type 1} → statement M
-hide-spec = tie.close (tie.spec link-requires mul-vals element-write-vals returns returns-2)
+hide-spec = tie.close (tie.spec (λ c κs. search needs) (λ c. search needs) (λ c. search needs) returns returns-2)

@@ -14,20 +14,11 @@ returns : tie.Need-returns
 unfolding resolved
 returns c = rw (lt-ltb (c .before .args .a) 64 (c .if1 .taken))
 
-wide-requires : tie.Need-wide-requires
-wide-requires c κs = search needs
-
 returns-2 : tie.Need-returns-2
 unfolding resolved
 returns-2 c =
     let h : 7 < c .before .before .before .args .a - 64 = omega (arith, c .before .wide .ensures) in
     rw (le-ltb (c .before .before .before .args .a) 64 (c .before .before .if1 .left), lt-ltb 7 (c .before .before .before .args .a - 64) h)
-
-mul-x : tie.Need-mul-x
-mul-x c = search needs
-
-element-copy-out-x : tie.Need-element-copy-out-x
-element-copy-out-x c = search needs
 
 returns-3 : tie.Need-returns-3
 unfolding resolved
@@ -48,4 +39,4 @@ returns-4 c =
 pub resolve-spec : {M : Type 1} → statement M
 resolve-spec =
     tie.close
-    (tie.spec returns wide-requires returns-2 mul-x element-copy-out-x returns-3 returns-4)
+    (tie.spec returns (λ c κs. search needs) returns-2 (λ c. search needs) (λ c. search needs) returns-3 returns-4)

@@ -4,7 +4,7 @@ use Prim.Native.Nat.{ℕ, _+_, _-_, _≤_, _<_}
 use native.Mathlib.Omega.{arith}
 use mathlib.Core.Path.{_≡_}
 use borrow.Author.Count.{below-more}
-use Rattle.table.specs.Words.{field}
+use Rattle.table.specs.Words.{field, argField}
 use Rattle.text_write.specs.Values.{valueSeen}
 use Rattle.text_write.proofs.Heads.{place-small}
 use Rattle.calls_same.proofs.Decided.{always, differ, shown, placed}
@@ -13,7 +13,7 @@ use Rattle.calls_same.proofs.parts.same_args.Statement.{statement}
 use Rattle.calls_same.proofs.parts.same_args.Tie as tie
 
 abbrev Inv-loop : tie.InvT-loop
-Inv-loop w i vals v j vals2 n k₀ k = (k ≤ n) × ((m : ℕ) → m < k → valueSeen w i vals (field w i (17 + m)) ≡ valueSeen v j vals2 (field v j (17 + m)))
+Inv-loop w i vals v j vals2 n k₀ k = (k ≤ n) × ((m : ℕ) → m < k → valueSeen w i vals (field w i (argField + m)) ≡ valueSeen v j vals2 (field v j (argField + m)))
 
 abbrev μ-loop : tie.MeasureT-loop
 μ-loop w i vals v j vals2 n k₀ k = n - k

@@ -7,7 +7,7 @@ use mathlib.Core.Path.{_≡_, sym, _∙_}
 use Rattle.terms.specs.Names.{Name}
 use Rattle.terms.specs.Terms.{Value}
 use Rattle.terms.specs.Terms.Part.{call}
-use Rattle.table.specs.Words.{rowSize, nameAt, defName, field}
+use Rattle.table.specs.Words.{rowSize, nameAt, defName, field, idsAt, valueField}
 use Rattle.text_write.proofs.Heads.{place-small}
 use Rattle.calls_same.specs.Pieces.{argsSeen, callSeen}
 use Rattle.calls_same.proofs.Decided.{never, carried, differ, shown, placed}
@@ -43,44 +43,20 @@ returns c =
 field-requires-3 : tie.Need-field-requires-3
 field-requires-3 c κs = (place-small (c .before .before .before .pre .0 .0), omega arith)
 
-wide-requires : tie.Need-wide-requires
-wide-requires c κs = search needs
-
-mul-o : tie.Need-mul-o
-mul-o c = search needs
-
-add-o : tie.Need-add-o
-add-o c = search needs
-
 field-requires-4 : tie.Need-field-requires-4
 field-requires-4 c κs = (place-small (c .before .before .before .before .before .pre .0 .1), omega arith)
-
-wide-requires-2 : tie.Need-wide-requires-2
-wide-requires-2 c κs = search needs
-
-mul-p : tie.Need-mul-p
-mul-p c = search needs
-
-add-p : tie.Need-add-p
-add-p c = search needs
-
-same-name-requires : tie.Need-same-name-requires
-same-name-requires c κs = search needs
 
 returns-2 : tie.Need-returns-2
 unfolding callSeen defName
 returns-2 c =
     let k = c .before .before .before .before .before .before .before .before .before .args in
-    differ (placed (λ n. nameAt (k .w .now) (10 + n * rowSize)) (λ n. nameAt (k .v .now) (10 + n * rowSize)) (c .before .before .before .before .wide .ensures ∙ c .before .before .before .before .before .field3 .ensures) (c .before .before .wide2 .ensures ∙ c .before .before .before .field4 .ensures) (c .before .same-name .ensures)) (c .if2 .taken) name-is
-
-wide-requires-3 : tie.Need-wide-requires-3
-wide-requires-3 c κs = search needs
+    differ (placed (λ n. nameAt (k .w .now) (idsAt + n * rowSize)) (λ n. nameAt (k .v .now) (idsAt + n * rowSize)) (c .before .before .before .before .wide .ensures ∙ c .before .before .before .before .before .field3 .ensures) (c .before .before .wide2 .ensures ∙ c .before .before .before .field4 .ensures) (c .before .same-name .ensures)) (c .if2 .taken) name-is
 
 same-args-requires : tie.Need-same-args-requires
 same-args-requires c κs =
     let k = c .before .before .before .before .before .before .before .before .before .before .args in
     let n = c .wide3 .ensures ∙ c .before .before .before .before .before .before .before .before .before .field .ensures in
-    let m : field (k .v .now) (k .j) 3 ≡ c .wide3 .result = sym (c .before .before .before .before .before .before .before .before .field2 .ensures) ∙ sym (c .before .before .before .before .before .before .before .if1 .left) ∙ sym (c .wide3 .ensures) in
+    let m : field (k .v .now) (k .j) valueField ≡ c .wide3 .result = sym (c .before .before .before .before .before .before .before .before .field2 .ensures) ∙ sym (c .before .before .before .before .before .before .before .if1 .left) ∙ sym (c .wide3 .ensures) in
     let p = call-args (k .w .now) (k .i) (k .vals .now) (c .before .before .before .before .before .before .before .before .before .before .pre .0 .0) (c .before .before .before .before .before .before .before .before .before .before .pre .1 .0) in
     let q = call-args (k .v .now) (k .j) (k .vals2 .now) (c .before .before .before .before .before .before .before .before .before .before .pre .0 .1) (c .before .before .before .before .before .before .before .before .before .before .pre .1 .1) in
     (c .before .before .before .before .before .before .before .before .before .before .pre .0, (omega (arith, n, p .0), rw n (p .1), rw m at (q .1)))
@@ -88,9 +64,10 @@ same-args-requires c κs =
 returns-3 : tie.Need-returns-3
 unfolding callSeen defName
 returns-3 c =
-    let k = c .before .before .before .before .before .before .before .before .before .before .before .args in
-    let d = placed (λ n. nameAt (k .w .now) (10 + n * rowSize)) (λ n. nameAt (k .v .now) (10 + n * rowSize)) (c .before .before .before .before .before .before .wide .ensures ∙ c .before .before .before .before .before .before .before .field3 .ensures) (c .before .before .before .before .wide2 .ensures ∙ c .before .before .before .before .before .field4 .ensures) (c .before .before .before .same-name .ensures) in
-    carried (placed (argsSeen (k .w .now) (k .i) (k .vals .now)) (argsSeen (k .v .now) (k .j) (k .vals2 .now)) (c .before .wide3 .ensures ∙ c .before .before .before .before .before .before .before .before .before .before .field .ensures) (c .before .wide3 .ensures ∙ c .before .before .before .before .before .before .before .before .if1 .left ∙ c .before .before .before .before .before .before .before .before .before .field2 .ensures) (c .same-args .ensures))
+    let past = c .before .before .before .before in
+    let k = past .before .before .before .before .before .before .before .args in
+    let d = placed (λ n. nameAt (k .w .now) (idsAt + n * rowSize)) (λ n. nameAt (k .v .now) (idsAt + n * rowSize)) (past .before .before .wide .ensures ∙ past .before .before .before .field3 .ensures) (past .wide2 .ensures ∙ past .before .field4 .ensures) (c .before .before .before .same-name .ensures) in
+    carried (placed (argsSeen (k .w .now) (k .i) (k .vals .now)) (argsSeen (k .v .now) (k .j) (k .vals2 .now)) (c .before .wide3 .ensures ∙ past .before .before .before .before .before .before .field .ensures) (c .before .wide3 .ensures ∙ past .before .before .before .before .if1 .left ∙ past .before .before .before .before .before .field2 .ensures) (c .same-args .ensures))
     (λ e. call-same (shown d (c .before .before .if2 .left)) e) args-are
 
 pub same-call-spec : {M : Type 1} → statement M
@@ -101,15 +78,15 @@ same-call-spec =
     field-requires-2
     returns
     field-requires-3
-    wide-requires
-    mul-o
-    add-o
+    (λ c κs. search needs)
+    (λ c. search needs)
+    (λ c. search needs)
     field-requires-4
-    wide-requires-2
-    mul-p
-    add-p
-    same-name-requires
+    (λ c κs. search needs)
+    (λ c. search needs)
+    (λ c. search needs)
+    (λ c κs. search needs)
     returns-2
-    wide-requires-3
+    (λ c κs. search needs)
     same-args-requires
     returns-3)

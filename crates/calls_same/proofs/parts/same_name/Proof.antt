@@ -8,16 +8,10 @@ use borrow.Author.Needs.{needs}
 use Rattle.calls_same.proofs.parts.same_name.Statement.{statement}
 use Rattle.calls_same.proofs.parts.same_name.Tie as tie
 
-key-at-requires : tie.Need-key-at-requires
-key-at-requires c κs = search needs
-
-is-named-requires : tie.Need-is-named-requires
-is-named-requires c κs = search needs
-
 returns : tie.Need-returns
 returns c =
     let k = c .before .before .args in
     flipped (told (c .is-named .ensures ∙ ap (sameName (nameAt (k .v .now) (k .p))) (c .before .key-at .ensures)) (names-decide (nameAt (k .v .now) (k .p)) (nameAt (k .w .now) (k .o))))
 
 pub same-name-spec : {M : Type 1} → statement M
-same-name-spec = tie.close (tie.spec key-at-requires is-named-requires returns)
+same-name-spec = tie.close (tie.spec (λ c κs. search needs) (λ c κs. search needs) returns)

@@ -65,9 +65,6 @@ returns-2 c =
 same-channel-requires : tie.Need-same-channel-requires
 same-channel-requires c κs = (place-small (c .before .before .before .before .before .before .pre .0), place-small (c .before .before .before .before .before .before .pre .1))
 
-same-timer-requires : tie.Need-same-timer-requires
-same-timer-requires c κs = search needs
-
 returns-3 : tie.Need-returns-3
 returns-3 c =
     let k = c .before .before .before .before .before .before .args in
@@ -96,9 +93,6 @@ mul-same-name-2 c = let h = place-small (c .before .before .before .before .befo
 
 add-same-name-2 : tie.Need-add-same-name-2
 add-same-name-2 c = let h = place-small (c .before .before .before .before .before .before .before .before .pre .1) in omega arith
-
-same-name-requires : tie.Need-same-name-requires
-same-name-requires c κs = search needs
 
 same-call-requires : tie.Need-same-call-requires
 same-call-requires c κs = (c .before .before .before .before .pre, (sym (c .before .before .before .field .ensures) ∙ c .match .keys4, sym (c .before .before .field2 .ensures) ∙ sym (c .before .if1 .left) ∙ c .match .keys4))
@@ -156,7 +150,7 @@ same-open-spec =
     same-timed-requires-2
     returns-2
     same-channel-requires
-    same-timer-requires
+    (λ c κs. search needs)
     returns-3
     same-channel-requires-2
     returns-4
@@ -164,7 +158,7 @@ same-open-spec =
     add-same-name
     mul-same-name-2
     add-same-name-2
-    same-name-requires
+    (λ c κs. search needs)
     same-call-requires
     returns-5
     returns-6

@@ -8,9 +8,6 @@ use borrow.Author.Needs.{needs}
 use Rattle.calls_same.proofs.parts.same_part.Statement.{statement}
 use Rattle.calls_same.proofs.parts.same_part.Tie as tie
 
-same-open-requires : tie.Need-same-open-requires
-same-open-requires c κs = search needs
-
 returns : tie.Need-returns
 returns c = differ (c .before .same-open .ensures) (c .if1 .taken) (λ e. ap opening e)
 
@@ -25,4 +22,4 @@ returns-2 c =
     carried (c .same-inner .ensures) (λ e. both-pieces (shown (c .before .before .same-open .ensures) (c .before .if1 .left)) (p ∙ e ∙ sym q)) (λ e. sym p ∙ ap inner e ∙ q)
 
 pub same-part-spec : {M : Type 1} → statement M
-same-part-spec = tie.close (tie.spec same-open-requires returns same-inner-requires returns-2)
+same-part-spec = tie.close (tie.spec (λ c κs. search needs) returns same-inner-requires returns-2)

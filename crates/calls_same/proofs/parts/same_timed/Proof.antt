@@ -21,9 +21,6 @@ value-is e = cc
 go-same : {t u : Timer} {x y : Value} → t ≡ u → x ≡ y → go t x halt ≡ go u y halt
 go-same p q = cc
 
-same-timer-requires : tie.Need-same-timer-requires
-same-timer-requires c κs = search needs
-
 returns : tie.Need-returns
 unfolding goSeen
 returns c = differ (c .before .same-timer .ensures) (c .if1 .taken) timer-is
@@ -49,7 +46,7 @@ pub same-timed-spec : {M : Type 1} → statement M
 same-timed-spec =
     tie.close
     (tie.spec
-    same-timer-requires
+    (λ c κs. search needs)
     returns
     field-requires
     field-requires-2

@@ -10,25 +10,13 @@ use borrow.Author.Needs.{needs}
 use Rattle.calls_step.proofs.step.step_valid.Statement.{statement}
 use Rattle.calls_step.proofs.step.step_valid.Tie as tie
 
-word-requires : tie.Need-word-requires
-word-requires c κs = search needs
-
-refuse-requires : tie.Need-refuse-requires
-refuse-requires c κs = search needs
-
 returns : tie.Need-returns
 returns c =
     let a = c .before .before .before .args in
     rw (step-out (a .w .now) (record { c = a .c .now; n = a .n }) (a .l) (length (a .records .now)) (omega (arith, c .before .before .word .ensures))) (c .refuse .ensures, refl, refl)
 
-sized-requires : tie.Need-sized-requires
-sized-requires c κs = search needs
-
 sweep-requires : tie.Need-sweep-requires
 sweep-requires c κs = (c .before .before .before .before .before .before .before .pre, c .before .before .before .sized .ensures, search needs)
-
-put-back-requires : tie.Need-put-back-requires
-put-back-requires c κs = search needs
 
 returns-2 : tie.Need-returns-2
 returns-2 c =
@@ -44,9 +32,6 @@ pass-all-requires c κs =
     let h : a .l < locsIn (a .w .now) = omega (arith, c .before .before .before .before .before .before .before .before .before .word .ensures) in
     (swept-good (a .w .now) (record { c = a .c .now; n = a .n }) (a .l) v _ _ _ (c .before .before .sweep .ensures) h, c .before .before .sweep .ensures .slotted)
 
-put-back-requires-2 : tie.Need-put-back-requires-2
-put-back-requires-2 c κs = search needs
-
 returns-3 : tie.Need-returns-3
 returns-3 c =
     let a = c .before .before .before .before .before .before .before .before .before .before .before .before .before .before .before .args in
@@ -61,9 +46,6 @@ put-records-requires c κs =
     let s = c .before .before .before .before .before .before .sweep .ensures in
     (s .room, omega (arith, s .few, few-comps (a .w .now) (record { c = a .c .now; n = a .n }) v), omega arith)
 
-same-length : tie.Need-same-length
-same-length c = search needs
-
 returns-4 : tie.Need-returns-4
 returns-4 c =
     let a = c .before .before .before .before .before .before .before .before .before .before .before .before .before .before .before .before .args in
@@ -77,16 +59,16 @@ pub step-valid-spec : {M : Type 1} → statement M
 step-valid-spec =
     tie.close
     (tie.spec
-    word-requires
-    refuse-requires
+    (λ c κs. search needs)
+    (λ c κs. search needs)
     returns
-    sized-requires
+    (λ c κs. search needs)
     sweep-requires
-    put-back-requires
+    (λ c κs. search needs)
     returns-2
     pass-all-requires
-    put-back-requires-2
+    (λ c κs. search needs)
     returns-3
     put-records-requires
-    same-length
+    (λ c. search needs)
     returns-4)

@@ -7,26 +7,17 @@ use borrow.Author.Needs.{needs}
 use Rattle.calls_step.proofs.sweep.kind_at.Statement.{statement}
 use Rattle.calls_step.proofs.sweep.kind_at.Tie as tie
 
-ready-at-requires : tie.Need-ready-at-requires
-ready-at-requires c κs = search needs
-
-wide-requires : tie.Need-wide-requires
-wide-requires c κs = search needs
-
 head-at-requires : tie.Need-head-at-requires
 head-at-requires c κs =
     let a = c .before .before .before .args in
     let q = c .before .before .before .pre in
     rw (c .wide .ensures) (place-fits (a .w .now) (a .c) (q .0) (q .1))
 
-kind-by-requires : tie.Need-kind-by-requires
-kind-by-requires c κs = search needs
-
 returns : tie.Need-returns
 unfolding kindAt
 returns c =
     let a = c .before .before .before .before .before .args in
-    rw (sym (c .before .before .before .before .ready-at .ensures) ∙ c .before .before .before .if1 .taken) (c .kind-by .ensures ∙ ap (kindBy (a .x) (a .c .timer)) (c .before .head-at .ensures ∙ ap (headAt (a .w .now)) (c .before .before .wide .ensures)))
+    rw (sym (c .before .before .before .before .ready-at .ensures) ∙ c .before .before .before .if1 .taken) (c .kind-by .ensures ∙ ap (kindBy (a .x) (a .c)) (c .before .head-at .ensures ∙ ap (headAt (a .w .now)) (c .before .before .wide .ensures)))
 
 returns-2 : tie.Need-returns-2
 unfolding kindAt
@@ -35,4 +26,4 @@ returns-2 c = rw (sym (c .before .ready-at .ensures) ∙ c .if1 .left)
 pub kind-at-spec : {M : Type 1} → statement M
 kind-at-spec =
     tie.close
-    (tie.spec ready-at-requires wide-requires head-at-requires kind-by-requires returns returns-2)
+    (tie.spec (λ c κs. search needs) (λ c κs. search needs) head-at-requires (λ c κs. search needs) returns returns-2)

@@ -5,12 +5,6 @@ use borrow.Author.Needs.{needs}
 use Rattle.calls_step.proofs.sweep.link_to.Statement.{statement}
 use Rattle.calls_step.proofs.sweep.link_to.Tie as tie
 
-add-result : tie.Need-add-result
-add-result c = search needs
-
-cast-result : tie.Need-cast-result
-cast-result c = search needs
-
 returns : tie.Need-returns
 returns c = simp (lt-ltb _ _ (c .if1 .taken)) (add-one _)
 
@@ -18,4 +12,4 @@ returns-2 : tie.Need-returns-2
 returns-2 c = simp (le-ltb _ _ (c .if1 .left))
 
 pub link-to-spec : {M : Type 1} → statement M
-link-to-spec = tie.close (tie.spec add-result cast-result returns returns-2)
+link-to-spec = tie.close (tie.spec (λ c. search needs) (λ c. search needs) returns returns-2)

@@ -5,17 +5,8 @@ use borrow.Author.Needs.{needs}
 use Rattle.calls_step.proofs.sweep.other_of.Statement.{statement}
 use Rattle.calls_step.proofs.sweep.other_of.Tie as tie
 
-returns : tie.Need-returns
-returns c = search needs
-
-sub-wide : tie.Need-sub-wide
-sub-wide c = search needs
-
-wide-requires : tie.Need-wide-requires
-wide-requires c κs = search needs
-
 returns-2 : tie.Need-returns-2
 returns-2 c = c .wide .ensures ∙ other-some _ _ (c .before .if1 .left)
 
 pub other-of-spec : {M : Type 1} → statement M
-other-of-spec = tie.close (tie.spec returns sub-wide wide-requires returns-2)
+other-of-spec = tie.close (tie.spec (λ c. search needs) (λ c. search needs) (λ c κs. search needs) returns-2)

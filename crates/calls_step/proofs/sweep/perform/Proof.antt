@@ -6,24 +6,15 @@ use borrow.Author.Needs.{needs}
 use Rattle.calls_step.proofs.sweep.perform.Statement.{statement}
 use Rattle.calls_step.proofs.sweep.perform.Tie as tie
 
-fire-call-requires : tie.Need-fire-call-requires
-fire-call-requires c κs = search needs
-
 returns : tie.Need-returns
 returns c =
     let k = c .before .before .if1 .taken in
     record { slots-x = search needs; slots-y = search needs; none = λ z. absurd (omega (arith, z, k)); call = λ z. (c .before .fire-call .result, c .before .fire-call .ensures, refl, refl); move = λ z. absurd (omega (arith, z, k)); pair = λ z. absurd (omega (arith, z, k)) }
 
-fire-move-requires : tie.Need-fire-move-requires
-fire-move-requires c κs = search needs
-
 returns-2 : tie.Need-returns-2
 returns-2 c =
     let k = c .before .before .if2 .taken in
     record { slots-x = search needs; slots-y = search needs; none = λ z. absurd (omega (arith, z, k)); call = λ z. absurd (omega (arith, z, k)); move = λ z. (c .before .fire-move .result, c .before .fire-move .ensures, refl, refl); pair = λ z. absurd (omega (arith, z, k)) }
-
-fire-pair-requires : tie.Need-fire-pair-requires
-fire-pair-requires c κs = search needs
 
 returns-3 : tie.Need-returns-3
 returns-3 c =
@@ -41,10 +32,10 @@ pub perform-spec : {M : Type 1} → statement M
 perform-spec =
     tie.close
     (tie.spec
-    fire-call-requires
+    (λ c κs. search needs)
     returns
-    fire-move-requires
+    (λ c κs. search needs)
     returns-2
-    fire-pair-requires
+    (λ c κs. search needs)
     returns-3
     returns-4)

@@ -4,11 +4,8 @@ use borrow.Author.Needs.{needs}
 use Rattle.calls_step.proofs.sweep.popped_of.Statement.{statement}
 use Rattle.calls_step.proofs.sweep.popped_of.Tie as tie
 
-returns : tie.Need-returns
-returns c = search needs
-
 returns-2 : tie.Need-returns-2
 returns-2 c = popped-some _ _ (c .if1 .left)
 
 pub popped-of-spec : {M : Type 1} → statement M
-popped-of-spec = tie.close (tie.spec returns returns-2)
+popped-of-spec = tie.close (tie.spec (λ c. search needs) returns-2)

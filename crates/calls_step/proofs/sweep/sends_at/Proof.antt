@@ -1,26 +1,18 @@
 -- `sends_at` meets its contract: who is not ready has no channel.
 use mathlib.Core.Path.{sym, ap, _∙_}
 use Rattle.table.specs.Words.{headAt}
-use Rattle.calls_step.specs.Visit.{sentOn, sendsAt}
+use Rattle.table.specs.Fire.{sentOn}
+use Rattle.calls_step.specs.Visit.{sendsAt}
 use Rattle.calls_act.proofs.Heads.{place-fits}
 use borrow.Author.Needs.{needs}
 use Rattle.calls_step.proofs.sweep.sends_at.Statement.{statement}
 use Rattle.calls_step.proofs.sweep.sends_at.Tie as tie
-
-ready-at-requires : tie.Need-ready-at-requires
-ready-at-requires c κs = search needs
-
-wide-requires : tie.Need-wide-requires
-wide-requires c κs = search needs
 
 head-at-requires : tie.Need-head-at-requires
 head-at-requires c κs =
     let a = c .before .before .before .args in
     let q = c .before .before .before .pre in
     rw (c .wide .ensures) (place-fits (a .w .now) (a .c) (q .0) (q .1))
-
-sent-on-requires : tie.Need-sent-on-requires
-sent-on-requires c κs = search needs
 
 returns : tie.Need-returns
 unfolding sendsAt
@@ -35,4 +27,4 @@ returns-2 c = rw (sym (c .before .ready-at .ensures) ∙ c .if1 .left)
 pub sends-at-spec : {M : Type 1} → statement M
 sends-at-spec =
     tie.close
-    (tie.spec ready-at-requires wide-requires head-at-requires sent-on-requires returns returns-2)
+    (tie.spec (λ c κs. search needs) (λ c κs. search needs) head-at-requires (λ c κs. search needs) returns returns-2)

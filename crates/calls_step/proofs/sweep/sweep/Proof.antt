@@ -71,9 +71,6 @@ hears-at-requires c κs =
     let st : State = record { c = a .c .now; n = a .n } in
     (valid-parts (a .w .now) st v .0, rw (c .comp-at .ensures) (comp-good (a .w .now) st v (c .before .before .before .loop .j - 1) (omega (arith, c .before .before .before .loop .inv .0))))
 
-wide-requires : tie.Need-wide-requires Inv-loop μ-loop Inv-loop2 μ-loop2
-wide-requires c κs = search needs
-
 mul-old : tie.Need-mul-old Inv-loop μ-loop Inv-loop2 μ-loop2
 mul-old c =
     let a = c .before .before .before .before .before .before .args in
@@ -126,16 +123,17 @@ loop-less c = omega arith
 
 loop-again : tie.Need-loop-again Inv-loop μ-loop Inv-loop2 μ-loop2
 loop-again c =
-    let a = c .before .before .before .before .before .before .before .before .args in
-    let v = c .before .before .before .before .before .before .before .before .pre .0 in
+    let past = c .before .before .before .before in
+    let a = past .before .before .before .before .args in
+    let v = past .before .before .before .before .pre .0 in
     let st : State = record { c = a .c .now; n = a .n } in
-    let j = c .before .before .before .before .before .before .before .loop .j in
-    let o = c .before .before .before .before .before .before .before .loop .queue in
+    let j = past .before .before .before .loop .j in
+    let o = past .before .before .before .loop .queue in
     let n = few-comps (a .w .now) st v in
     let z : j ≡ suc (j - 1) = omega arith in
-    let b : j - 1 < a .n = omega (arith, c .before .before .before .before .before .before .before .loop .inv .0) in
+    let b : j - 1 < a .n = omega (arith, past .before .before .before .loop .inv .0) in
     let g = valid-parts (a .w .now) st v .0 in
-    (omega (arith, c .before .before .before .before .before .before .before .loop .inv .0), rw (c .link-to .ensures, c .before .before .wide .ensures, c .before .before .before .hears-at .ensures, c .before .before .before .before .comp-at .ensures) (queue-turn (a .w .now) (a .l) st (j - 1) (o .heads) (o .nexts) g (comp-good (a .w .now) st v (j - 1) b) b n (subst (λ m. Queued (a .w .now) (a .l) m (drop m (compsOf st)) (o .heads) (o .nexts)) z (c .before .before .before .before .before .before .before .loop .inv .1))))
+    (omega (arith, past .before .before .before .loop .inv .0), rw (c .link-to .ensures, c .before .before .wide .ensures, c .before .before .before .hears-at .ensures, past .comp-at .ensures) (queue-turn (a .w .now) (a .l) st (j - 1) (o .heads) (o .nexts) g (comp-good (a .w .now) st v (j - 1) b) b n (subst (λ m. Queued (a .w .now) (a .l) m (drop m (compsOf st)) (o .heads) (o .nexts)) z (past .before .before .before .loop .inv .1))))
 
 loop2-holds : tie.Need-loop2-holds Inv-loop μ-loop Inv-loop2 μ-loop2
 loop2-holds c =
@@ -151,9 +149,6 @@ comp-at-requires-2 c κs = omega (arith, few (c .before), below (c .before))
 
 sends-at-requires : tie.Need-sends-at-requires Inv-loop μ-loop Inv-loop2 μ-loop2
 sends-at-requires c κs = (script (c .before .before), rw (c .comp-at2 .ensures) (fine (c .before .before) _ (below (c .before .before))))
-
-wide-requires-2 : tie.Need-wide-requires-2 Inv-loop μ-loop Inv-loop2 μ-loop2
-wide-requires-2 c κs = search needs
 
 mul-x : tie.Need-mul-x Inv-loop μ-loop Inv-loop2 μ-loop2
 mul-x c = omega (arith, c .wide2 .ensures, rw (c .before .before .comp-at2 .ensures) at (c .before .sends-at .ensures), channel (c .before .before .before .before))
@@ -175,61 +170,70 @@ loop2-again c =
     let e = rw (c .before .before .before .wide2 .ensures, c .before .before .before .before .sends-at .ensures, c .before .before .before .before .before .comp-at2 .ensures) at (sym (c .before .kind-at .ensures) ∙ c .if1 .taken) in
     going-idle _ (script (c .before .before .before .before .before .before .before)) _ _ _ _ _ _ _ _ (few (c .before .before .before .before .before .before .before)) (c .before .before .before .before .before .before .before .before .loop2 .inv) (below (c .before .before .before .before .before .before .before)) e
 
-other-of-requires : tie.Need-other-of-requires Inv-loop μ-loop Inv-loop2 μ-loop2
-other-of-requires c κs = search needs
-
 comp-at-requires-3 : tie.Need-comp-at-requires-3 Inv-loop μ-loop Inv-loop2 μ-loop2
 comp-at-requires-3 c κs =
     let z = rw (c .before .before .before .before .before .wide2 .ensures, c .before .before .before .before .before .before .sends-at .ensures, c .before .before .before .before .before .before .before .comp-at2 .ensures) at (c .before .other-of .ensures) in
     omega (arith, z, other (c .before .before .before .before .before .before .before .before .before), few (c .before .before .before .before .before .before .before .before .before))
 
 perform-requires : tie.Need-perform-requires Inv-loop μ-loop Inv-loop2 μ-loop2
-perform-requires c κs = (
-  script (c .before .before .before .before .before .before .before .before .before .before),
-  rw (c .before .before .before .before .before .before .before .before .comp-at2 .ensures) (fine (c .before .before .before .before .before .before .before .before .before .before) _ (below (c .before .before .before .before .before .before .before .before .before .before))),
-  rw (c .comp-at3 .ensures, c .before .before .other-of .ensures, c .before .before .before .before .before .before .wide2 .ensures, c .before .before .before .before .before .before .before .sends-at .ensures, c .before .before .before .before .before .before .before .before .comp-at2 .ensures) (fine (c .before .before .before .before .before .before .before .before .before .before) _ (other (c .before .before .before .before .before .before .before .before .before .before))),
-)
+perform-requires c κs =
+    let past = c .before .before .before .before .before .before in (
+      script (past .before .before .before .before),
+      rw (past .before .before .comp-at2 .ensures) (fine (past .before .before .before .before) _ (below (past .before .before .before .before))),
+      rw (c .comp-at3 .ensures, c .before .before .other-of .ensures, past .wide2 .ensures, past .before .sends-at .ensures, past .before .before .comp-at2 .ensures) (fine (past .before .before .before .before) _ (other (past .before .before .before .before))),
+    )
 
 put-comp-requires : tie.Need-put-comp-requires Inv-loop μ-loop Inv-loop2 μ-loop2
 put-comp-requires c κs = omega (arith, few (c .before .before .before .before .before .before .before .before .before .before .before .before .before .before), below (c .before .before .before .before .before .before .before .before .before .before .before .before .before .before))
 
 put-comp-requires-2 : tie.Need-put-comp-requires-2 Inv-loop μ-loop Inv-loop2 μ-loop2
 put-comp-requires-2 c κs =
-    let z = rw (c .before .before .before .before .before .before .before .before .before .before .before .before .wide2 .ensures, c .before .before .before .before .before .before .before .before .before .before .before .before .before .sends-at .ensures, c .before .before .before .before .before .before .before .before .before .before .before .before .before .before .comp-at2 .ensures) at (c .before .before .before .before .before .before .before .before .other-of .ensures) in
-    omega (arith, z, other (c .before .before .before .before .before .before .before .before .before .before .before .before .before .before .before .before), few (c .before .before .before .before .before .before .before .before .before .before .before .before .before .before .before .before))
+    let past = c .before .before .before .before .before .before .before .before in
+    let z = rw (past .before .before .before .before .wide2 .ensures, past .before .before .before .before .before .sends-at .ensures, past .before .before .before .before .before .before .comp-at2 .ensures) at (past .other-of .ensures) in
+    omega (arith, z, other (past .before .before .before .before .before .before .before .before), few (past .before .before .before .before .before .before .before .before))
 
 rec-by-requires : tie.Need-rec-by-requires Inv-loop μ-loop Inv-loop2 μ-loop2
 rec-by-requires c κs =
-    let z = rw (c .before .before .before .before .before .before .before .before .before .before .before .before .before .wide2 .ensures, c .before .before .before .before .before .before .before .before .before .before .before .before .before .before .sends-at .ensures, c .before .before .before .before .before .before .before .before .before .before .before .before .before .before .before .comp-at2 .ensures) at (c .before .before .before .before .before .before .before .before .before .other-of .ensures) in
-    (omega (arith, few (c .before .before .before .before .before .before .before .before .before .before .before .before .before .before .before .before .before), below (c .before .before .before .before .before .before .before .before .before .before .before .before .before .before .before .before .before)), omega (arith, z, other (c .before .before .before .before .before .before .before .before .before .before .before .before .before .before .before .before .before), few (c .before .before .before .before .before .before .before .before .before .before .before .before .before .before .before .before .before)))
+    let past = c .before .before .before .before .before .before .before .before .before in
+    let z = rw (past .before .before .before .before .wide2 .ensures, past .before .before .before .before .before .sends-at .ensures, past .before .before .before .before .before .before .comp-at2 .ensures) at (past .other-of .ensures) in
+    (omega (arith, few (past .before .before .before .before .before .before .before .before), below (past .before .before .before .before .before .before .before .before)), omega (arith, z, other (past .before .before .before .before .before .before .before .before), few (past .before .before .before .before .before .before .before .before)))
 
 mul-r : tie.Need-mul-r Inv-loop μ-loop Inv-loop2 μ-loop2
-mul-r c = omega (arith, few (c .before .before .before .before .before .before .before .before .before .before .before .before .before .before .before .before .before .before), below (c .before .before .before .before .before .before .before .before .before .before .before .before .before .before .before .before .before .before), c .before .before .before .before .before .before .before .before .before .before .before .before .before .before .before .before .before .before .before .loop2 .inv .few-count, c .before .before .before .before .before .before .before .before .before .before .before .before .before .before .before .before .before .before .before .loop2 .inv .room)
+mul-r c =
+    let past = c .before .before .before .before .before .before .before .before .before .before .before .before .before .before .before .before .before .before in
+    omega (arith, few (past), below (past), past .before .loop2 .inv .few-count, past .before .loop2 .inv .room)
 
 element-set-from-r : tie.Need-element-set-from-r Inv-loop μ-loop Inv-loop2 μ-loop2
-element-set-from-r c = omega (arith, few (c .before .before .before .before .before .before .before .before .before .before .before .before .before .before .before .before .before .before), below (c .before .before .before .before .before .before .before .before .before .before .before .before .before .before .before .before .before .before), c .before .before .before .before .before .before .before .before .before .before .before .before .before .before .before .before .before .before .before .loop2 .inv .few-count, c .before .before .before .before .before .before .before .before .before .before .before .before .before .before .before .before .before .before .before .loop2 .inv .room)
+element-set-from-r c =
+    let past = c .before .before .before .before .before .before .before .before .before .before .before .before .before .before .before .before .before .before in
+    omega (arith, few (past), below (past), past .before .loop2 .inv .few-count, past .before .loop2 .inv .room)
 
 add-count : tie.Need-add-count Inv-loop μ-loop Inv-loop2 μ-loop2
-add-count c = omega (arith, few (c .before .before .before .before .before .before .before .before .before .before .before .before .before .before .before .before .before .before), below (c .before .before .before .before .before .before .before .before .before .before .before .before .before .before .before .before .before .before), c .before .before .before .before .before .before .before .before .before .before .before .before .before .before .before .before .before .before .before .loop2 .inv .few-count, c .before .before .before .before .before .before .before .before .before .before .before .before .before .before .before .before .before .before .before .loop2 .inv .room)
+add-count c =
+    let past = c .before .before .before .before .before .before .before .before .before .before .before .before .before .before .before .before .before .before in
+    omega (arith, few (past), below (past), past .before .loop2 .inv .few-count, past .before .loop2 .inv .room)
 
 mul-nx : tie.Need-mul-nx Inv-loop μ-loop Inv-loop2 μ-loop2
 mul-nx c =
-    let z = rw (c .before .before .before .before .before .before .before .before .before .before .before .before .before .before .wide2 .ensures, c .before .before .before .before .before .before .before .before .before .before .before .before .before .before .before .sends-at .ensures, c .before .before .before .before .before .before .before .before .before .before .before .before .before .before .before .before .comp-at2 .ensures) at (c .before .before .before .before .before .before .before .before .before .before .other-of .ensures) in
-    omega (arith, z, other (c .before .before .before .before .before .before .before .before .before .before .before .before .before .before .before .before .before .before), few (c .before .before .before .before .before .before .before .before .before .before .before .before .before .before .before .before .before .before))
+    let past = c .before .before .before .before .before .before .before .before .before .before in
+    let z = rw (past .before .before .before .before .wide2 .ensures, past .before .before .before .before .before .sends-at .ensures, past .before .before .before .before .before .before .comp-at2 .ensures) at (past .other-of .ensures) in
+    omega (arith, z, other (past .before .before .before .before .before .before .before .before), few (past .before .before .before .before .before .before .before .before))
 
 element-copy-out-nx : tie.Need-element-copy-out-nx Inv-loop μ-loop Inv-loop2 μ-loop2
 element-copy-out-nx c =
-    let z = rw (c .before .before .before .before .before .before .before .before .before .before .before .before .before .before .wide2 .ensures, c .before .before .before .before .before .before .before .before .before .before .before .before .before .before .before .sends-at .ensures, c .before .before .before .before .before .before .before .before .before .before .before .before .before .before .before .before .comp-at2 .ensures) at (c .before .before .before .before .before .before .before .before .before .before .other-of .ensures) in
-    omega (arith, z, other (c .before .before .before .before .before .before .before .before .before .before .before .before .before .before .before .before .before .before), few (c .before .before .before .before .before .before .before .before .before .before .before .before .before .before .before .before .before .before))
-
-popped-of-requires : tie.Need-popped-of-requires Inv-loop μ-loop Inv-loop2 μ-loop2
-popped-of-requires c κs = search needs
+    let past = c .before .before .before .before .before .before .before .before .before .before in
+    let z = rw (past .before .before .before .before .wide2 .ensures, past .before .before .before .before .before .sends-at .ensures, past .before .before .before .before .before .before .comp-at2 .ensures) at (past .other-of .ensures) in
+    omega (arith, z, other (past .before .before .before .before .before .before .before .before), few (past .before .before .before .before .before .before .before .before))
 
 mul-queue-3 : tie.Need-mul-queue-3 Inv-loop μ-loop Inv-loop2 μ-loop2
-mul-queue-3 c = omega (arith, c .before .before .before .before .before .before .before .before .before .before .before .before .before .before .before .before .wide2 .ensures, rw (c .before .before .before .before .before .before .before .before .before .before .before .before .before .before .before .before .before .before .comp-at2 .ensures) at (c .before .before .before .before .before .before .before .before .before .before .before .before .before .before .before .before .before .sends-at .ensures), channel (c .before .before .before .before .before .before .before .before .before .before .before .before .before .before .before .before .before .before .before .before))
+mul-queue-3 c =
+    let past = c .before .before .before .before .before .before .before .before .before .before .before .before .before .before .before .before in
+    omega (arith, past .wide2 .ensures, rw (past .before .before .comp-at2 .ensures) at (past .before .sends-at .ensures), channel (past .before .before .before .before))
 
 element-write-queue-3 : tie.Need-element-write-queue-3 Inv-loop μ-loop Inv-loop2 μ-loop2
-element-write-queue-3 c = omega (arith, c .before .before .before .before .before .before .before .before .before .before .before .before .before .before .before .before .wide2 .ensures, rw (c .before .before .before .before .before .before .before .before .before .before .before .before .before .before .before .before .before .before .comp-at2 .ensures) at (c .before .before .before .before .before .before .before .before .before .before .before .before .before .before .before .before .before .sends-at .ensures), channel (c .before .before .before .before .before .before .before .before .before .before .before .before .before .before .before .before .before .before .before .before))
+element-write-queue-3 c =
+    let past = c .before .before .before .before .before .before .before .before .before .before .before .before .before .before .before .before in
+    omega (arith, past .wide2 .ensures, rw (past .before .before .comp-at2 .ensures) at (past .before .sends-at .ensures), channel (past .before .before .before .before))
 
 add-p-2 : tie.Need-add-p-2 Inv-loop μ-loop Inv-loop2 μ-loop2
 add-p-2 c = omega (arith, few (c .before .before .before .before .before .before .before .before .before .before .before .before .before .before .before .before .before .before .before .before), below (c .before .before .before .before .before .before .before .before .before .before .before .before .before .before .before .before .before .before .before .before))
@@ -239,10 +243,12 @@ loop2-less-2 c = omega (arith, below (c .before .before .before .before .before 
 
 loop2-again-2 : tie.Need-loop2-again-2 Inv-loop μ-loop Inv-loop2 μ-loop2
 loop2-again-2 c =
-    let f = rw (c .before .before .before .before .before .before .before .before .before .before .before .before .before .before .kind-at .ensures, c .before .before .before .before .before .before .before .before .before .before .comp-at3 .ensures, c .before .before .before .before .before .before .before .before .before .before .before .before .other-of .ensures, c .before .before .before .before .before .before .before .before .before .before .before .before .before .before .before .before .wide2 .ensures, c .before .before .before .before .before .before .before .before .before .before .before .before .before .before .before .before .before .sends-at .ensures, c .before .before .before .before .before .before .before .before .before .before .before .before .before .before .before .before .before .before .comp-at2 .ensures) at (c .before .before .before .before .before .before .before .before .before .perform .ensures) in
-    let e = rw (c .before .before .before .before .before .before .before .before .before .before .before .before .before .before .before .before .wide2 .ensures, c .before .before .before .before .before .before .before .before .before .before .before .before .before .before .before .before .before .sends-at .ensures, c .before .before .before .before .before .before .before .before .before .before .before .before .before .before .before .before .before .before .comp-at2 .ensures) at (c .before .before .before .before .before .before .before .before .before .before .before .before .before .before .kind-at .ensures) in
-    rw (c .popped-of .ensures, c .before .before .rec-by .ensures, c .before .before .before .put-comp2 .ensures, c .before .before .before .before .before .put-comp .ensures, c .before .before .before .before .before .before .before .before .before .before .before .before .before .before .kind-at .ensures, c .before .before .before .before .before .before .before .before .before .before .before .before .other-of .ensures, c .before .before .before .before .before .before .before .before .before .before .before .before .before .before .before .before .wide2 .ensures, c .before .before .before .before .before .before .before .before .before .before .before .before .before .before .before .before .before .sends-at .ensures, c .before .before .before .before .before .before .before .before .before .before .before .before .before .before .before .before .before .before .comp-at2 .ensures)
-    (going-fires _ (script (c .before .before .before .before .before .before .before .before .before .before .before .before .before .before .before .before .before .before .before .before)) _ _ _ _ _ _ _ _ (few (c .before .before .before .before .before .before .before .before .before .before .before .before .before .before .before .before .before .before .before .before)) (c .before .before .before .before .before .before .before .before .before .before .before .before .before .before .before .before .before .before .before .before .before .loop2 .inv) (below (c .before .before .before .before .before .before .before .before .before .before .before .before .before .before .before .before .before .before .before .before)) (c .before .before .before .before .before .before .before .before .before .perform .result) f (λ z. c .before .before .before .before .before .before .before .before .before .before .before .before .before .if1 .left (e ∙ z)))
+    let past = c .before .before .before .before .before in
+    let far = past .before .before .before .before in
+    let f = rw (far .before .before .before .before .before .kind-at .ensures, far .before .comp-at3 .ensures, far .before .before .before .other-of .ensures, far .before .before .before .before .before .before .before .wide2 .ensures, far .before .before .before .before .before .before .before .before .sends-at .ensures, far .before .before .before .before .before .before .before .before .before .comp-at2 .ensures) at (far .perform .ensures) in
+    let e = rw (far .before .before .before .before .before .before .before .wide2 .ensures, far .before .before .before .before .before .before .before .before .sends-at .ensures, far .before .before .before .before .before .before .before .before .before .comp-at2 .ensures) at (far .before .before .before .before .before .kind-at .ensures) in
+    rw (c .popped-of .ensures, c .before .before .rec-by .ensures, c .before .before .before .put-comp2 .ensures, past .put-comp .ensures, far .before .before .before .before .before .kind-at .ensures, far .before .before .before .other-of .ensures, far .before .before .before .before .before .before .before .wide2 .ensures, far .before .before .before .before .before .before .before .before .sends-at .ensures, far .before .before .before .before .before .before .before .before .before .comp-at2 .ensures)
+    (going-fires _ (script (far .before .before .before .before .before .before .before .before .before .before .before)) _ _ _ _ _ _ _ _ (few (far .before .before .before .before .before .before .before .before .before .before .before)) (far .before .before .before .before .before .before .before .before .before .before .before .before .loop2 .inv) (below (far .before .before .before .before .before .before .before .before .before .before .before)) (far .perform .result) f (λ z. far .before .before .before .before .if1 .left (e ∙ z)))
 
 returns : tie.Need-returns Inv-loop μ-loop Inv-loop2 μ-loop2
 returns c =
@@ -265,7 +271,7 @@ sweep-spec =
     sub-i
     comp-at-requires
     hears-at-requires
-    wide-requires
+    (λ c κs. search needs)
     mul-old
     element-copy-out-old
     mul-queue
@@ -278,14 +284,14 @@ sweep-spec =
     loop2-holds
     comp-at-requires-2
     sends-at-requires
-    wide-requires-2
+    (λ c κs. search needs)
     mul-x
     element-copy-out-x
     kind-at-requires
     add-p
     loop2-less
     loop2-again
-    other-of-requires
+    (λ c κs. search needs)
     comp-at-requires-3
     perform-requires
     put-comp-requires
@@ -296,7 +302,7 @@ sweep-spec =
     add-count
     mul-nx
     element-copy-out-nx
-    popped-of-requires
+    (λ c κs. search needs)
     mul-queue-3
     element-write-queue-3
     add-p-2

@@ -42,14 +42,15 @@ pressed-by-requires c κs =
 returns : tie.Need-returns Inv-loop μ-loop
 unfolding forcedAt
 returns c =
-    let a = c .before .before .before .before .before .before .before .args in
-    let v = c .before .before .before .before .before .before .before .pre in
+    let past = c .before .before .before .before in
+    let a = past .before .before .before .args in
+    let v = past .before .before .before .pre in
     let st : State = record { c = a .c .now; n = a .n } in
-    let j = c .before .before .before .before .before .loop .j in
-    let h : j < a .n = c .before .before .before .before .loop-test .taken in
+    let j = past .before .loop .j in
+    let h : j < a .n = past .loop-test .taken in
     let e = c .before .before .before .comp-at .ensures ∙ sym (in-use st noComp j h) in
     let g = rw (sym (in-use st noComp j h)) at (comp-good (a .w .now) st v j h) in
-    let p = sym (pressed-is (a .w .now) (a .l) (compsOf st) (c .before .before .before .before .before .before .heard-at .result) (getD (compsOf st) j noComp) (valid-parts (a .w .now) st v .0) g (c .before .before .before .before .before .before .heard-at .ensures)) ∙ ap (pressedBy (a .w .now) (a .l) (c .before .before .before .before .before .before .heard-at .result)) (sym e) ∙ sym (c .before .pressed-by .ensures) ∙ c .if1 .taken in
+    let p = sym (pressed-is (a .w .now) (a .l) (compsOf st) (past .before .before .heard-at .result) (getD (compsOf st) j noComp) (valid-parts (a .w .now) st v .0) g (past .before .before .heard-at .ensures)) ∙ ap (pressedBy (a .w .now) (a .l) (past .before .before .heard-at .result)) (sym e) ∙ sym (c .before .pressed-by .ensures) ∙ c .if1 .taken in
     sym (ap (some _) (sym (take-all (a .n) (compsOf st) (omega (arith, comps-length st)))) ∙ some-getD _ (compsOf st) (a .n) j noComp h (omega (arith, comps-length st)) p)
 
 add-j : tie.Need-add-j Inv-loop μ-loop
@@ -60,15 +61,16 @@ loop-less c = omega arith
 
 loop-again : tie.Need-loop-again Inv-loop μ-loop
 loop-again c =
-    let a = c .before .before .before .before .before .before .before .args in
-    let v = c .before .before .before .before .before .before .before .pre in
+    let past = c .before .before .before .before in
+    let a = past .before .before .before .args in
+    let v = past .before .before .before .pre in
     let st : State = record { c = a .c .now; n = a .n } in
-    let j = c .before .before .before .before .before .loop .j in
-    let h : j < a .n = c .before .before .before .before .loop-test .taken in
+    let j = past .before .loop .j in
+    let h : j < a .n = past .loop-test .taken in
     let e = c .before .before .before .comp-at .ensures ∙ sym (in-use st noComp j h) in
     let g = rw (sym (in-use st noComp j h)) at (comp-good (a .w .now) st v j h) in
-    let p = sym (pressed-is (a .w .now) (a .l) (compsOf st) (c .before .before .before .before .before .before .heard-at .result) (getD (compsOf st) j noComp) (valid-parts (a .w .now) st v .0) g (c .before .before .before .before .before .before .heard-at .ensures)) ∙ ap (pressedBy (a .w .now) (a .l) (c .before .before .before .before .before .before .heard-at .result)) (sym e) ∙ sym (c .before .pressed-by .ensures) ∙ c .if1 .left in
-    (omega arith, quiet-more (a .w .now) (a .l) (compsOf st) (compsOf st) j noComp (omega (arith, comps-length st)) (c .before .before .before .before .before .loop .inv .1) p)
+    let p = sym (pressed-is (a .w .now) (a .l) (compsOf st) (past .before .before .heard-at .result) (getD (compsOf st) j noComp) (valid-parts (a .w .now) st v .0) g (past .before .before .heard-at .ensures)) ∙ ap (pressedBy (a .w .now) (a .l) (past .before .before .heard-at .result)) (sym e) ∙ sym (c .before .pressed-by .ensures) ∙ c .if1 .left in
+    (omega arith, quiet-more (a .w .now) (a .l) (compsOf st) (compsOf st) j noComp (omega (arith, comps-length st)) (past .before .loop .inv .1) p)
 
 returns-2 : tie.Need-returns-2 Inv-loop μ-loop
 unfolding forcedAt

@@ -34,15 +34,6 @@ hears-at-requires c κs =
     let st : State = record { c = a .c .now; n = a .n } in
     (valid-parts (a .w .now) st v .0, rw (c .comp-at .ensures) (comp-good (a .w .now) st v (c .before .before .loop .j) (c .before .loop-test .taken)))
 
-wide-requires : tie.Need-wide-requires Inv-loop μ-loop
-wide-requires c κs = search needs
-
-mul-out : tie.Need-mul-out Inv-loop μ-loop
-mul-out c = search needs
-
-array-write-out : tie.Need-array-write-out Inv-loop μ-loop
-array-write-out c = search needs
-
 add-j : tie.Need-add-j Inv-loop μ-loop
 add-j c = omega arith
 
@@ -80,9 +71,9 @@ heard-at-spec =
     loop-holds
     comp-at-requires
     hears-at-requires
-    wide-requires
-    mul-out
-    array-write-out
+    (λ c κs. search needs)
+    (λ c. search needs)
+    (λ c. search needs)
     add-j
     loop-less
     loop-again

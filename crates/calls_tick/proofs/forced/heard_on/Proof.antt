@@ -5,20 +5,8 @@ use borrow.Author.Needs.{needs}
 use Rattle.calls_tick.proofs.forced.heard_on.Statement.{statement}
 use Rattle.calls_tick.proofs.forced.heard_on.Tie as tie
 
-enum-known-h : tie.Need-enum-known-h
-enum-known-h c = search needs
-
 enum-told : tie.Need-enum-told
 enum-told c = search needs
-
-enum-told-2 : tie.Need-enum-told-2
-enum-told-2 c = search needs
-
-enum-told-3 : tie.Need-enum-told-3
-enum-told-3 c = search needs
-
-enum-told-4 : tie.Need-enum-told-4
-enum-told-4 c = search needs
 
 returns : tie.Need-returns
 unfolding heardOn
@@ -44,11 +32,11 @@ pub heard-on-spec : {M : Type 1} → statement M
 heard-on-spec =
     tie.close
     (tie.spec
-    enum-known-h
+    (λ c. search needs)
     enum-told
-    enum-told-2
-    enum-told-3
-    enum-told-4
+    (λ c. search needs)
+    (λ c. search needs)
+    (λ c. search needs)
     returns
     returns-2
     returns-3

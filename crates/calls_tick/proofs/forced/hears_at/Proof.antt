@@ -7,20 +7,11 @@ use borrow.Author.Needs.{needs}
 use Rattle.calls_tick.proofs.forced.hears_at.Statement.{statement}
 use Rattle.calls_tick.proofs.forced.hears_at.Tie as tie
 
-ready-at-requires : tie.Need-ready-at-requires
-ready-at-requires c κs = search needs
-
-wide-requires : tie.Need-wide-requires
-wide-requires c κs = search needs
-
 head-at-requires : tie.Need-head-at-requires
 head-at-requires c κs =
     let a = c .before .before .before .args in
     let q = c .before .before .before .pre in
     rw (c .wide .ensures) (place-fits (a .w .now) (a .c) (q .0) (q .1))
-
-heard-on-requires : tie.Need-heard-on-requires
-heard-on-requires c κs = search needs
 
 returns : tie.Need-returns
 unfolding hearsAt
@@ -35,4 +26,4 @@ returns-2 c = rw (sym (c .before .ready-at .ensures) ∙ c .if1 .left)
 pub hears-at-spec : {M : Type 1} → statement M
 hears-at-spec =
     tie.close
-    (tie.spec ready-at-requires wide-requires head-at-requires heard-on-requires returns returns-2)
+    (tie.spec (λ c κs. search needs) (λ c κs. search needs) head-at-requires (λ c κs. search needs) returns returns-2)

@@ -7,17 +7,8 @@ use borrow.Author.Needs.{needs}
 use Rattle.calls_tick.proofs.forced.is_heard.Statement.{statement}
 use Rattle.calls_tick.proofs.forced.is_heard.Tie as tie
 
-mul-result : tie.Need-mul-result
-mul-result c = search needs
-
-shared-slice-read-result : tie.Need-shared-slice-read-result
-shared-slice-read-result c = search needs
-
-returns : tie.Need-returns
-returns c = search needs
-
 returns-2 : tie.Need-returns-2
 returns-2 c = ap (λ x. eqb x 1) (sym (List·getD-eq-default (c .before .args .ears .now) 0 (omega arith)))
 
 pub is-heard-spec : {M : Type 1} → statement M
-is-heard-spec = tie.close (tie.spec mul-result shared-slice-read-result returns returns-2)
+is-heard-spec = tie.close (tie.spec (λ c. search needs) (λ c. search needs) (λ c. search needs) returns-2)

@@ -18,15 +18,9 @@ returns : tie.Need-returns
 unfolding firstTurn
 returns c = rw (lt-ltb _ _ (c .before .before .before .if1 .taken), eq-eqb _ _ (c .before .if2 .taken)) (c .part-turn .ensures)
 
-whole-turn-requires : tie.Need-whole-turn-requires
-whole-turn-requires c κs = search needs
-
 returns-2 : tie.Need-returns-2
 unfolding firstTurn
 returns-2 c = rw (lt-ltb _ _ (c .before .before .before .if1 .taken), ne-eqb _ _ (c .before .if2 .left)) (c .whole-turn .ensures)
-
-wide-requires : tie.Need-wide-requires
-wide-requires c κs = search needs
 
 head-at-requires : tie.Need-head-at-requires
 head-at-requires c κs =
@@ -45,9 +39,6 @@ returns-3 c =
     let a = c .before .before .before .before .before .before .before .args in
     rw (le-ltb _ _ (c .before .before .before .before .before .if1 .left), eq-eqb _ _ (c .before .before .before .if3 .taken)) (c .wait-turn .ensures ∙ ap (waitTurn (a .w .now) (a .c)) (c .before .head-at .ensures ∙ ap (headAt (a .w .now)) (c .before .before .wide .ensures)))
 
-whole-turn-requires-2 : tie.Need-whole-turn-requires-2
-whole-turn-requires-2 c κs = search needs
-
 returns-4 : tie.Need-returns-4
 unfolding firstTurn
 returns-4 c = rw (le-ltb _ _ (c .before .before .before .if1 .left), ne-eqb _ _ (c .before .if3 .left)) (c .whole-turn2 .ensures)
@@ -58,11 +49,11 @@ first-turn-spec =
     (tie.spec
     part-turn-requires
     returns
-    whole-turn-requires
+    (λ c κs. search needs)
     returns-2
-    wide-requires
+    (λ c κs. search needs)
     head-at-requires
     wait-turn-requires
     returns-3
-    whole-turn-requires-2
+    (λ c κs. search needs)
     returns-4)

@@ -7,15 +7,6 @@ use borrow.Author.Needs.{needs}
 use Rattle.calls_tick.proofs.pass.part_turn.Statement.{statement}
 use Rattle.calls_tick.proofs.pass.part_turn.Tie as tie
 
-fresh-at-requires : tie.Need-fresh-at-requires
-fresh-at-requires c κs = search needs
-
-wide-requires : tie.Need-wide-requires
-wide-requires c κs = search needs
-
-next-at-requires : tie.Need-next-at-requires
-next-at-requires c κs = search needs
-
 returns : tie.Need-returns
 returns c =
     let e : nextAt (c .before .before .before .before .before .args .w .now) (c .before .before .before .before .before .args .place) ≡ 0 = sym (c .before .next-at .ensures ∙ ap (nextAt (c .before .before .before .before .before .args .w .now)) (c .before .before .wide .ensures)) ∙ c .if1 .taken in
@@ -28,4 +19,4 @@ returns-2 c =
 
 pub part-turn-spec : {M : Type 1} → statement M
 part-turn-spec =
-    tie.close (tie.spec fresh-at-requires wide-requires next-at-requires returns returns-2)
+    tie.close (tie.spec (λ c κs. search needs) (λ c κs. search needs) (λ c κs. search needs) returns returns-2)

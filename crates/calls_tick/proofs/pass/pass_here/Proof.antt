@@ -29,9 +29,6 @@ comp-at-requires c κs =
     let h = c .before .loop-test .taken in
     omega (arith, h, few-comps (a .w .now) (record { c = a .c .now; n = a .n }) v)
 
-touched-requires : tie.Need-touched-requires Inv-loop μ-loop
-touched-requires c κs = search needs
-
 add-i : tie.Need-add-i Inv-loop μ-loop
 add-i c =
     let a = c .before .before .before .before .before .before .args in
@@ -114,7 +111,7 @@ pass-here-spec =
     μ-loop
     loop-holds
     comp-at-requires
-    touched-requires
+    (λ c κs. search needs)
     add-i
     loop-less
     loop-again

@@ -4,15 +4,9 @@ use borrow.Author.Needs.{needs}
 use Rattle.calls_tick.proofs.pass.timed_turn.Statement.{statement}
 use Rattle.calls_tick.proofs.pass.timed_turn.Tie as tie
 
-less-one-requires : tie.Need-less-one-requires
-less-one-requires c κs = search needs
-
-whole-turn-requires : tie.Need-whole-turn-requires
-whole-turn-requires c κs = search needs
-
 returns : tie.Need-returns
 unfolding timed
 returns c = rw (c .whole-turn .ensures, c .before .before .less-one .ensures .1)
 
 pub timed-turn-spec : {M : Type 1} → statement M
-timed-turn-spec = tie.close (tie.spec less-one-requires whole-turn-requires returns)
+timed-turn-spec = tie.close (tie.spec (λ c κs. search needs) (λ c κs. search needs) returns)

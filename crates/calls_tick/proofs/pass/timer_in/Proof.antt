@@ -8,18 +8,6 @@ use Rattle.calls_tick.proofs.pass.timer_in.Tie as tie
 enum-told : tie.Need-enum-told
 enum-told c = search needs
 
-enum-known-h : tie.Need-enum-known-h
-enum-known-h c = search needs
-
-enum-known-h-2 : tie.Need-enum-known-h-2
-enum-known-h-2 c = search needs
-
-enum-known-h-3 : tie.Need-enum-known-h-3
-enum-known-h-3 c = search needs
-
-enum-told-2 : tie.Need-enum-told-2
-enum-told-2 c = search needs
-
 returns : tie.Need-returns
 unfolding timerIn
 returns c = sym (ap timerIn (c .enum-told .given .1))
@@ -45,10 +33,10 @@ timer-in-spec =
     tie.close
     (tie.spec
     enum-told
-    enum-known-h
-    enum-known-h-2
-    enum-known-h-3
-    enum-told-2
+    (λ c. search needs)
+    (λ c. search needs)
+    (λ c. search needs)
+    (λ c. search needs)
     returns
     returns-2
     returns-3

@@ -8,15 +8,9 @@ use borrow.Author.Needs.{needs}
 use Rattle.calls_tick.proofs.pass.turn.Statement.{statement}
 use Rattle.calls_tick.proofs.pass.turn.Tie as tie
 
-first-turn-requires : tie.Need-first-turn-requires
-first-turn-requires c κs = search needs
-
 returns : tie.Need-returns
 unfolding turnOf
 returns c = rw (c .before .if1 .taken) (c .first-turn .ensures)
-
-sub-part-turn : tie.Need-sub-part-turn
-sub-part-turn c = search needs
 
 part-turn-requires : tie.Need-part-turn-requires
 part-turn-requires c κs = omega (arith, c .before .pre .2, script-fine (c .before .args .w .now) (c .before .pre .0) .parts)
@@ -28,4 +22,4 @@ returns-2 c =
 
 pub turn-spec : {M : Type 1} → statement M
 turn-spec =
-    tie.close (tie.spec first-turn-requires returns sub-part-turn part-turn-requires returns-2)
+    tie.close (tie.spec (λ c κs. search needs) returns (λ c. search needs) part-turn-requires returns-2)

@@ -12,38 +12,17 @@ use Rattle.calls_tick.proofs.pass.wait_turn.Tie as tie
 enum-told : tie.Need-enum-told
 enum-told c = search needs
 
-whole-turn-requires : tie.Need-whole-turn-requires
-whole-turn-requires c κs = search needs
-
-enum-told-2 : tie.Need-enum-told-2
-enum-told-2 c = search needs
-
-timed-turn-requires : tie.Need-timed-turn-requires
-timed-turn-requires c κs = search needs
-
-enum-known-h : tie.Need-enum-known-h
-enum-known-h c = search needs
-
 else-turn-requires : tie.Need-else-turn-requires
 else-turn-requires c κs =
     let a = c .before .before .before .args in
     let h = c .before .h .given in
     omega (arith, out-fine (a .w .now) (a .c .place) (h .0 .0) (h .0 .1 .0) (h .0 .1 .1 .0) (h .0 .1 .1 .1 .0) (h .0 .1 .1 .1 .1 .0) (subst (λ z. headOk (a .w .now) (a .c .place) z ≡ true) (h .1) (c .before .before .before .pre .0)) .second .lesser, c .before .before .before .pre .1)
 
-enum-known-h-2 : tie.Need-enum-known-h-2
-enum-known-h-2 c = search needs
-
 else-turn-requires-2 : tie.Need-else-turn-requires-2
 else-turn-requires-2 c κs =
     let a = c .before .before .before .args in
     let h = c .before .h2 .given in
     omega (arith, in-fine (a .w .now) (a .c .place) (h .0 .0) (h .0 .1 .0) (h .0 .1 .1 .0) (h .0 .1 .1 .1 .0) (h .0 .1 .1 .1 .1 .0) (subst (λ z. headOk (a .w .now) (a .c .place) z ≡ true) (h .1) (c .before .before .before .pre .0)) .second .lesser, c .before .before .before .pre .1)
-
-enum-told-3 : tie.Need-enum-told-3
-enum-told-3 c = search needs
-
-whole-turn-requires-2 : tie.Need-whole-turn-requires-2
-whole-turn-requires-2 c κs = search needs
 
 returns : tie.Need-returns
 unfolding waitTurn
@@ -80,15 +59,15 @@ wait-turn-spec =
     tie.close
     (tie.spec
     enum-told
-    whole-turn-requires
-    enum-told-2
-    timed-turn-requires
-    enum-known-h
+    (λ c κs. search needs)
+    (λ c. search needs)
+    (λ c κs. search needs)
+    (λ c. search needs)
     else-turn-requires
-    enum-known-h-2
+    (λ c. search needs)
     else-turn-requires-2
-    enum-told-3
-    whole-turn-requires-2
+    (λ c. search needs)
+    (λ c κs. search needs)
     returns
     returns-2
     returns-3

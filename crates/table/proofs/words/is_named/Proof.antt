@@ -9,9 +9,6 @@ use Rattle.table.proofs.Names.{first-differs}
 use Rattle.table.proofs.words.is_named.Statement.{statement}
 use Rattle.table.proofs.words.is_named.Tie as tie
 
-word-requires : tie.Need-word-requires
-word-requires c κs = search needs
-
 returns : tie.Need-returns
 unfolding nameAt
 returns c =
@@ -20,15 +17,9 @@ returns c =
     let f : c .before .before .word .result < 4_294_967_296 = omega arith in
     sym (first-differs (word (k .w .now) (k .o)) _ _ _ (k .x .a) (k .x .b) (k .x .c) (k .x .d) (omega arith) (omega arith) (λ z. c .if1 .taken (e ∙ z)))
 
-key-at-requires : tie.Need-key-at-requires
-key-at-requires c κs = search needs
-
-same-key-requires : tie.Need-same-key-requires
-same-key-requires c κs = search needs
-
 returns-2 : tie.Need-returns-2
 returns-2 c = rw (c .same-key .ensures, c .before .key-at .ensures)
 
 pub is-named-spec : {M : Type 1} → statement M
 is-named-spec =
-    tie.close (tie.spec word-requires returns key-at-requires same-key-requires returns-2)
+    tie.close (tie.spec (λ c κs. search needs) returns (λ c κs. search needs) (λ c κs. search needs) returns-2)

@@ -5,12 +5,9 @@ use Rattle.table.specs.Words.{lowAt}
 use Rattle.table.proofs.words.low_at.Statement.{statement}
 use Rattle.table.proofs.words.low_at.Tie as tie
 
-field-requires : tie.Need-field-requires
-field-requires c κs = search needs
-
 returns : tie.Need-returns
 unfolding lowAt
 returns c = c .field .ensures
 
 pub low-at-spec : {M : Type 1} → statement M
-low-at-spec = tie.close (tie.spec field-requires returns)
+low-at-spec = tie.close (tie.spec (λ c κs. search needs) returns)

@@ -5,12 +5,9 @@ use Rattle.table.specs.Words.{nextAt}
 use Rattle.table.proofs.words.next_at.Statement.{statement}
 use Rattle.table.proofs.words.next_at.Tie as tie
 
-field-requires : tie.Need-field-requires
-field-requires c κs = search needs
-
 returns : tie.Need-returns
 unfolding nextAt
 returns c = c .field .ensures
 
 pub next-at-spec : {M : Type 1} → statement M
-next-at-spec = tie.close (tie.spec field-requires returns)
+next-at-spec = tie.close (tie.spec (λ c κs. search needs) returns)

@@ -11,15 +11,9 @@ eat-requires : tie.Need-eat-requires
 unfolding lexFrom classOf
 eat-requires c κs = λ l. refl
 
-name-at-requires : tie.Need-name-at-requires
-name-at-requires c κs = search needs
-
 eat-requires-2 : tie.Need-eat-requires-2
 unfolding lexFrom classOf
 eat-requires-2 c κs = λ l. refl
-
-pair-at-requires : tie.Need-pair-at-requires
-pair-at-requires c κs = search needs
 
 returns : tie.Need-returns
 returns c =
@@ -31,4 +25,4 @@ returns c =
 
 pub front-at-spec : {M : Type 1} → statement M
 front-at-spec =
-    tie.close (tie.spec eat-requires name-at-requires eat-requires-2 pair-at-requires returns)
+    tie.close (tie.spec eat-requires (λ c κs. search needs) eat-requires-2 (λ c κs. search needs) returns)

@@ -16,16 +16,10 @@ returns-2 c =
     let q : length (c .before .before .args .sc .at) ≡ 8 = search needs in
     marked-new _ _ _ _ (c .before .before .pre .1) (c .before .before .pre .0) q (c .before .if1 .left) (c .if2 .taken)
 
-element-write-w : tie.Need-element-write-w
-element-write-w c = search needs
-
-slot-requires : tie.Need-slot-requires
-slot-requires c κs = search needs
-
 returns-3 : tie.Need-returns-3
 returns-3 c =
     let q : length (c .before .before .before .before .args .sc .at) ≡ 8 = search needs in
     marked-full _ _ _ _ (c .before .before .before .before .pre .1) (c .before .before .before .before .pre .0) q (c .before .before .before .if1 .left) (c .before .before .if2 .left) _ (c .slot .ensures)
 
 pub noted-spec : {M : Type 1} → statement M
-noted-spec = tie.close (tie.spec returns returns-2 element-write-w slot-requires returns-3)
+noted-spec = tie.close (tie.spec returns returns-2 (λ c. search needs) (λ c κs. search needs) returns-3)

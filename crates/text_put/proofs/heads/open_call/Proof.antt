@@ -1,4 +1,5 @@
 -- The definition is looked up by the identifier, then the arguments are read; then the row.
+use Rattle.table.specs.Words.{idsAt, rowSize}
 use Prim.Native.Nat.{_-_}
 use native.Mathlib.Omega.{arith}
 use mathlib.Core.Path.{refl}
@@ -12,17 +13,11 @@ use Rattle.text_put.proofs.Fronts.{call-open}
 use Rattle.text_put.proofs.heads.open_call.Statement.{statement}
 use Rattle.text_put.proofs.heads.open_call.Tie as tie
 
-held-in-requires : tie.Need-held-in-requires
-held-in-requires c κs = search needs
-
 find-requires : tie.Need-find-requires
 unfolding heldIn
 find-requires c κs =
     let e = c .before .held-in .ensures in
     (omega arith, omega arith, omega arith)
-
-args-requires : tie.Need-args-requires
-args-requires c κs = search needs
 
 cast-put-row : tie.Need-cast-put-row
 unfolding heldIn
@@ -31,11 +26,8 @@ cast-put-row c =
     let n = c .before .before .before .before .before .before .held-in .result in
     let e = c .before .before .before .before .before .before .held-in .ensures in
     let h = c .before .before .before .before .find .ensures in
-    let l = length-listFrom (rowName (a .w .now) 10 24) 0 n in
-    omega (arith, index-within (listFrom 0 n (rowName (a .w .now) 10 24)) (keyName (a .x)))
-
-put-row-requires : tie.Need-put-row-requires
-put-row-requires c κs = search needs
+    let l = length-listFrom (rowName (a .w .now) idsAt rowSize) 0 n in
+    omega (arith, index-within (listFrom 0 n (rowName (a .w .now) idsAt rowSize)) (keyName (a .x)))
 
 returns : tie.Need-returns
 returns c = λ y d h. call-open _ _ _ _ _ (y .left) (c .before .before .before .before .before .before .before .before .before .before .args .i - 1) refl d (y .what) _ (c .before .before .before .args2 .ensures y) _ h (c .before .before .before .before .before .before .before .held-in .ensures) (c .before .before .before .before .before .find .ensures) (c .put-row .ensures)
@@ -43,4 +35,4 @@ returns c = λ y d h. call-open _ _ _ _ _ (y .left) (c .before .before .before .
 pub open-call-spec : {M : Type 1} → statement M
 open-call-spec =
     tie.close
-    (tie.spec held-in-requires find-requires args-requires cast-put-row put-row-requires returns)
+    (tie.spec (λ c κs. search needs) find-requires (λ c κs. search needs) cast-put-row (λ c κs. search needs) returns)

@@ -17,24 +17,6 @@ eat-requires : tie.Need-eat-requires
 unfolding lexFrom classOf
 eat-requires c κs = λ l. refl
 
-pair-at-requires : tie.Need-pair-at-requires
-pair-at-requires c κs = search needs
-
-value-in-requires : tie.Need-value-in-requires
-value-in-requires c κs = search needs
-
-less-one-requires : tie.Need-less-one-requires
-less-one-requires c κs = search needs
-
-cast-p : tie.Need-cast-p
-cast-p c = search needs
-
-no-key-requires : tie.Need-no-key-requires
-no-key-requires c κs = search needs
-
-put-row-requires : tie.Need-put-row-requires
-put-row-requires c κs = search needs
-
 returns : tie.Need-returns
 returns c =
     λ t v p us f g.
@@ -47,10 +29,10 @@ open-go-spec =
     tie.close
     (tie.spec
     eat-requires
-    pair-at-requires
-    value-in-requires
-    less-one-requires
-    cast-p
-    no-key-requires
-    put-row-requires
+    (λ c κs. search needs)
+    (λ c κs. search needs)
+    (λ c κs. search needs)
+    (λ c. search needs)
+    (λ c κs. search needs)
+    (λ c κs. search needs)
     returns)

@@ -5,27 +5,6 @@ use Rattle.text_put.proofs.Fronts.{chan-few, in-open}
 use Rattle.text_put.proofs.heads.open_in.Statement.{statement}
 use Rattle.text_put.proofs.heads.open_in.Tie as tie
 
-front-at-requires : tie.Need-front-at-requires
-front-at-requires c κs = search needs
-
-slot-requires : tie.Need-slot-requires
-slot-requires c κs = search needs
-
-entered-requires : tie.Need-entered-requires
-entered-requires c κs = search needs
-
-noted-requires : tie.Need-noted-requires
-noted-requires c κs = search needs
-
-number-requires : tie.Need-number-requires
-number-requires c κs = search needs
-
-less-one-requires : tie.Need-less-one-requires
-less-one-requires c κs = search needs
-
-cast-p : tie.Need-cast-p
-cast-p c = search needs
-
 cast-put-row : tie.Need-cast-put-row
 cast-put-row c = omega (arith, chan-few (c .before .before .number .ensures))
 
@@ -33,9 +12,6 @@ cast-put-row-2 : tie.Need-cast-put-row-2
 cast-put-row-2 c =
     let h = c .before .before .before .before .noted .ensures .few in
     omega arith
-
-put-row-requires : tie.Need-put-row-requires
-put-row-requires c κs = search needs
 
 returns : tie.Need-returns
 returns c =
@@ -47,14 +23,14 @@ pub open-in-spec : {M : Type 1} → statement M
 open-in-spec =
     tie.close
     (tie.spec
-    front-at-requires
-    slot-requires
-    entered-requires
-    noted-requires
-    number-requires
-    less-one-requires
-    cast-p
+    (λ c κs. search needs)
+    (λ c κs. search needs)
+    (λ c κs. search needs)
+    (λ c κs. search needs)
+    (λ c κs. search needs)
+    (λ c κs. search needs)
+    (λ c. search needs)
     cast-put-row
     cast-put-row-2
-    put-row-requires
+    (λ c κs. search needs)
     returns)

@@ -12,29 +12,8 @@ use Rattle.text_put.proofs.Fronts.{chan-few, out-open}
 use Rattle.text_put.proofs.heads.open_out.Statement.{statement}
 use Rattle.text_put.proofs.heads.open_out.Tie as tie
 
-front-at-requires : tie.Need-front-at-requires
-front-at-requires c κs = search needs
-
-number-requires : tie.Need-number-requires
-number-requires c κs = search needs
-
-value-in-requires : tie.Need-value-in-requires
-value-in-requires c κs = search needs
-
-less-one-requires : tie.Need-less-one-requires
-less-one-requires c κs = search needs
-
-cast-p : tie.Need-cast-p
-cast-p c = search needs
-
 cast-put-row : tie.Need-cast-put-row
 cast-put-row c = omega (arith, chan-few (c .before .before .before .before .number .ensures))
-
-no-key-requires : tie.Need-no-key-requires
-no-key-requires c κs = search needs
-
-put-row-requires : tie.Need-put-row-requires
-put-row-requires c κs = search needs
 
 returns : tie.Need-returns
 returns c =
@@ -46,12 +25,12 @@ pub open-out-spec : {M : Type 1} → statement M
 open-out-spec =
     tie.close
     (tie.spec
-    front-at-requires
-    number-requires
-    value-in-requires
-    less-one-requires
-    cast-p
+    (λ c κs. search needs)
+    (λ c κs. search needs)
+    (λ c κs. search needs)
+    (λ c κs. search needs)
+    (λ c. search needs)
     cast-put-row
-    no-key-requires
-    put-row-requires
+    (λ c κs. search needs)
+    (λ c κs. search needs)
     returns)

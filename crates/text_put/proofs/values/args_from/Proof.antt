@@ -19,17 +19,8 @@ abbrev μ-loop : tie.MeasureT-loop
 loop-holds : tie.Need-loop-holds Inv-loop μ-loop
 loop-holds c = λ x. going-first _ _ _ _ x
 
-name-at-requires : tie.Need-name-at-requires Inv-loop μ-loop
-name-at-requires c κs = search needs
-
 value-in-requires : tie.Need-value-in-requires Inv-loop μ-loop
 value-in-requires c κs = c .before .before .before .before .before .pre .0
-
-with-word-requires : tie.Need-with-word-requires Inv-loop μ-loop
-with-word-requires c κs = search needs
-
-one-more-requires : tie.Need-one-more-requires Inv-loop μ-loop
-one-more-requires c κs = search needs
 
 eat-requires : tie.Need-eat-requires Inv-loop μ-loop
 unfolding lexFrom classOf
@@ -63,10 +54,10 @@ args-from-spec =
     Inv-loop
     μ-loop
     loop-holds
-    name-at-requires
+    (λ c κs. search needs)
     value-in-requires
-    with-word-requires
-    one-more-requires
+    (λ c κs. search needs)
+    (λ c κs. search needs)
     eat-requires
     eat-requires-2
     returns

@@ -8,9 +8,6 @@ use borrow.Author.Needs.{needs}
 use Rattle.text_put.proofs.values.value_in.Statement.{statement}
 use Rattle.text_put.proofs.values.value_in.Tie as tie
 
-number-requires : tie.Need-number-requires
-number-requires c κs = search needs
-
 cast-result : tie.Need-cast-result
 cast-result c =
     let a = c .before .before .before .args in
@@ -19,9 +16,6 @@ cast-result c =
 
 returns : tie.Need-returns
 returns c = by-capital _ _ _ _ _ _ (c .before .before .if1 .taken) (c .number .ensures)
-
-slot-requires : tie.Need-slot-requires
-slot-requires c κs = search needs
 
 add-result : tie.Need-add-result
 add-result c =
@@ -43,4 +37,4 @@ returns-2 c = by-small _ _ _ _ _ (c .before .before .if1 .left) (c .slot .ensure
 pub value-in-spec : {M : Type 1} → statement M
 value-in-spec =
     tie.close
-    (tie.spec number-requires cast-result returns slot-requires add-result cast-result-2 returns-2)
+    (tie.spec (λ c κs. search needs) cast-result returns (λ c κs. search needs) add-result cast-result-2 returns-2)

@@ -8,15 +8,9 @@ use Rattle.text_put.proofs.words.begins_capital.Tie as tie
 returns : tie.Need-returns
 returns c = first-none isCapital (c .before .before .args .w .now) (c .if1 .taken)
 
-shared-slice-read-is-capital : tie.Need-shared-slice-read-is-capital
-shared-slice-read-is-capital c = search needs
-
-is-capital-requires : tie.Need-is-capital-requires
-is-capital-requires c κs = search needs
-
 returns-2 : tie.Need-returns-2
 returns-2 c = first-of isCapital (c .before .before .before .before .args .w .now) (c .before .before .if1 .left) _ (c .is-capital .ensures)
 
 pub begins-capital-spec : {M : Type 1} → statement M
 begins-capital-spec =
-    tie.close (tie.spec returns shared-slice-read-is-capital is-capital-requires returns-2)
+    tie.close (tie.spec returns (λ c. search needs) (λ c κs. search needs) returns-2)

@@ -10,39 +10,15 @@ use Rattle.terms.specs.Letters.{firstIs}
 use Rattle.text_put.proofs.words.name_at.Statement.{statement}
 use Rattle.text_put.proofs.words.name_at.Tie as tie
 
-skip-blanks-requires : tie.Need-skip-blanks-requires
-skip-blanks-requires c κs = search needs
-
-word-end-requires : tie.Need-word-end-requires
-word-end-requires c κs = search needs
-
-sub-key-of : tie.Need-sub-key-of
-sub-key-of c = search needs
-
-part-key-of-start : tie.Need-part-key-of-start
-part-key-of-start c = search needs
-
 part-key-of-end : tie.Need-part-key-of-end
 part-key-of-end c =
     let h = c .before .word-end .ensures .high (c .if1 .taken) in
     omega arith
 
-key-of-requires : tie.Need-key-of-requires
-key-of-requires c κs = search needs
-
-sub-begins-capital : tie.Need-sub-begins-capital
-sub-begins-capital c = search needs
-
-part-begins-capital-start : tie.Need-part-begins-capital-start
-part-begins-capital-start c = search needs
-
 part-begins-capital-end : tie.Need-part-begins-capital-end
 part-begins-capital-end c =
     let h = c .before .before .before .word-end .ensures .high (c .before .before .if1 .taken) in
     omega arith
-
-begins-capital-requires : tie.Need-begins-capital-requires
-begins-capital-requires c κs = search needs
 
 returns : tie.Need-returns
 returns c =
@@ -63,15 +39,15 @@ pub name-at-spec : {M : Type 1} → statement M
 name-at-spec =
     tie.close
     (tie.spec
-    skip-blanks-requires
-    word-end-requires
-    sub-key-of
-    part-key-of-start
+    (λ c κs. search needs)
+    (λ c κs. search needs)
+    (λ c. search needs)
+    (λ c. search needs)
     part-key-of-end
-    key-of-requires
-    sub-begins-capital
-    part-begins-capital-start
+    (λ c κs. search needs)
+    (λ c. search needs)
+    (λ c. search needs)
     part-begins-capital-end
-    begins-capital-requires
+    (λ c κs. search needs)
     returns
     returns-2)

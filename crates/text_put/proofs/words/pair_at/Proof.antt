@@ -7,15 +7,9 @@ use Rattle.terms.specs.Characters.{classOf}
 use Rattle.text_put.proofs.words.pair_at.Statement.{statement}
 use Rattle.text_put.proofs.words.pair_at.Tie as tie
 
-timer-at-requires : tie.Need-timer-at-requires
-timer-at-requires c κs = search needs
-
 eat-requires : tie.Need-eat-requires
 unfolding lexFrom classOf
 eat-requires c κs = λ l. refl
-
-name-at-requires : tie.Need-name-at-requires
-name-at-requires c κs = search needs
 
 eat-requires-2 : tie.Need-eat-requires-2
 unfolding lexFrom classOf
@@ -32,4 +26,4 @@ returns c =
 
 pub pair-at-spec : {M : Type 1} → statement M
 pair-at-spec =
-    tie.close (tie.spec timer-at-requires eat-requires name-at-requires eat-requires-2 returns)
+    tie.close (tie.spec (λ c κs. search needs) eat-requires (λ c κs. search needs) eat-requires-2 returns)

@@ -9,25 +9,10 @@ use borrow.Author.Needs.{needs}
 use Rattle.text_put.proofs.words.timer_at.Statement.{statement}
 use Rattle.text_put.proofs.words.timer_at.Tie as tie
 
-skip-blanks-requires : tie.Need-skip-blanks-requires
-skip-blanks-requires c κs = search needs
-
-word-end-requires : tie.Need-word-end-requires
-word-end-requires c κs = search needs
-
-sub-timer-of : tie.Need-sub-timer-of
-sub-timer-of c = search needs
-
-part-timer-of-start : tie.Need-part-timer-of-start
-part-timer-of-start c = search needs
-
 part-timer-of-end : tie.Need-part-timer-of-end
 part-timer-of-end c =
     let h = c .before .word-end .ensures .high (c .if1 .taken) in
     omega arith
-
-timer-of-requires : tie.Need-timer-of-requires
-timer-of-requires c κs = search needs
 
 returns : tie.Need-returns
 returns c =
@@ -48,11 +33,11 @@ pub timer-at-spec : {M : Type 1} → statement M
 timer-at-spec =
     tie.close
     (tie.spec
-    skip-blanks-requires
-    word-end-requires
-    sub-timer-of
-    part-timer-of-start
+    (λ c κs. search needs)
+    (λ c κs. search needs)
+    (λ c. search needs)
+    (λ c. search needs)
     part-timer-of-end
-    timer-of-requires
+    (λ c κs. search needs)
     returns
     returns-2)

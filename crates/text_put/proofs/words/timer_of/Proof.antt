@@ -5,23 +5,8 @@ use borrow.Author.Needs.{needs}
 use Rattle.text_put.proofs.words.timer_of.Statement.{statement}
 use Rattle.text_put.proofs.words.timer_of.Tie as tie
 
-slice-aggregate-is-same : tie.Need-slice-aggregate-is-same
-slice-aggregate-is-same c = search needs
-
-is-same-requires : tie.Need-is-same-requires
-is-same-requires c κs = search needs
-
 returns : tie.Need-returns
 returns c = λ t us f g. timer-inf t us _ f g (sym (c .before .is-same .ensures) ∙ c .if1 .taken)
-
-number-of-requires : tie.Need-number-of-requires
-number-of-requires c κs = search needs
-
-new-requires : tie.Need-new-requires
-new-requires c κs = search needs
-
-enum-known-t : tie.Need-enum-known-t
-enum-known-t c = search needs
 
 enum-told : tie.Need-enum-told
 enum-told c = search needs
@@ -36,12 +21,12 @@ pub timer-of-spec : {M : Type 1} → statement M
 timer-of-spec =
     tie.close
     (tie.spec
-    slice-aggregate-is-same
-    is-same-requires
+    (λ c. search needs)
+    (λ c κs. search needs)
     returns
-    number-of-requires
-    new-requires
-    enum-known-t
+    (λ c κs. search needs)
+    (λ c κs. search needs)
+    (λ c. search needs)
     enum-told
     returns-2
     returns-3)

@@ -20,9 +20,6 @@ abbrev μ-loop : tie.MeasureT-loop
 loop-holds : tie.Need-loop-holds Inv-loop μ-loop
 loop-holds c = λ x. params-first _ _ _ _ x
 
-name-at-requires : tie.Need-name-at-requires Inv-loop μ-loop
-name-at-requires c κs = search needs
-
 mul-put-key : tie.Need-mul-put-key Inv-loop μ-loop
 mul-put-key c =
     let q = c .before .before .before .before .before .pre in
@@ -87,7 +84,7 @@ params-from-spec =
     Inv-loop
     μ-loop
     loop-holds
-    name-at-requires
+    (λ c κs. search needs)
     mul-put-key
     add-put-key
     mul-put-key-2

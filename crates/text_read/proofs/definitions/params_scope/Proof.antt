@@ -6,7 +6,7 @@ use Rattle.text_tree.specs.Pass.{noScope, paramsFrom}
 use Rattle.text_read.proofs.Defs.{enter-few, scope-on, scope-end, scope-first}
 use Rattle.text_read.proofs.definitions.params_scope.Statement.{statement}
 use Rattle.text_read.proofs.definitions.params_scope.Tie as tie
-use Rattle.table.specs.Words.{rowSize}
+use Rattle.table.specs.Words.{rowSize, firstParam, nameSize}
 
 abbrev Inv-loop : tie.InvT-loop
 Inv-loop w k n sc₀ j₀ sc j = (j ≤ n) × (sc .n ≤ j) × (paramsFrom w k j (n - j) sc ≡ paramsFrom w k 0 n noScope)
@@ -65,7 +65,7 @@ loop-again c =
     let h = c .before .loop-test .taken in
     let l = c .before .before .loop in
     let e = c .entered .ensures in
-    let f = enter-few (c .before .before .before .args .w .now) (l .sc) (14 + c .before .before .before .args .k * rowSize + l .j * 4) (l .j) (l .inv .1) in
+    let f = enter-few (c .before .before .before .args .w .now) (l .sc) (firstParam + c .before .before .before .args .k * rowSize + l .j * nameSize) (l .j) (l .inv .1) in
     (omega arith, rw e f, ap (λ z. paramsFrom (c .before .before .before .args .w .now) (c .before .before .before .args .k) (l .j + 1) (c .before .before .before .args .n - (l .j + 1)) z) e ∙ scope-on (c .before .before .before .args .w .now) (c .before .before .before .args .k) (c .before .before .before .args .n) (l .j) (l .sc) h ∙ l .inv .2)
 
 returns : tie.Need-returns Inv-loop μ-loop

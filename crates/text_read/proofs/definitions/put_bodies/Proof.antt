@@ -19,9 +19,6 @@ abbrev μ-loop : tie.MeasureT-loop
 loop-holds : tie.Need-loop-holds Inv-loop μ-loop
 loop-holds c = (c .before .pre .0, λ x. bodies-first _ _ x)
 
-net-next-requires : tie.Need-net-next-requires Inv-loop μ-loop
-net-next-requires c κs = search needs
-
 put-body-requires : tie.Need-put-body-requires Inv-loop μ-loop
 put-body-requires c κs =
     let x = c .before .before .before .before .before .pre .1 in
@@ -67,7 +64,7 @@ put-bodies-spec =
     Inv-loop
     μ-loop
     loop-holds
-    net-next-requires
+    (λ c κs. search needs)
     put-body-requires
     add-k
     loop-less

@@ -8,9 +8,6 @@ use Rattle.text_read.proofs.Defs.{def-word, name-later, param-count, pa
 use Rattle.text_read.proofs.definitions.put_body.Statement.{statement}
 use Rattle.text_read.proofs.definitions.put_body.Tie as tie
 
-name-at-requires : tie.Need-name-at-requires
-name-at-requires c κs = search needs
-
 list-of-requires : tie.Need-list-of-requires
 list-of-requires c κs =
     let x = c .before .before .pre .2 in
@@ -19,9 +16,6 @@ list-of-requires c κs =
 eat-requires : tie.Need-eat-requires
 unfolding lexFrom classOf
 eat-requires c κs = λ l. refl
-
-cast-params-scope : tie.Need-cast-params-scope
-cast-params-scope c = search needs
 
 params-scope-requires : tie.Need-params-scope-requires
 params-scope-requires c κs =
@@ -43,9 +37,6 @@ eat-requires-2 : tie.Need-eat-requires-2
 unfolding lexFrom classOf
 eat-requires-2 c κs = λ l. refl
 
-less-requires : tie.Need-less-requires
-less-requires c κs = search needs
-
 returns : tie.Need-returns
 returns c =
     λ x.
@@ -56,12 +47,12 @@ pub put-body-spec : {M : Type 1} → statement M
 put-body-spec =
     tie.close
     (tie.spec
-    name-at-requires
+    (λ c κs. search needs)
     list-of-requires
     eat-requires
-    cast-params-scope
+    (λ c. search needs)
     params-scope-requires
     put-process-requires
     eat-requires-2
-    less-requires
+    (λ c κs. search needs)
     returns)

@@ -19,9 +19,6 @@ abbrev μ-loop : tie.MeasureT-loop
 loop-holds : tie.Need-loop-holds Inv-loop μ-loop
 loop-holds c = (c .before .pre .0, λ x. heads-first _ _ x)
 
-net-next-requires : tie.Need-net-next-requires Inv-loop μ-loop
-net-next-requires c κs = search needs
-
 put-head-requires : tie.Need-put-head-requires Inv-loop μ-loop
 put-head-requires c κs =
     let x = c .before .before .before .before .before .pre .1 in
@@ -67,7 +64,7 @@ put-heads-spec =
     Inv-loop
     μ-loop
     loop-holds
-    net-next-requires
+    (λ c κs. search needs)
     put-head-requires
     add-k
     loop-less

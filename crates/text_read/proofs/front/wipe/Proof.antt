@@ -4,14 +4,8 @@ use Rattle.text_read.proofs.Kept.{front-zeros}
 use Rattle.text_read.proofs.front.wipe.Statement.{statement}
 use Rattle.text_read.proofs.front.wipe.Tie as tie
 
-script-sized-requires : tie.Need-script-sized-requires
-script-sized-requires c κs = search needs
-
-clear-requires : tie.Need-clear-requires
-clear-requires c κs = search needs
-
 returns : tie.Need-returns
 returns c = front-zeros _ _ (c .before .before .script-sized .ensures) (c .clear .ensures)
 
 pub wipe-spec : {M : Type 1} → statement M
-wipe-spec = tie.close (tie.spec script-sized-requires clear-requires returns)
+wipe-spec = tie.close (tie.spec (λ c κs. search needs) (λ c κs. search needs) returns)

@@ -8,12 +8,6 @@ use Rattle.text_read.proofs.Bracketed.{located-word, loc-few, body-at, 
 use Rattle.text_read.proofs.network.put_located.Statement.{statement}
 use Rattle.text_read.proofs.network.put_located.Tie as tie
 
-name-at-requires : tie.Need-name-at-requires
-name-at-requires c κs = search needs
-
-number-requires : tie.Need-number-requires
-number-requires c κs = search needs
-
 eat-requires : tie.Need-eat-requires
 unfolding lexFrom classOf
 eat-requires c κs = λ l. refl
@@ -30,12 +24,6 @@ eat-requires-2 : tie.Need-eat-requires-2
 unfolding lexFrom classOf
 eat-requires-2 c κs = λ l. refl
 
-less-requires : tie.Need-less-requires
-less-requires c κs = search needs
-
-same-length : tie.Need-same-length
-same-length c = search needs
-
 returns : tie.Need-returns
 returns c = λ x. located-put x _ (c .before .before .before .before .before .before .before .before .before .before .name-at .ensures _ _ (located-word x)) _ (c .before .before .before .before .before .before .eat .ensures) (c .before .before .before .before .before .before .before .number .ensures) _ (c .before .before .before .put-outer .ensures) _ (c .before .eat2 .ensures) _ (c .less .ensures)
 
@@ -43,12 +31,12 @@ pub put-located-spec : {M : Type 1} → statement M
 put-located-spec =
     tie.close
     (tie.spec
-    name-at-requires
-    number-requires
+    (λ c κs. search needs)
+    (λ c κs. search needs)
     eat-requires
     cast-put-outer
     put-outer-requires
     eat-requires-2
-    less-requires
-    same-length
+    (λ c κs. search needs)
+    (λ c. search needs)
     returns)

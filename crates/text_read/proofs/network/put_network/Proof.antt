@@ -47,9 +47,10 @@ loop-less c =
 
 loop-again : tie.Need-loop-again Inv-loop μ-loop
 loop-again c =
-    let v = c .before .before .before .before .before .before .loop .inv in
-    let y = going-at (v .3 (c .before .before .before .before .before .before .before .before .pre .1)) in
-    (place-small (v .3 (c .before .before .before .before .before .before .before .before .pre .1)) (v .1) _ (c .before .before .before .put-located .ensures) _ (c .before .eat .ensures) (v .0), spread-within (c .before .before .before .put-located .ensures y .gathered), c .before .before .out .given ∙ v .2, λ x. going-on (v .3 x) (v .1) _ (c .before .before .before .put-located .ensures) _ (c .before .eat .ensures) (c .if1 .left))
+    let past = c .before .before .before .before .before .before in
+    let v = past .loop .inv in
+    let y = going-at (v .3 (past .before .before .pre .1)) in
+    (place-small (v .3 (past .before .before .pre .1)) (v .1) _ (c .before .before .before .put-located .ensures) _ (c .before .eat .ensures) (v .0), spread-within (c .before .before .before .put-located .ensures y .gathered), c .before .before .out .given ∙ v .2, λ x. going-on (v .3 x) (v .1) _ (c .before .before .before .put-located .ensures) _ (c .before .eat .ensures) (c .if1 .left))
 
 pub put-network-spec : {M : Type 1} → statement M
 put-network-spec =

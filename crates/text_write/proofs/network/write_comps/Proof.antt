@@ -19,9 +19,6 @@ Inv-loop w c n buf₀ at a₀ k₀ buf a k = (k ≤ n) × (length buf ≡ length
 abbrev μ-loop : tie.MeasureT-loop
 μ-loop w c n buf₀ at a₀ k₀ buf a k = n - k
 
-comp-at-requires : tie.Need-comp-at-requires Inv-loop μ-loop
-comp-at-requires c κs = search needs
-
 write-comp-requires : tie.Need-write-comp-requires Inv-loop μ-loop
 write-comp-requires c κs =
     let k = c .before .before .before .args in
@@ -34,9 +31,6 @@ loop-holds : tie.Need-loop-holds Inv-loop μ-loop
 loop-holds c =
     let k = c .before .before .before .before .before .before .args in
     (omega (arith, valid-state (k .w .now) (record { c = k .c .now; n = k .n }) (c .before .before .before .before .before .before .pre .0) .some), refl, begun)
-
-put-bar-requires : tie.Need-put-bar-requires Inv-loop μ-loop
-put-bar-requires c κs = search needs
 
 comp-at-requires-2 : tie.Need-comp-at-requires-2 Inv-loop μ-loop
 comp-at-requires-2 c κs =
@@ -56,9 +50,6 @@ add-k c =
     let k = c .before .before .before .before .before .before .before .before .before .before .before .before .before .before .before .before .before .args in
     omega (arith, c .before .before .before .before .before .before .before .before .before .loop-test .taken, valid-state (k .w .now) (record { c = k .c .now; n = k .n }) (c .before .before .before .before .before .before .before .before .before .before .before .before .before .before .before .before .before .pre .0) .few)
 
-loop-less : tie.Need-loop-less Inv-loop μ-loop
-loop-less c = search needs
-
 loop-again : tie.Need-loop-again Inv-loop μ-loop
 loop-again c =
     let k = c .before .before .before .before .before .before .before .before .before .before .before .before .before .before .before .before .before .args in
@@ -69,9 +60,6 @@ loop-again c =
       omega (arith, l .inv .1, c .before .before .before .before .before .before .before .put-bar .kept, c .before .before .write-comp2 .kept),
       step (step (left-as (comps-next (k .w .now) st (l .k) (c .before .before .before .before .before .before .before .before .before .loop-test .taken)) (l .inv .2)) (c .before .before .before .before .before .before .before .put-bar .ensures)) e,
     )
-
-put-end-requires : tie.Need-put-end-requires Inv-loop μ-loop
-put-end-requires c κs = search needs
 
 same-length : tie.Need-same-length Inv-loop μ-loop
 same-length c = omega (arith, c .before .before .before .before .before .before .before .before .write-comp .kept, c .before .before .before .before .before .loop .inv .1, c .before .before .put-end .kept)
@@ -91,15 +79,15 @@ write-comps-spec =
     (tie.spec
     Inv-loop
     μ-loop
-    comp-at-requires
+    (λ c κs. search needs)
     write-comp-requires
     loop-holds
-    put-bar-requires
+    (λ c κs. search needs)
     comp-at-requires-2
     write-comp-requires-2
     add-k
-    loop-less
+    (λ c. search needs)
     loop-again
-    put-end-requires
+    (λ c κs. search needs)
     same-length
     returns)

@@ -6,7 +6,7 @@ use mathlib.Core.List.{List, _∷_, [], map}
 use mathlib.Core.Bool.{true}
 use mathlib.Core.Path.{_≡_, refl, ap, _∙_}
 use lib.ListN.{take, replicate}
-use Rattle.table.specs.Words.{rowSize, nameAt, defsIn}
+use Rattle.table.specs.Words.{rowSize, nameAt, defsIn, firstParam, fourthParam, secondParam, thirdParam}
 use Rattle.table.specs.Valid.{scriptOk}
 use Rattle.table.proofs.Tests.{script-fine, def-fine}
 use Rattle.text_write.specs.Forms.{listed, processText}
@@ -51,46 +51,33 @@ mul-put-name-2 c = let h = few (c .before .args .w .now) (c .before .args .d) (c
 add-put-name-2 : tie.Need-add-put-name-2
 add-put-name-2 c = let h = few (c .before .args .w .now) (c .before .args .d) (c .before .pre) in search needs
 
-put-name-requires : tie.Need-put-name-requires
-put-name-requires c κs = search needs
-
 arity-of-requires : tie.Need-arity-of-requires
 arity-of-requires c κs = few (c .before .before .before .before .before .before .args .w .now) (c .before .before .before .before .before .before .args .d) (c .before .before .before .before .before .before .pre)
 
-wide-requires : tie.Need-wide-requires
-wide-requires c κs = search needs
-
 put-list-requires : tie.Need-put-list-requires
-put-list-requires c κs = (omega (arith, c .before .wide .ensures, c .before .before .arity-of .ensures, def-fine (c .before .before .before .before .before .before .before .before .before .args .w .now) (c .before .before .before .before .before .before .before .before .before .pre .0) (c .before .before .before .before .before .before .before .before .before .args .d) (c .before .before .before .before .before .before .before .before .before .pre .1) .few), refl)
-
-slice-aggregate-put-all : tie.Need-slice-aggregate-put-all
-slice-aggregate-put-all c = search needs
-
-put-all-requires : tie.Need-put-all-requires
-put-all-requires c κs = search needs
+put-list-requires c κs =
+    let past = c .before .before .before .before .before .before .before .before .before in
+    (omega (arith, c .before .wide .ensures, c .before .before .arity-of .ensures, def-fine (past .args .w .now) (past .pre .0) (past .args .d) (past .pre .1) .few), refl)
 
 body-of-requires : tie.Need-body-of-requires
-body-of-requires c κs = few (c .before .before .before .before .before .before .before .before .before .before .before .before .before .before .before .before .before .args .w .now) (c .before .before .before .before .before .before .before .before .before .before .before .before .before .before .before .before .before .args .d) (c .before .before .before .before .before .before .before .before .before .before .before .before .before .before .before .before .before .pre)
-
-wide-requires-2 : tie.Need-wide-requires-2
-wide-requires-2 c κs = search needs
+body-of-requires c κs =
+    let past = c .before .before .before .before .before .before .before .before .before .before .before .before .before .before .before .before .before in
+    few (past .args .w .now) (past .args .d) (past .pre)
 
 write-process-requires : tie.Need-write-process-requires
-write-process-requires c κs = rw (c .before .before .wide2 .ensures, c .before .before .before .body-of .ensures) (body-place (c .before .before .before .before .before .before .before .before .before .before .before .before .before .before .before .before .before .before .before .before .before .args .w .now) (c .before .before .before .before .before .before .before .before .before .before .before .before .before .before .before .before .before .before .before .before .before .args .d) (c .before .before .before .before .before .before .before .before .before .before .before .before .before .before .before .before .before .before .before .before .before .pre .0) (c .before .before .before .before .before .before .before .before .before .before .before .before .before .before .before .before .before .before .before .before .before .pre .1))
-
-put-end-requires : tie.Need-put-end-requires
-put-end-requires c κs = search needs
-
-same-length : tie.Need-same-length
-same-length c = search needs
+write-process-requires c κs =
+    let past = c .before .before .before .before .before .before .before .before .before .before .before .before .before .before .before .before .before .before .before .before .before in
+    rw (c .before .before .wide2 .ensures, c .before .before .before .body-of .ensures) (body-place (past .args .w .now) (past .args .d) (past .pre .0) (past .pre .1))
 
 returns : tie.Need-returns
 returns c =
-    let w = c .before .before .before .before .before .before .before .before .before .before .before .before .before .before .before .before .before .before .before .before .before .before .before .before .before .before .before .before .args .w .now in
-    let d = c .before .before .before .before .before .before .before .before .before .before .before .before .before .before .before .before .before .before .before .before .before .before .before .before .before .before .before .before .args .d in
-    let names = same (ap (λ n. listed (map (nameAt w) (take n ((14 + d * rowSize) ∷ (18 + d * rowSize) ∷ (22 + d * rowSize) ∷ (26 + d * rowSize) ∷ [])))) (c .before .before .before .before .before .before .before .before .before .before .before .before .before .before .before .before .before .before .before .before .wide .ensures ∙ c .before .before .before .before .before .before .before .before .before .before .before .before .before .before .before .before .before .before .before .before .before .arity-of .ensures)) (c .before .before .before .before .before .before .before .before .before .before .before .before .before .before .before .before .before .before .put-list .ensures) in
-    let body = same (ap (λ n. processText (processSeen w n (replicate 8 64))) (c .before .before .before .before .before .before .before .before .before .wide2 .ensures ∙ c .before .before .before .before .before .before .before .before .before .before .body-of .ensures)) (c .before .before .before .before .before .before .write-process .ensures) in
-    same (def-written w d) (then (c .before .before .before .before .before .before .before .before .before .before .before .before .before .before .before .before .before .before .before .before .before .before .before .before .before .put-name .ensures) (then names (then (c .before .before .before .before .before .before .before .before .before .before .before .before .before .put-all .ensures) (then body (c .before .before .put-end .ensures)))))
+    let past = c .before .before .before .before .before .before in
+    let far = past .before .before .before in
+    let w = far .before .before .before .before .before .before .before .before .before .before .before .before .before .before .before .before .before .before .before .args .w .now in
+    let d = far .before .before .before .before .before .before .before .before .before .before .before .before .before .before .before .before .before .before .before .args .d in
+    let names = same (ap (λ n. listed (map (nameAt w) (take n ((firstParam + d * rowSize) ∷ (secondParam + d * rowSize) ∷ (thirdParam + d * rowSize) ∷ (fourthParam + d * rowSize) ∷ [])))) (far .before .before .before .before .before .before .before .before .before .before .before .wide .ensures ∙ far .before .before .before .before .before .before .before .before .before .before .before .before .arity-of .ensures)) (far .before .before .before .before .before .before .before .before .before .put-list .ensures) in
+    let body = same (ap (λ n. processText (processSeen w n (replicate 8 64))) (far .wide2 .ensures ∙ far .before .body-of .ensures)) (past .write-process .ensures) in
+    same (def-written w d) (then (far .before .before .before .before .before .before .before .before .before .before .before .before .before .before .before .before .put-name .ensures) (then names (then (far .before .before .before .before .put-all .ensures) (then body (c .before .before .put-end .ensures)))))
 
 pub write-def-spec : {M : Type 1} → statement M
 write-def-spec =
@@ -106,15 +93,15 @@ write-def-spec =
     add-put-name
     mul-put-name-2
     add-put-name-2
-    put-name-requires
+    (λ c κs. search needs)
     arity-of-requires
-    wide-requires
+    (λ c κs. search needs)
     put-list-requires
-    slice-aggregate-put-all
-    put-all-requires
+    (λ c. search needs)
+    (λ c κs. search needs)
     body-of-requires
-    wide-requires-2
+    (λ c κs. search needs)
     write-process-requires
-    put-end-requires
-    same-length
+    (λ c κs. search needs)
+    (λ c. search needs)
     returns)

@@ -20,12 +20,6 @@ Inv-loop w buf₀ at n a₀ d₀ buf a d = (n ≡ defsIn w) × (d ≤ n) × (len
 abbrev μ-loop : tie.MeasureT-loop
 μ-loop w buf₀ at n a₀ d₀ buf a d = n - d
 
-word-requires : tie.Need-word-requires Inv-loop μ-loop
-word-requires c κs = search needs
-
-wide-requires : tie.Need-wide-requires Inv-loop μ-loop
-wide-requires c κs = search needs
-
 loop-holds : tie.Need-loop-holds Inv-loop μ-loop
 loop-holds c = (c .wide .ensures ∙ c .before .word .ensures, omega arith, refl, left-as (defs-all (c .before .before .before .args .w .now)) begun)
 
@@ -34,9 +28,6 @@ write-def-requires c κs = (c .before .before .before .before .before .before .p
 
 add-d : tie.Need-add-d Inv-loop μ-loop
 add-d c = omega (arith, c .before .before .before .before .loop-test .taken, c .before .before .before .before .before .loop .inv .0, script-fine (c .before .before .before .before .before .before .before .before .before .args .w .now) (c .before .before .before .before .before .before .before .before .before .pre) .defs)
-
-loop-less : tie.Need-loop-less Inv-loop μ-loop
-loop-less c = search needs
 
 loop-again : tie.Need-loop-again Inv-loop μ-loop
 loop-again c =
@@ -58,12 +49,12 @@ write-defs-spec =
     (tie.spec
     Inv-loop
     μ-loop
-    word-requires
-    wide-requires
+    (λ c κs. search needs)
+    (λ c κs. search needs)
     loop-holds
     write-def-requires
     add-d
-    loop-less
+    (λ c. search needs)
     loop-again
     same-length
     returns)

@@ -10,14 +10,10 @@ use Rattle.text_write.proofs.network.write_text.Tie as tie
 write-defs-requires : tie.Need-write-defs-requires
 write-defs-requires c κs = valid-script (c .before .before .args .w .now) (record { c = c .before .before .args .c .now; n = c .before .before .args .n }) (c .before .before .pre .0)
 
-write-comps-requires : tie.Need-write-comps-requires
-write-comps-requires c κs = search needs
-
-same-length : tie.Need-same-length
-same-length c = search needs
-
 returns : tie.Need-returns
-returns c = same (text-is (c .before .before .before .before .before .before .before .before .before .args .w .now) (record { c = c .before .before .before .before .before .before .before .before .before .args .c .now; n = c .before .before .before .before .before .before .before .before .before .args .n })) (then (c .before .before .before .before .before .before .write-defs .ensures) (c .before .before .write-comps .ensures))
+returns c =
+    let past = c .before .before .before .before .before .before in
+    same (text-is (past .before .before .before .args .w .now) (record { c = past .before .before .before .args .c .now; n = past .before .before .before .args .n })) (then (past .write-defs .ensures) (c .before .before .write-comps .ensures))
 
 pub write-text-spec : {M : Type 1} → statement M
-write-text-spec = tie.close (tie.spec write-defs-requires write-comps-requires same-length returns)
+write-text-spec = tie.close (tie.spec write-defs-requires (λ c κs. search needs) (λ c. search needs) returns)

@@ -4,61 +4,28 @@ use native.Mathlib.Omega.{arith}
 use Prim.Native.Nat.{_+_, _*_, _-_}
 use mathlib.Core.Path.{_≡_, ap, _∙_}
 use lib.ListN.{getD}
-use Rattle.table.specs.Words.{rowSize, locsAt, partsAt, nameAt}
+use Rattle.table.specs.Words.{rowSize, locsAt, partsAt, nameAt, nameSize}
 use Rattle.text_write.proofs.Values.{location-written, value-written, name-written, slot-few}
 use borrow.Author.Needs.{needs}
 use Rattle.text_write.proofs.parts.value_at.Statement.{statement}
 use Rattle.text_write.proofs.parts.value_at.Tie as tie
 
-wide-requires : tie.Need-wide-requires
-wide-requires c κs = search needs
-
-mul-result : tie.Need-mul-result
-mul-result c = search needs
-
-add-result : tie.Need-add-result
-add-result c = search needs
-
 returns : tie.Need-returns
 returns c = λ e.
     let k = c .before .before .args in
-    ap (λ n. nameAt (k .w .now) (locsAt + n * 4)) (c .before .wide .ensures) ∙ location-written (k .w .now) (k .i) (k .vals .now) (c .before .before .pre .1) (k .v) (omega arith)
+    ap (λ n. nameAt (k .w .now) (locsAt + n * nameSize)) (c .before .wide .ensures) ∙ location-written (k .w .now) (k .i) (k .vals .now) (c .before .before .pre .1) (k .v) (omega arith)
 
 returns-2 : tie.Need-returns-2
 returns-2 c = λ e.
     let k = c .before .before .before .args in
     absurd (omega (arith, slot-few (k .w .now) (k .i) (k .vals .now) (c .before .before .before .pre .1) (k .v) (omega arith) e))
 
-mul-wide : tie.Need-mul-wide
-mul-wide c = search needs
-
-element-copy-out-wide : tie.Need-element-copy-out-wide
-element-copy-out-wide c = search needs
-
-wide-requires-2 : tie.Need-wide-requires-2
-wide-requires-2 c κs = search needs
-
-mul-result-2 : tie.Need-mul-result-2
-mul-result-2 c = search needs
-
-add-result-2 : tie.Need-add-result-2
-add-result-2 c = search needs
-
 returns-3 : tie.Need-returns-3
 returns-3 c = λ e.
     let k = c .before .before .before .before .before .before .args in
     let x : c .before .wide2 .result ≡ getD (k .vals .now) (k .v - 64) 0 = c .before .wide2 .ensures ∙ ap (λ n. getD (k .vals .now) (n - 64) 0) (c .before .before .before .before .before .wide .ensures) in
-    ap (λ n. nameAt (k .w .now) (locsAt + n * 4)) x
+    ap (λ n. nameAt (k .w .now) (locsAt + n * nameSize)) x
     ∙ value-written (k .w .now) (k .i) (k .vals .now) (c .before .before .before .before .before .before .pre .1) (k .v) (omega arith) e (omega arith)
-
-add-field : tie.Need-add-field
-add-field c = search needs
-
-field-requires : tie.Need-field-requires
-field-requires c κs = search needs
-
-wide-requires-3 : tie.Need-wide-requires-3
-wide-requires-3 c κs = search needs
 
 returns-4 : tie.Need-returns-4
 returns-4 c = λ e.
@@ -71,18 +38,18 @@ pub value-at-spec : {M : Type 1} → statement M
 value-at-spec =
     tie.close
     (tie.spec
-    wide-requires
-    mul-result
-    add-result
+    (λ c κs. search needs)
+    (λ c. search needs)
+    (λ c. search needs)
     returns
     returns-2
-    mul-wide
-    element-copy-out-wide
-    wide-requires-2
-    mul-result-2
-    add-result-2
+    (λ c. search needs)
+    (λ c. search needs)
+    (λ c κs. search needs)
+    (λ c. search needs)
+    (λ c. search needs)
     returns-3
-    add-field
-    field-requires
-    wide-requires-3
+    (λ c. search needs)
+    (λ c κs. search needs)
+    (λ c κs. search needs)
     returns-4)

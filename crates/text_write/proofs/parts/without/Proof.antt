@@ -8,15 +8,6 @@ use borrow.Author.Needs.{needs}
 use Rattle.text_write.proofs.parts.without.Statement.{statement}
 use Rattle.text_write.proofs.parts.without.Tie as tie
 
-wide-requires : tie.Need-wide-requires
-wide-requires c κs = search needs
-
-mul-r : tie.Need-mul-r
-mul-r c = search needs
-
-array-write-r : tie.Need-array-write-r
-array-write-r c = search needs
-
 returns : tie.Need-returns
 returns c = ap (λ n. set (c .before .before .before .args .vals .now) n 64) (c .before .wide .ensures)
 
@@ -24,4 +15,4 @@ returns-2 : tie.Need-returns-2
 returns-2 c = sym (set-out (c .before .before .before .args .vals .now) (c .before .before .before .args .k) 64 (omega arith))
 
 pub without-spec : {M : Type 1} → statement M
-without-spec = tie.close (tie.spec wide-requires mul-r array-write-r returns returns-2)
+without-spec = tie.close (tie.spec (λ c κs. search needs) (λ c. search needs) (λ c. search needs) returns returns-2)

@@ -28,100 +28,8 @@ abbrev put-number-below : ℕ → In 1 put-number-kinds.ps
 put-number-below t =
     and 1 put-number-kinds.ps (falls 1 put-number-kinds.ps _<_ μ-put-number t) put-number.Pre
 
-put-number-digit-requires : (t : ℕ) → put-number-lts.Need-digit-requires (
-  digit-reads.Asked,
-  digit-reads.Learnt,
-  put-reads.Asked,
-  put-reads.Learnt,
-  put-number-below t,
-  put-number.Post,
-) (put-number-at t) put-number.Post
-put-number-digit-requires t c κs = search needs
-
-put-number-put-requires : (t : ℕ) → put-number-lts.Need-put-requires (
-  digit-reads.Asked,
-  digit-reads.Learnt,
-  put-reads.Asked,
-  put-reads.Learnt,
-  put-number-below t,
-  put-number.Post,
-) (put-number-at t) put-number.Post
-put-number-put-requires t c κs = search needs
-
-put-number-same-length : (t : ℕ) → put-number-lts.Need-same-length (
-  digit-reads.Asked,
-  digit-reads.Learnt,
-  put-reads.Asked,
-  put-reads.Learnt,
-  put-number-below t,
-  put-number.Post,
-) (put-number-at t) put-number.Post
-put-number-same-length t c = search needs
-
-put-number-returns : (t : ℕ) → put-number-lts.Need-returns (
-  digit-reads.Asked,
-  digit-reads.Learnt,
-  put-reads.Asked,
-  put-reads.Learnt,
-  put-number-below t,
-  put-number.Post,
-) (put-number-at t) put-number.Post
-put-number-returns t c = same (rw (c .before .before .before .before .digit .ensures) (sym (digits-one (c .before .before .before .before .before .before .before .args .n) (c .before .before .before .before .before .if1 .taken)))) (c .before .before .put .ensures)
-
-put-number-put-number-requires : (t : ℕ) → put-number-lts.Need-put-number-requires (
-  digit-reads.Asked,
-  digit-reads.Learnt,
-  put-reads.Asked,
-  put-reads.Learnt,
-  put-number-below t,
-  put-number.Post,
-) (put-number-at t) put-number.Post
-put-number-put-number-requires t c κs = (omega (arith, c .before .before .before .pre .0), tt)
-
-put-number-digit-requires-2 : (t : ℕ) → put-number-lts.Need-digit-requires-2 (
-  digit-reads.Asked,
-  digit-reads.Learnt,
-  put-reads.Asked,
-  put-reads.Learnt,
-  put-number-below t,
-  put-number.Post,
-) (put-number-at t) put-number.Post
-put-number-digit-requires-2 t c κs = search needs
-
-put-number-put-requires-2 : (t : ℕ) → put-number-lts.Need-put-requires-2 (
-  digit-reads.Asked,
-  digit-reads.Learnt,
-  put-reads.Asked,
-  put-reads.Learnt,
-  put-number-below t,
-  put-number.Post,
-) (put-number-at t) put-number.Post
-put-number-put-requires-2 t c κs = search needs
-
-put-number-same-length-2 : (t : ℕ) → put-number-lts.Need-same-length-2 (
-  digit-reads.Asked,
-  digit-reads.Learnt,
-  put-reads.Asked,
-  put-reads.Learnt,
-  put-number-below t,
-  put-number.Post,
-) (put-number-at t) put-number.Post
-put-number-same-length-2 t c = search needs
-
-put-number-returns-2 : (t : ℕ) → put-number-lts.Need-returns-2 (
-  digit-reads.Asked,
-  digit-reads.Learnt,
-  put-reads.Asked,
-  put-reads.Learnt,
-  put-number-below t,
-  put-number.Post,
-) (put-number-at t) put-number.Post
-put-number-returns-2 t c =
-    same (rw (c .before .before .before .before .digit2 .ensures) (sym (digits-more (c .before .before .before .before .before .before .before .before .before .before .before .args .n) (c .before .before .before .before .before .before .before .before .before .if1 .left))))
-    (then (c .before .before .before .before .before .before .before .put-number .ensures) (c .before .before .put2 .ensures))
-
-pub +put-number-spec : {M : Type 1} → statement M
-+put-number-spec = close μ-put-number λ t. put-number-lts.spec (
+abbrev put-number-claims : ℕ → put-number-lts.Claims
+put-number-claims t = (
   digit-reads.Asked,
   digit-reads.Learnt,
   put-reads.Asked,
@@ -129,14 +37,28 @@ pub +put-number-spec : {M : Type 1} → statement M
   put-number-below t,
   put-number.Post,
 )
+
+put-number-returns : (t : ℕ) → put-number-lts.Need-returns (put-number-claims t) (put-number-at t) put-number.Post
+put-number-returns t c = same (rw (c .before .before .before .before .digit .ensures) (sym (digits-one (c .before .before .before .before .before .before .before .args .n) (c .before .before .before .before .before .if1 .taken)))) (c .before .before .put .ensures)
+
+put-number-put-number-requires : (t : ℕ) → put-number-lts.Need-put-number-requires (put-number-claims t) (put-number-at t) put-number.Post
+put-number-put-number-requires t c κs = (omega (arith, c .before .before .before .pre .0), tt)
+
+put-number-returns-2 : (t : ℕ) → put-number-lts.Need-returns-2 (put-number-claims t) (put-number-at t) put-number.Post
+put-number-returns-2 t c =
+    same (rw (c .before .before .before .before .digit2 .ensures) (sym (digits-more (c .before .before .before .before .before .before .before .before .before .before .before .args .n) (c .before .before .before .before .before .before .before .before .before .if1 .left))))
+    (then (c .before .before .before .before .before .before .before .put-number .ensures) (c .before .before .put2 .ensures))
+
+pub +put-number-spec : {M : Type 1} → statement M
++put-number-spec = close μ-put-number λ t. put-number-lts.spec (put-number-claims t)
     (put-number-at t)
     put-number.Post
-    (put-number-digit-requires t)
-    (put-number-put-requires t)
-    (put-number-same-length t)
+    (λ c κs. search needs)
+    (λ c κs. search needs)
+    (λ c. search needs)
     (put-number-returns t)
     (put-number-put-number-requires t)
-    (put-number-digit-requires-2 t)
-    (put-number-put-requires-2 t)
-    (put-number-same-length-2 t)
+    (λ c κs. search needs)
+    (λ c κs. search needs)
+    (λ c. search needs)
     (put-number-returns-2 t)

@@ -6,20 +6,8 @@ use borrow.Author.Needs.{needs}
 use Rattle.text_write.proofs.put.put.Statement.{statement}
 use Rattle.text_write.proofs.put.put.Tie as tie
 
-slice-write-buf : tie.Need-slice-write-buf
-slice-write-buf c = search needs
-
-add-result : tie.Need-add-result
-add-result c = search needs
-
-same-length : tie.Need-same-length
-same-length c = search needs
-
 returns : tie.Need-returns
 returns c = let k = c .before .args in one-in (k .buf .now) (k .at) (k .b) (omega arith) (omega arith)
-
-add-result-2 : tie.Need-add-result-2
-add-result-2 c = search needs
 
 returns-2 : tie.Need-returns-2
 returns-2 c = let k = c .before .before .args in one-past (k .buf .now) (k .at) (k .b) (omega arith) (omega arith)
@@ -30,4 +18,4 @@ returns-3 c = let k = c .before .before .args in one-full (k .buf .now) (k .at) 
 pub put-spec : {M : Type 1} → statement M
 put-spec =
     tie.close
-    (tie.spec slice-write-buf add-result same-length returns add-result-2 returns-2 returns-3)
+    (tie.spec (λ c. search needs) (λ c. search needs) (λ c. search needs) returns (λ c. search needs) returns-2 returns-3)

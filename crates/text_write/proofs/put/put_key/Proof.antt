@@ -9,26 +9,8 @@ use borrow.Author.Needs.{needs}
 use Rattle.text_write.proofs.put.put_key.Statement.{statement}
 use Rattle.text_write.proofs.put.put_key.Tie as tie
 
-put-two-requires : tie.Need-put-two-requires
-put-two-requires c κs = search needs
-
-same-length : tie.Need-same-length
-same-length c = search needs
-
 returns : tie.Need-returns
 returns c = same (sym (key-short (c .before .before .before .before .before .before .before .before .before .args .k) (c .before .before .before .before .before .before .if1 .taken) (c .before .before .before .before .if2 .taken))) (c .before .before .put-two .ensures)
-
-put-four-requires : tie.Need-put-four-requires
-put-four-requires c κs = search needs
-
-put-four-requires-2 : tie.Need-put-four-requires-2
-put-four-requires-2 c κs = search needs
-
-put-two-requires-2 : tie.Need-put-two-requires-2
-put-two-requires-2 c κs = search needs
-
-same-length-2 : tie.Need-same-length-2
-same-length-2 c = search needs
 
 returns-2 : tie.Need-returns-2
 returns-2 c =
@@ -39,11 +21,11 @@ pub put-key-spec : {M : Type 1} → statement M
 put-key-spec =
     tie.close
     (tie.spec
-    put-two-requires
-    same-length
+    (λ c κs. search needs)
+    (λ c. search needs)
     returns
-    put-four-requires
-    put-four-requires-2
-    put-two-requires-2
-    same-length-2
+    (λ c κs. search needs)
+    (λ c κs. search needs)
+    (λ c κs. search needs)
+    (λ c. search needs)
     returns-2)

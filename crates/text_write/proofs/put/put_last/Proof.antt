@@ -11,56 +11,20 @@ use Rattle.text_write.proofs.put.put_last.Tie as tie
 returns : tie.Need-returns
 returns c = rw (c .if1 .taken) (same (sym last-none) nothing)
 
-low-requires : tie.Need-low-requires
-low-requires c κs = search needs
-
-put-requires : tie.Need-put-requires
-put-requires c κs = search needs
-
-same-length : tie.Need-same-length
-same-length c = search needs
-
 returns-2 : tie.Need-returns-2
 returns-2 c =
     same (rw (c .before .before .before .before .before .low .ensures) (sym (last-one (c .before .before .before .before .before .before .before .before .args .x) (c .before .before .before .before .before .before .if1 .left) (c .if2 .taken))))
     (c .before .before .before .put .ensures)
-
-low-requires-2 : tie.Need-low-requires-2
-low-requires-2 c κs = search needs
-
-put-requires-2 : tie.Need-put-requires-2
-put-requires-2 c κs = search needs
-
-same-length-2 : tie.Need-same-length-2
-same-length-2 c = search needs
 
 returns-3 : tie.Need-returns-3
 returns-3 c =
     same (rw (c .before .before .before .before .before .before .before .before .before .before .before .low .ensures, c .before .before .before .before .before .low2 .ensures) (sym (last-two (c .before .before .before .before .before .before .before .before .before .before .before .before .before .before .args .x) (c .before .before .before .before .before .before .if2 .left) (c .if3 .taken))))
     (then (c .before .before .before .before .before .before .before .before .before .put .ensures) (c .before .before .before .put2 .ensures))
 
-low-requires-3 : tie.Need-low-requires-3
-low-requires-3 c κs = search needs
-
-put-requires-3 : tie.Need-put-requires-3
-put-requires-3 c κs = search needs
-
-same-length-3 : tie.Need-same-length-3
-same-length-3 c = search needs
-
 returns-4 : tie.Need-returns-4
 returns-4 c =
     same (rw (c .before .before .before .before .before .before .before .before .before .before .before .before .before .before .before .before .before .low .ensures, c .before .before .before .before .before .before .before .before .before .before .before .low2 .ensures, c .before .before .before .before .before .low3 .ensures) (sym (last-three (c .before .before .before .before .before .before .before .before .before .before .before .before .before .before .before .before .before .before .before .before .args .x) (c .before .before .before .before .before .before .if3 .left) (c .if4 .taken))))
     (then (c .before .before .before .before .before .before .before .before .before .before .before .before .before .before .before .put .ensures) (then (c .before .before .before .before .before .before .before .before .before .put2 .ensures) (c .before .before .before .put3 .ensures)))
-
-low-requires-4 : tie.Need-low-requires-4
-low-requires-4 c κs = search needs
-
-put-requires-4 : tie.Need-put-requires-4
-put-requires-4 c κs = search needs
-
-same-length-4 : tie.Need-same-length-4
-same-length-4 c = search needs
 
 returns-5 : tie.Need-returns-5
 returns-5 c =
@@ -72,19 +36,19 @@ put-last-spec =
     tie.close
     (tie.spec
     returns
-    low-requires
-    put-requires
-    same-length
+    (λ c κs. search needs)
+    (λ c κs. search needs)
+    (λ c. search needs)
     returns-2
-    low-requires-2
-    put-requires-2
-    same-length-2
+    (λ c κs. search needs)
+    (λ c κs. search needs)
+    (λ c. search needs)
     returns-3
-    low-requires-3
-    put-requires-3
-    same-length-3
+    (λ c κs. search needs)
+    (λ c κs. search needs)
+    (λ c. search needs)
     returns-4
-    low-requires-4
-    put-requires-4
-    same-length-4
+    (λ c κs. search needs)
+    (λ c κs. search needs)
+    (λ c. search needs)
     returns-5)

@@ -26,43 +26,24 @@ loop-holds : tie.Need-loop-holds Inv-loop μ-loop
 loop-holds c =
     (omega arith, refl, left-as (list-some (nameAt (c .before .before .args .w .now)) (c .before .before .args .o .now) (c .before .before .args .n) (omega arith) (c .if1 .left)) begun)
 
-put-requires : tie.Need-put-requires Inv-loop μ-loop
-put-requires c κs = search needs
-
-mul-put-name : tie.Need-mul-put-name Inv-loop μ-loop
-mul-put-name c = search needs
-
-element-copy-out-put-name : tie.Need-element-copy-out-put-name Inv-loop μ-loop
-element-copy-out-put-name c = search needs
-
-put-name-requires : tie.Need-put-name-requires Inv-loop μ-loop
-put-name-requires c κs = search needs
-
-add-k : tie.Need-add-k Inv-loop μ-loop
-add-k c = search needs
-
-loop-less : tie.Need-loop-less Inv-loop μ-loop
-loop-less c = search needs
-
 loop-again : tie.Need-loop-again Inv-loop μ-loop
 loop-again c =
-    let o = c .before .before .before .before .before .before .before .before .before .before .before .before .before .args .o .now in
-    let n = c .before .before .before .before .before .before .before .before .before .before .before .before .before .args .n in
-    let l = c .before .before .before .before .before .before .before .before .before .before .loop in (
+    let past = c .before .before .before .before .before .before .before in
+    let o = past .before .before .before .before .before .before .args .o .now in
+    let n = past .before .before .before .before .before .before .args .n in
+    let l = past .before .before .before .loop in (
       omega arith,
-      omega (arith, l .inv, c .before .before .before .before .before .before .before .put .kept, c .before .before .put-name .kept),
-      step (step (left-as (chain-next (nameAt (c .before .before .before .before .before .before .before .before .before .before .before .before .before .args .w .now)) o n (omega arith) (l .sign) (l .k) (c .before .before .before .before .before .before .before .before .before .loop-test .taken)) (l .inv .2)) (c .before .before .before .before .before .before .before .put .ensures)) (c .before .before .put-name .ensures),
+      omega (arith, l .inv, past .put .kept, c .before .before .put-name .kept),
+      step (step (left-as (chain-next (nameAt (past .before .before .before .before .before .before .args .w .now)) o n (omega arith) (l .sign) (l .k) (past .before .before .loop-test .taken)) (l .inv .2)) (past .put .ensures)) (c .before .before .put-name .ensures),
     )
-
-put-requires-2 : tie.Need-put-requires-2 Inv-loop μ-loop
-put-requires-2 c κs = search needs
 
 same-length : tie.Need-same-length Inv-loop μ-loop
 same-length c = omega (arith, c .before .before .before .before .before .loop .inv, c .before .before .put2 .kept)
 
 returns-2 : tie.Need-returns-2 Inv-loop μ-loop
 returns-2 c =
-    last (left-as (chain-end (nameAt (c .before .before .before .before .before .before .before .before .args .w .now)) (c .before .before .before .before .before .before .before .before .args .o .now) (c .before .before .before .before .before .before .before .before .args .n) (omega arith) (c .before .before .before .before .before .loop .sign) (c .before .before .before .before .before .loop .k) (c .before .before .before .before .loop-test .left)) (c .before .before .before .before .before .loop .inv .2)) (c .before .before .put2 .ensures)
+    let past = c .before .before .before .before in
+    last (left-as (chain-end (nameAt (past .before .before .before .before .args .w .now)) (past .before .before .before .before .args .o .now) (past .before .before .before .before .args .n) (omega arith) (past .before .loop .sign) (past .before .loop .k) (past .loop-test .left)) (past .before .loop .inv .2)) (c .before .before .put2 .ensures)
 
 pub put-list-spec : {M : Type 1} → statement M
 put-list-spec =
@@ -72,13 +53,13 @@ put-list-spec =
     μ-loop
     returns
     loop-holds
-    put-requires
-    mul-put-name
-    element-copy-out-put-name
-    put-name-requires
-    add-k
-    loop-less
+    (λ c κs. search needs)
+    (λ c. search needs)
+    (λ c. search needs)
+    (λ c κs. search needs)
+    (λ c. search needs)
+    (λ c. search needs)
     loop-again
-    put-requires-2
+    (λ c κs. search needs)
     same-length
     returns-2)
