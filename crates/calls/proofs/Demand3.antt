@@ -21,9 +21,9 @@ use Rattle.table.specs.declared.State.{State}
 use Rattle.table.specs.Meaning.{contextOf, netOf, networkOf}
 use Rattle.text.specs.Questions.{read}
 use Rattle.text.proofs.Gives.{read-unmarked}
-use Rattle.text_read.proofs.Answering.{Among, among}
-use Rattle.text_read.specs.declared.Reading.{Reading}
-use Rattle.text_read.specs.Answer.{readsAs, ReadsAs}
+use Rattle.text_read.proofs.Numbers.{Among, among}
+use Rattle.text_answer.specs.declared.Reading.{Reading}
+use Rattle.text_answer.specs.Answer.{readsAs, ReadsAs}
 use Rattle.calls.specs.Run.{Given, Run, Mixed, RunsAs}
 use Rattle.calls.specs.Demand3.{Demand3, textRuns}
 use Rattle.calls.proofs.Straight.{straight-run}

@@ -12,8 +12,8 @@ use Rattle.terms.specs.Runs.{Fed}
 use Rattle.table.specs.declared.State.{State}
 use Rattle.table.specs.Meaning.{contextOf, netOf}
 use Rattle.text.specs.Questions.{read}
-use Rattle.text_read.specs.declared.Reading.{Reading}
-use Rattle.text_read.specs.Answer.{Took, ReadsAs}
+use Rattle.text_answer.specs.declared.Reading.{Reading}
+use Rattle.text_answer.specs.Answer.{Took, ReadsAs}
 use Rattle.calls.specs.declared.RanText.{RanText}
 use Rattle.calls.specs.Run.{Given, Run, Mixed, RunsAs}
 

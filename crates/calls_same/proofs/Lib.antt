@@ -1,5 +1,2 @@
-pub mod Decided
-pub mod Fronts
-pub mod Pieces
-pub mod Networks
+pub mod Parted
 pub mod Matched

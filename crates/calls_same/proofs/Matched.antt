@@ -3,9 +3,12 @@
 use Prim.Native.Nat.{ℕ, zero, suc, _+_, _-_, _≤_, _<_}
 use native.Mathlib.Omega.{arith}
 use mathlib.Core.List.{List, [], _∷_, map}
-use mathlib.Core.Bool.{Bool, true, false, false≢true}
+use mathlib.Core.Bool.{Bool, true, false, cond, false≢true}
 use mathlib.Core.Path.{_≡_, refl, ap, sym, _∙_}
 use lib.ListN.{length, getD, set, drop, replicate, length-map, length-set, drop-of-length-le}
+use lib.Dec.{eqb}
+use lib.Seq.{getD-set-same, getD-set-other}
+use borrow.Author.Tests.{eqb-true, eqb-false}
 use Rattle.terms.specs.Terms.{Component}
 use Rattle.terms.specs.Rules.{some}
 use Rattle.terms.specs.Same.{equal, without, reordered}
@@ -16,7 +19,7 @@ use Rattle.table.specs.declared.Comp.{Comp}
 use Rattle.table.specs.declared.State.{State}
 use Rattle.table.specs.Meaning.{compIn, means, compsOf, netOf, noComp}
 use Rattle.table.proofs.InUse.{comps-length, in-use, comp-at}
-use Rattle.calls_same.specs.Unused.{unused}
+use Rattle.calls_same.specs.Unused.{unused, raisedTo}
 
 -- ── how many ──
 total-long : (cs : List Component) → total (λ c. 1) cs ≡ length cs
@@ -103,6 +106,30 @@ none-left {A} f us cs = go (unused us cs)
     go : (ds : List A) → length ds ≡ 0 → true ≡ reordered [] (map f ds)
     go [] e = refl
     go (d ∷ ds) e = absurd (omega arith)
+
+-- ── the positions that are all used ──
+abbrev pub Used : List Bool → ℕ → Type 0
+Used us low = (m : ℕ) → m < low → getD us m false ≡ true
+
+pub used-more : (us : List Bool) (low p : ℕ) → p < length us → Used us low → Used (set us p true) (raisedTo low p)
+unfolding raisedTo
+used-more us low p h u m = by (eqb p low) refl (eqb m p) refl
+  where
+    by : (a : Bool) → eqb p low ≡ a → (b : Bool) → eqb m p ≡ b → m < cond a (p + 1) low → getD (set us p true) m false ≡ true
+    by a q true e l = ap (λ z. getD (set us p true) z false) (eqb-true m p e) ∙ getD-set-same us p true false h
+    by true q false e l = getD-set-other us p m true false (eqb-false m p e) ∙ u m (below m (eqb-false m p e) (eqb-true p low q) l)
+      where
+        below : (i : ℕ) → (i ≡ p → ⊥) → p ≡ low → i < p + 1 → i < low
+        below i d z b = omega (arith, d)
+    by false q false e l = getD-set-other us p m true false (eqb-false m p e) ∙ u m l
+
+pub raised-small : (low p n : ℕ) → low ≤ n → p < n → raisedTo low p ≤ n
+unfolding raisedTo
+raised-small low p n h l = by (eqb p low)
+  where
+    by : (a : Bool) → cond a (p + 1) low ≤ n
+    by true = omega arith
+    by false = h
 
 -- ── the components of two tables ──
 pub net-length : (w : List ℕ) (st : State) → length (netOf w st) ≡ st .n

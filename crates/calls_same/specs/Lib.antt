@@ -1,4 +1,3 @@
-pub mod Decides
 pub mod Pieces
 pub mod Unused
 pub mod Answer

@@ -1,20 +1,14 @@
 // Layer 3, the call `same`: are two networks in their table form the same?
 //
 // specs/Answer   what the call answers
-// specs/Decides  an answer whether two things are one
-// specs/Pieces   the pieces in which parts are compared
+// specs/Pieces   the pieces in which components are compared
 // specs/Unused   the components not yet matched
 //
-// parts    names, timers, values, parts and processes
-// network  components, definitions
+// comps  components
 //
-// proofs/Decided   answers whether two things are one, carried over to other things
-// proofs/Fronts    the first elements of two lists: arguments, parameters
-// proofs/Pieces    the part at a place in its pieces, under the values of slots
-// proofs/Networks  definitions and components of two tables, from a position on
-// proofs/Matched   the components of one network matched with the unused ones of another
-mod network;
-mod parts;
+// proofs/Parted   a component of a table in its pieces
+// proofs/Matched  the components of one network matched with the unused ones of another
+mod comps;
 
 ghost use mathlib.Core.Path.{_≡_};
 ghost use mathlib.Core.Bool.{true};
@@ -22,8 +16,8 @@ ghost use Rattle.terms.specs.Same.{same};
 ghost use Rattle.table.specs.Meaning.{networkOf};
 ghost use Rattle.table.specs.Valid.{valid};
 ghost use Rattle.calls_same.specs.Answer.{sameAnswer, compared};
-use network::defs_within;
-use network::same_comps;
+use calls_alike::defs::defs_within;
+use comps::same_comps;
 use table::Script;
 use table::Words;
 use table_valid::is_valid;

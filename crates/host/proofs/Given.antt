@@ -10,9 +10,9 @@ use borrow.Author.Tests.{le-leb, lt-leb}
 use Rattle.terms.specs.Rules.{Answer}
 use Rattle.terms.specs.Rules.Answer.{refused}
 use Rattle.text_write.specs.declared.Written.{Written}
-use Rattle.text_write.specs.Put.{Wrote}
+use Rattle.text_letters.specs.Put.{Wrote}
 use Rattle.text_write.specs.Answer.{Answers}
-use Rattle.text_write.proofs.Puts.{after-room, over-whole}
+use Rattle.text_letters.proofs.Puts.{after-room, over-whole}
 use Rattle.host.specs.Shown.{holding}
 
 module _ (s d : List ℕ) where

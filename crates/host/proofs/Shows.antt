@@ -9,8 +9,8 @@ use lib.Dec.{leb, ltb}
 use lib.ListN.{length, take, drop, length-append, length-drop, take-append-drop, drop-of-length-le}
 use lib.Seq.{set-out, take-all, take-append-le, length-take-le}
 use borrow.Author.Tests.{leb-true, leb-false}
-use Rattle.text_write.specs.Put.{next, over, Wrote}
-use Rattle.text_write.proofs.Puts.{begun, left-as, step, after-room, after-full, over-whole}
+use Rattle.text_letters.specs.Put.{next, over, Wrote}
+use Rattle.text_letters.proofs.Puts.{begun, left-as, step, after-room, after-full, over-whole}
 use Rattle.host.specs.Shown.{Shows}
 
 next-grows : (at : ℕ) → at ≤ next at

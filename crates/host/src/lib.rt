@@ -29,9 +29,9 @@ use table::Words;
 use table::words::wide;
 use table::words::word;
 use table_valid::is_valid;
+use text_letters::put_all;
+use text_letters::put_name;
 use text_write::Written;
-use text_write::put::put_all;
-use text_write::put::put_name;
 
 // How many: 0 or the number of the question answered by no, and the number, which is 0 with a refusal.
 #[repr(C)]

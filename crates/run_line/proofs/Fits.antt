@@ -24,8 +24,8 @@ use Rattle.table.specs.Fire.{Tag, ActedAt, labelOf, actOn}
 use Rattle.table.proofs.Names.{short-enough}
 use Rattle.table.proofs.Fires.{mapA, actedOf, act-means}
 use Rattle.calls_act.proofs.Positions.{valid-parts}
-use Rattle.text_write.specs.Put.{Wrote}
-use Rattle.text_write.proofs.Puts.{after-room, over-whole}
+use Rattle.text_letters.specs.Put.{Wrote}
+use Rattle.text_letters.proofs.Puts.{after-room, over-whole}
 use Rattle.run_line.specs.Line.{labelText, spaced, lineText, stepLabels}
 use Rattle.run_line.specs.Records.{labelBy}
 use Rattle.run_line.proofs.Labels.{step-before}

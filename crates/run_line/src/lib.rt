@@ -17,7 +17,7 @@ ghost use Rattle.table.specs.Words.{nameAt, locName, chanName};
 ghost use Rattle.table.specs.Valid.{valid};
 ghost use Rattle.table.specs.Fire.{labelOf};
 ghost use Rattle.calls_act.specs.Fired.{tagOf};
-ghost use Rattle.text_write.specs.Put.{Wrote};
+ghost use Rattle.text_letters.specs.Put.{Wrote};
 ghost use Rattle.run_line.specs.Line.{labelText, spaced, lineText, stepLabels};
 ghost use Rattle.run_line.specs.Records.{labelIn, mayFire, Holds};
 use calls_act::Label;
@@ -30,9 +30,9 @@ use table::ROW_SIZE;
 use table::Script;
 use table::Words;
 use table::words::wide;
-use text_write::put::put;
-use text_write::put::put_all;
-use text_write::put::put_name;
+use text_letters::put;
+use text_letters::put_all;
+use text_letters::put_name;
 
 // `x@l`, where the name x stands at the word o.
 fn put_named(w: &Script, o: usize, l: u32, buf: &mut [u8], at: usize) -> usize

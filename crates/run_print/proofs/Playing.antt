@@ -1,25 +1,19 @@
--- The ways of the code to the printout: a refusal, a step, the network, the rounds.
+-- The ways of the code to the printout: the network, the rounds, a refusal.
 use Prim.Native.Nat.{ℕ, zero, suc, _+_, _-_, _≤_, _<_}
 use native.Mathlib.Omega.{arith}
 use native.Mathlib.Numerals.{add-one}
 use mathlib.Core.Bool.{Bool, true, false, cond}
 use mathlib.Core.List.{List, [], _∷_, _++_, append-nil}
 use mathlib.Core.Path.{_≡_, refl, sym, ap, _∙_}
-use borrow.Author.Tests.{le-leb, lt-ltb, leb-true}
+use borrow.Author.Tests.{leb-true}
 use lib.Dec.{leb}
 use lib.ListN.{length, take, drop, getD, drop-of-length-le}
 use lib.Seq.{take-at, drop-at, drop-cons}
-use Rattle.terms.specs.Names.{Name, bytes}
-use Rattle.terms.specs.Terms.{Component, Context, Network}
-use Rattle.terms.specs.Rules.{Answer, Action, _>>=_}
+use Rattle.terms.specs.Names.{Name}
+use Rattle.terms.specs.Terms.{Network}
+use Rattle.terms.specs.Rules.{Answer}
 use Rattle.terms.specs.Rules.Answer.{refused, accepted}
-use Rattle.terms.specs.Step.{Swept, fires, step}
-use Rattle.terms.proofs.Steps.{step-accepted}
-use Rattle.text.specs.Tokens.{lex}
-use Rattle.text.specs.Tree.{Tree, networkOf}
-use Rattle.text.specs.Grammar.{Rest, text}
-use Rattle.text.specs.Grammar.Rest.{ok, bad}
-use Rattle.text.specs.Questions.{ask, _>>_, short, whole, form, shallow, fits, definedOnce, callsMet, bound, read}
+use Rattle.text.specs.Questions.{form, read}
 use Rattle.table.specs.declared.State.{State}
 use Rattle.table.specs.Words.{locsIn, locName}
 use Rattle.table.specs.Meaning.{compIn, contextOf, netOf, networkOf as tableNetwork}
@@ -27,24 +21,20 @@ use Rattle.table.specs.Valid.{valid}
 use Rattle.table.proofs.Tests.{length-listFrom, getD-listFrom, script-fine, comp-fine}
 use Rattle.text_build.specs.Rows.{locsOf}
 use Rattle.calls_act.proofs.Positions.{valid-parts, comp-good}
-use Rattle.calls_act.specs.Acted.{asked}
-use Rattle.calls_tick.specs.Ticked.{room}
-use Rattle.calls_step.specs.declared.Stepped.{Stepped}
-use Rattle.calls_step.specs.Stepped.{stepOf, stepRule, stepAnswer, left, stepsAs}
 use Rattle.text_write.specs.declared.Written.{Written}
-use Rattle.text_write.specs.Put.{Wrote}
-use Rattle.text_write.specs.Answer.{textOf, noMark, writeAnswer, Answers}
-use Rattle.text_write.proofs.Puts.{same, Left, begun, last, left-as}
-use Rattle.run_line.specs.Line.{lineText, stepLabels}
-use Rattle.run_line.proofs.Fits.{fires-few}
-use Rattle.text_read.specs.declared.Reading.{Reading}
-use Rattle.text_read.specs.Answer.{locationsIn, refusal, readsAs}
-use Rattle.text_read.proofs.Answering.{Among, among}
-use Rattle.run_print.specs.declared.Turned.{Turned}
-use Rattle.run_print.specs.Print.{refusedText, Turn, turnOf, ending, followed, playing, four, printed, printout}
-use Rattle.run_print.specs.Pieces.{copies, remaining, playingPieces, piecesOf, pieces}
-use Rattle.run_print.specs.Turned.{TurnIs}
-use Rattle.text_write.proofs.Puts.{step as put-step}
+use Rattle.text_letters.specs.Put.{Wrote}
+use Rattle.text_network.specs.Text.{textOf, noMark}
+use Rattle.text_write.specs.Answer.{writeAnswer, Answers}
+use Rattle.text_letters.proofs.Puts.{Left, begun, last, left-as}
+use Rattle.text_answer.specs.declared.Reading.{Reading}
+use Rattle.text_answer.specs.Answer.{locationsIn, refusal, readsAs}
+use Rattle.text_read.proofs.Numbers.{Among, among}
+use Rattle.run_turn.specs.declared.Turned.{Turned}
+use Rattle.run_turn.specs.Turn.{refusedText, Turn, turnOf}
+use Rattle.run_turn.specs.Turned.{TurnIs}
+use Rattle.run_print.specs.Print.{ending, followed, playing, four, printed, printout}
+use Rattle.run_print.specs.Rounds.{copies, remaining}
+use Rattle.text_letters.proofs.Puts.{step as put-step}
 
 -- ── a valid network has at least one location, and at most 64 ──
 pub locs-few : (w : List ℕ) (st : State) → valid w st ≡ true → locsIn w ≤ 64
@@ -56,59 +46,6 @@ locs-some w st g =
     let c = comp-fine w (compIn (st .c) 0) (comp-good w st g 0 (v .1 .some)) in
     let h = c .loc in
     omega arith
-
--- ── a step ──
--- where question 17 is answered by yes, the step without it is the step
-pub as-answer : (w : List ℕ) (st : State) (l size : ℕ) (r : Stepped) (ds : List ℕ) (before after : List (List ℕ)) → valid w st ≡ true → stepsAs w st (stepRule w st l size) r ds before after → stepsAs w st (stepAnswer w st l size) r ds before after
-unfolding stepAnswer
-as-answer w st l size r ds before after v s = rw v s
-
-module _ (w : List ℕ) (st : State) (l : ℕ) (good : valid w st ≡ true) (inl : l < locsIn w) where
-  abbrev D : Context
-  D = contextOf w
-
-  abbrev N : Name
-  N = locName w l
-
-  abbrev C : List Component
-  C = netOf w st
-
-  -- a step of so few components has space for its records, so it is refused only for want of components
-  module _ (few : length C ≤ 256) where
-    answer-is : stepAnswer w st l 256 ≡ (step D N C >>= λ s. room (s .comps) >>= λ cs. accepted (stepOf (s .actions) cs))
-    unfolding stepAnswer stepRule
-    answer-is = rw (good, lt-ltb l (locsIn w) inl, le-leb (length (fires D N C .actions)) 256 (omega (arith, fires-few D N C)))
-
-    module _ (r : Stepped) (ds : List ℕ) (before after : List (List ℕ)) (s : stepsAs w st (stepAnswer w st l 256) r ds before after) where
-      here : (x : Swept) → step D N C ≡ accepted x → stepsAs w st (room (x .comps) >>= λ cs. accepted (stepOf (x .actions) cs)) r ds before after
-      here x e = rw (answer-is ∙ ap (λ y. y >>= λ s. room (s .comps) >>= λ cs. accepted (stepOf (s .actions) cs)) e) at s
-
-      turn-at : (x : Swept) → step D N C ≡ accepted x → turnOf D N C ≡ (room (x .comps) >>= λ ds. accepted (record { line = lineText N (fires D N C .labels); comps = ds }))
-      unfolding turnOf
-      turn-at x e = ap (λ y. y >>= λ s. room (s .comps) >>= λ ds. accepted (record { line = lineText N (fires D N C .labels); comps = ds })) e
-
-      module _ {d e : List ℕ} {at a : ℕ} where
-        pub turn-stopped : (any : State) → (r .code ≡ 0 → ⊥) → Wrote d at (refusedText (r .code)) e a → TurnIs w (turnOf D N C) d at e (record { code = r .code; at = a; state = any })
-        unfolding room
-        turn-stopped any n b = by-step _ (step-accepted D N C)
-          where
-            go : (y : Bool) (cs : List Component) (xs : List Action) (ln : List ℕ) → stepsAs w st (asked 13 y (accepted cs) >>= λ cs. accepted (stepOf xs cs)) r ds before after → TurnIs w (asked 13 y (accepted cs) >>= λ ds. accepted (record { line = ln; comps = ds })) d at e (record { code = r .code; at = a; state = any })
-            go true cs xs ln s = absurd (n (s .code))
-            go false cs xs ln s = record { code = n; wrote = same (ap refusedText (ap (λ x. x .code) (s .0))) b }
-
-            by-step : (x : Swept) → step D N C ≡ accepted x → TurnIs w (turnOf D N C) d at e (record { code = r .code; at = a; state = any })
-            by-step x f = rw (turn-at x f) (go (leb (length (x .comps)) 256) (x .comps) (x .actions) (lineText N (fires D N C .labels)) (here x f))
-
-        pub turn-went : r .code ≡ 0 → Wrote d at (lineText N (stepLabels w st l)) e a → TurnIs w (turnOf D N C) d at e (record { code = 0; at = a; state = left r ds })
-        unfolding room
-        turn-went z b = by-step _ (step-accepted D N C)
-          where
-            go : (y : Bool) (cs : List Component) (xs : List Action) → stepsAs w st (asked 13 y (accepted cs) >>= λ cs. accepted (stepOf xs cs)) r ds before after → TurnIs w (asked 13 y (accepted cs) >>= λ ds. accepted (record { line = lineText N (stepLabels w st l); comps = ds })) d at e (record { code = 0; at = a; state = left r ds })
-            go true cs xs s = record { code = refl; comps = s .comps; good = s .good; wrote = b }
-            go false cs xs s = let h : r .code ≡ 13 = ap (λ x. x .code) (s .0) in absurd (omega arith)
-
-            by-step : (x : Swept) → step D N C ≡ accepted x → TurnIs w (turnOf D N C) d at e (record { code = 0; at = a; state = left r ds })
-            by-step x f = rw (turn-at x f) (go (leb (length (x .comps)) 256) (x .comps) (x .actions) (here x f))
 
 -- ── the network ──
 module _ (w : List ℕ) (st : State) (good : valid w st ≡ true) {t t′ : List ℕ} (long : length t ≡ 65_536) (r : Written) (x : Answers (writeAnswer w st (length t)) t r t′) where
@@ -243,14 +180,6 @@ module _ (s u w v : List ℕ) (r : Reading) (x : readsAs s (read s) u w v r) whe
       go (refused m) k = ap refusedText (ap (λ q. q .code) (k .0))
       go (accepted m) k = absurd (n (k .code))
 
-  pub whole-stopped : (r .code ≡ 0 → ⊥) → refusedText (r .code) ∷ [] ≡ pieces s
-  unfolding pieces
-  whole-stopped n = go (read s) x
-    where
-      go : (y : Answer Network) → readsAs s y u w v r → refusedText (r .code) ∷ [] ≡ piecesOf (locationsIn (form s)) y
-      go (refused m) k = ap (λ n. refusedText n ∷ []) (ap (λ q. q .code) (k .0))
-      go (accepted m) k = absurd (n (k .code))
-
   pub whole-number : (r .code ≡ 0 → ⊥) → r .code < 8
   whole-number n = go (read s) (among s) x
     where
@@ -259,7 +188,7 @@ module _ (s u w v : List ℕ) (r : Reading) (x : readsAs s (read s) u w v r) whe
       go (accepted m) a k = absurd (n (k .code))
 
   module _ (z : r .code ≡ 0) where
-    not-refused : (m : ℕ) → read s ≡ refused m → r ≡ refusal m → ⊥
+    pub not-refused : (m : ℕ) → read s ≡ refused m → r ≡ refusal m → ⊥
     not-refused m e k = let h : r .code ≡ m = ap (λ q. q .code) k in let a : Among (refused m) = rw e at (among s) in omega arith
 
     pub whole-good : valid v (r .state) ≡ true
@@ -274,13 +203,5 @@ module _ (s u w v : List ℕ) (r : Reading) (x : readsAs s (read s) u w v r) whe
     whole-printed = go (read s) refl x
       where
         go : (y : Answer Network) → read s ≡ y → readsAs s y u w v r → playing (contextOf v) (four (locsOf v)) (netOf v (r .state)) ≡ printed (locationsIn (form s)) y
-        go (refused m) e k = absurd (not-refused m e (k .0))
-        go (accepted m) e k = rw (k .locs, ← k .network)
-
-    pub whole-playingPieces : playingPieces (contextOf v) (four (locsOf v)) (netOf v (r .state)) ≡ pieces s
-    unfolding pieces tableNetwork contextOf
-    whole-playingPieces = go (read s) refl x
-      where
-        go : (y : Answer Network) → read s ≡ y → readsAs s y u w v r → playingPieces (contextOf v) (four (locsOf v)) (netOf v (r .state)) ≡ piecesOf (locationsIn (form s)) y
         go (refused m) e k = absurd (not-refused m e (k .0))
         go (accepted m) e k = rw (k .locs, ← k .network)

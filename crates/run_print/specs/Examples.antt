@@ -9,7 +9,8 @@ use Rattle.text.specs.Questions.{questions}
 use Rattle.text.specs.Write.{writing}
 use Rattle.calls_tick.specs.Ticked.{room}
 use Rattle.run_line.specs.Line.{labelText, spaced, lineText}
-use Rattle.run_print.specs.Print.{refusedText, turnOf, ending, playing, printout}
+use Rattle.run_turn.specs.Turn.{refusedText, turnOf}
+use Rattle.run_print.specs.Print.{ending, playing, printout}
 
 own : printout (bytes "Page(x) = go(0,x,out(c,1,x,stop,stop)) .\nA[Page(B)] | B[in(c,2,y,go(0,y,stop),stop)] .\n")
     ≡ bytes "A Page@A\nB\nA B@A\nB c<B>@B\nA\nB B@B\nA\nB\nPage(x) = go(0,x,out(c,1,x,stop,stop)) .\nB[stop] | B[stop] .\n"

@@ -1,4 +1,3 @@
 pub mod Print
-pub mod Turned
-pub mod Pieces
+pub mod Rounds
 pub mod Examples

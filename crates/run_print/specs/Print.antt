@@ -5,30 +5,15 @@ use mathlib.Core.List.{List, [], _∷_, _++_}
 use mathlib.Core.Bool.{cond}
 use lib.Dec.{leb}
 use lib.ListN.{length}
-use Rattle.terms.specs.Names.{Name, bytes}
+use Rattle.terms.specs.Names.{Name}
 use Rattle.terms.specs.Terms.{Component, Context, Network, contextIn}
-use Rattle.terms.specs.Rules.{Answer, unmarked, _>>=_}
+use Rattle.terms.specs.Rules.{Answer, unmarked}
 use Rattle.terms.specs.Rules.Answer.{refused, accepted}
-use Rattle.terms.specs.Step.{fires, step}
 use Rattle.terms.specs.Same.{every}
-use Rattle.text.specs.Tokens.{digits}
 use Rattle.text.specs.Questions.{form, read}
 use Rattle.text.specs.Write.{write}
-use Rattle.calls_tick.specs.Ticked.{room}
-use Rattle.run_line.specs.Line.{lineText}
-use Rattle.text_read.specs.Answer.{locationsIn}
-
--- `refused N`
-unfoldable pub refusedText : ℕ → List ℕ
-refusedText n = bytes "refused " ++ (digits n ++ bytes "\n")
-
--- a step at l: its line, and the components after it
-pub record Turn : Type 0 where
-  pub line : List ℕ
-  pub comps : List Component
-
-unfoldable pub turnOf : Context → Name → List Component → Answer Turn
-turnOf d l cs = step d l cs >>= λ s. room (s .comps) >>= λ ds. accepted (record { line = lineText l (fires d l cs .labels); comps = ds })
+use Rattle.run_turn.specs.Turn.{Turn, refusedText, turnOf}
+use Rattle.text_answer.specs.Answer.{locationsIn}
 
 -- the network, in 65,536 bytes
 unfoldable pub ending : Context → List Component → List ℕ

@@ -73,11 +73,18 @@ arg-in w i ys vs n k e m h f z = go (ltb k n) refl
     go false q = lt-ltb 0 (locsIn w) z
 
 -- ── what an action leaves ──
+-- each component that is left passes the test f
+abbrev pub inLeft : (Comp → Bool) → Left → Bool
+inLeft f x = every f (x .after)
+
+abbrev pub inActed : (Comp → Bool) → ActedAt → Bool
+inActed f r = every f (r .comps)
+
 abbrev pub goodLeft : List ℕ → Left → Bool
-goodLeft w f = every (compOk w) (f .after)
+goodLeft w x = inLeft (compOk w) x
 
 abbrev pub goodActed : List ℕ → ActedAt → Bool
-goodActed w r = every (compOk w) (r .comps)
+goodActed w r = inActed (compOk w) r
 
 left-ok : (w : List ℕ) (l k i : ℕ) (vs : List ℕ) → l < locsIn w → k < locsIn w → i < partsIn w → length vs ≡ 8 → every (inRange w) vs ≡ true → compOk w (leftAt l k i vs) ≡ true
 unfolding leftAt markOk timerOk
@@ -164,25 +171,32 @@ all-every f [] ys xs e h = e
 all-every f (p ∷ ps) [] xs e h = e
 all-every f (p ∷ ps) (y ∷ ys) xs e h = let a = and-inv (f y) _ h in all-every f ps ys (R.set xs p y) (put-every f xs p y e (a .0)) (a .1)
 
-module _ (w : List ℕ) (good : scriptOk w ≡ true) (cs : List Comp) (fine : every (compOk w) cs ≡ true) where
-  put-kept : (ps : List ℕ) (x : Answer Left) → okA (goodLeft w) x ≡ true → okA (goodActed w) (x >>= λ f. accepted (record { tag = f .tag; comps = setAll ps (f .after) cs })) ≡ true
-  put-kept ps (refused n) h = refl
-  put-kept ps (accepted f) h = all-every (compOk w) ps (f .after) cs fine h
+-- what holds of each component holds of each after an action, if it holds of what the action leaves of components of which it held; q is known of each beforehand
+module _ (w : List ℕ) (q f : Comp → Bool) (cs : List Comp) (known : every q cs ≡ true) (holds : every f cs ≡ true)
+    (alone : (k : Kind) (c : Comp) → q c ≡ true → f c ≡ true → okA (inLeft f) (aloneAt w k c) ≡ true)
+    (together : (c e : Comp) → q c ≡ true → q e ≡ true → f c ≡ true → f e ≡ true → okA (inLeft f) (togetherAt w c e) ≡ true) where
+  put-keeps : (ps : List ℕ) (x : Answer Left) → okA (inLeft f) x ≡ true → okA (inActed f) (x >>= λ x. accepted (record { tag = x .tag; comps = setAll ps (x .after) cs })) ≡ true
+  put-keeps ps (refused n) h = refl
+  put-keeps ps (accepted x) h = all-every f ps (x .after) cs holds h
 
-  -- components stay good under an action
-  pub act-kept : (a : Action) → okA (goodActed w) (actOn w a cs) ≡ true
+  pub act-keeps : (a : Action) → okA (inActed f) (actOn w a cs) ≡ true
   unfolding actOn leftBy
-  act-kept (single k p) = go (at cs p) refl
+  act-keeps (single k p) = go (at cs p) refl
     where
-      go : (x : Answer Comp) → at cs p ≡ x → okA (goodActed w) ((x >>= λ c. aloneAt w k c) >>= λ f. accepted (record { tag = f .tag; comps = setAll (positions (single k p)) (f .after) cs })) ≡ true
+      go : (x : Answer Comp) → at cs p ≡ x → okA (inActed f) ((x >>= λ c. aloneAt w k c) >>= λ y. accepted (record { tag = y .tag; comps = setAll (positions (single k p)) (y .after) cs })) ≡ true
       go (refused n) e = refl
-      go (accepted c) e = put-kept (positions (single k p)) (aloneAt w k c) (alone-kept w good k c (comp-fine w c (every-at (compOk w) cs p c fine e)))
-  act-kept (pair p q) = go (at cs p) refl (at cs q) refl
+      go (accepted c) e = put-keeps (positions (single k p)) (aloneAt w k c) (alone k c (every-at q cs p c known e) (every-at f cs p c holds e))
+  act-keeps (pair p r) = go (at cs p) refl (at cs r) refl
     where
-      go : (x : Answer Comp) → at cs p ≡ x → (y : Answer Comp) → at cs q ≡ y → okA (goodActed w) ((x >>= λ c. y >>= λ e. togetherAt w c e) >>= λ f. accepted (record { tag = f .tag; comps = setAll (positions (pair p q)) (f .after) cs })) ≡ true
+      go : (x : Answer Comp) → at cs p ≡ x → (y : Answer Comp) → at cs r ≡ y → okA (inActed f) ((x >>= λ c. y >>= λ e. togetherAt w c e) >>= λ z. accepted (record { tag = z .tag; comps = setAll (positions (pair p r)) (z .after) cs })) ≡ true
       go (refused n) e y h = refl
       go (accepted c) e (refused n) h = refl
-      go (accepted c) e (accepted b) h = put-kept (positions (pair p q)) (togetherAt w c b) (together-kept w good c b (comp-fine w c (every-at (compOk w) cs p c fine e)) (comp-fine w b (every-at (compOk w) cs q b fine h)))
+      go (accepted c) e (accepted b) h = put-keeps (positions (pair p r)) (togetherAt w c b) (together c b (every-at q cs p c known e) (every-at q cs r b known h) (every-at f cs p c holds e) (every-at f cs r b holds h))
+
+-- components stay good under an action
+pub act-kept : (w : List ℕ) → scriptOk w ≡ true → (cs : List Comp) → every (compOk w) cs ≡ true → (a : Action) → okA (goodActed w) (actOn w a cs) ≡ true
+act-kept w good cs fine =
+    act-keeps w (compOk w) (compOk w) cs fine fine (λ k c o h. alone-kept w good k c (comp-fine w c o)) (λ c e o u h v. together-kept w good c e (comp-fine w c o) (comp-fine w e u))
 
 -- ── the tick ──
 fresh-timer : (w : List ℕ) (i : ℕ) (h : Head) → headOk w i h ≡ true → timerOk (timerIn h) ≡ true

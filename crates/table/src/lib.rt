@@ -1,4 +1,4 @@
-// Layer 1, the table: what a network is in memory, what it stands for, and what question 17 asks. Its code is in table_valid.
+// Layer 1, the table: what a network is in memory, what it stands for, and what question 17 asks. Its code is in table_names, table_scopes, table_parts and table_valid.
 //
 //   specs/Words     the words of a script
 //   specs/Meaning   the network that a script and a state stand for

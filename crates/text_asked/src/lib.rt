@@ -1,7 +1,8 @@
 // Layer 2, reading and writing: questions 4 to 7 asked of the script that the second pass of reading wrote. What they say of the text: proofs/Asked* of text_tree.
 //
-//   src/lib      one function for each question, one for each row or definition that it goes through
-//   proofs/Rows  what a part's first word says of its tests
+//   specs/Answer  the number of the first question that is answered by no
+//   src/lib       one function for each question, one for each row or definition that it goes through, one for all
+//   proofs/Rows   what a part's first word says of its tests
 ghost use mathlib.Core.Path.{_≡_};
 ghost use mathlib.Core.List.{[], _∷_};
 ghost use Prim.Native.Nat.{_+_, _*_, _<_, _≤_};
@@ -11,6 +12,7 @@ ghost use Rattle.terms.specs.Letters.{distinct};
 ghost use Rattle.table.specs.Words.{partsIn, defsIn, field, headAt, paramsOf, countField};
 ghost use Rattle.table.specs.Valid.{below};
 ghost use Rattle.text_tree.specs.Asked.{roomy, apart, callHeld, callsHeld, inScope, valuesBound, allBound};
+ghost use Rattle.text_asked.specs.Answer.{asked};
 use table::ARG_FIELD;
 use table::COUNT_FIELD;
 use table::FIRST_PARAM;
@@ -24,7 +26,7 @@ use table::words::arity_of;
 use table::words::field;
 use table::words::wide;
 use table::words::word;
-use table_valid::all_apart;
+use table_names::all_apart;
 
 // ── 4 ──
 
@@ -164,4 +166,26 @@ pub fn all_bound(w: &Script) -> bool
         i += 1;
     }
     true
+}
+
+// ── 4 to 7 ──
+
+// Questions 4 to 7 asked of a script: 0, or the number of the first that is answered by no.
+pub fn asked(w: &Script) -> u32
+    requires { ⌜ (partsIn (now w) ≤ 4096) × (defsIn (now w) ≤ 32) ⌝ }
+    ensures { λ r. ⌜ r ≡ asked (now (w .entry)) ⌝ }
+{
+    if !roomy(w) {
+        return 4;
+    }
+    if !apart(w) {
+        return 5;
+    }
+    if !calls_held(w) {
+        return 6;
+    }
+    if !all_bound(w) {
+        return 7;
+    }
+    0
 }

@@ -28,7 +28,7 @@ use Rattle.table.specs.Meaning.{valuesOf, partOf, joined, processAt, partAt, li
 use Rattle.table.specs.Valid.{headOk, nextOk, scriptOk}
 use Rattle.table.proofs.Tests.{Inner, inner, part-fine, script-fine, every-name, every-append, getD-listFrom, length-listFrom}
 use Rattle.table.proofs.Places.{go-fine, out-fine, in-fine, process-is}
-use Rattle.text_write.proofs.Heads.{call-fine}
+use Rattle.text_process.proofs.Heads.{call-fine}
 use Rattle.text_back.proofs.Scope.{Covers, covers-entered, value-fit, values-fit}
 
 -- ── what holds of a part and of a process, at nesting d, where the names sc are bound and the definitions are ds ──

@@ -17,7 +17,8 @@ use Rattle.text.proofs.RoundTrip.{form-write, limited, only-limits, round-trip}
 use Rattle.table.specs.declared.State.{State}
 use Rattle.table.specs.Meaning.{netOf, networkOf}
 use Rattle.table.specs.Valid.{valid}
-use Rattle.text_write.specs.Answer.{textOf, noMark, writeAnswer}
+use Rattle.text_network.specs.Text.{textOf, noMark}
+use Rattle.text_write.specs.Answer.{writeAnswer}
 use Rattle.text_back.proofs.Tables.{back-sound, back-writable}
 
 module _ (w : List ℕ) (st : State) where

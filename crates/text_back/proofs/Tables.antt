@@ -26,9 +26,9 @@ use Rattle.table.specs.Valid.{sortOk, scriptOk, compOk, valid}
 use Rattle.table.proofs.Tests.{script-fine, def-fine, comp-fine, every-append}
 use Rattle.table.proofs.Splits.{unmarked-is}
 use Rattle.table.proofs.Fires.{scope-length, names-length}
-use Rattle.text_write.specs.Answer.{noMark}
+use Rattle.text_network.specs.Text.{noMark}
 use Rattle.table.proofs.InUse.{valid-script, valid-state, comps-length}
-use Rattle.text_write.proofs.Networks.{unmarked-table}
+use Rattle.text_network.proofs.Networks.{unmarked-table}
 use Rattle.text_back.proofs.Scope.{Covers, covers-none, covers-all, each-with, each-both, each-every, loc-form, loc-forms}
 use Rattle.text_back.proofs.Process.{FinePart, FineProcess, fine-one, fine-timer, timer-well, def-form, process-fits, part-at-fits}
 

@@ -1,9 +1,1 @@
-pub mod Defs
-pub mod Spreading
-pub mod Bracketed
-pub mod Keeping
-pub mod Quiet
-pub mod Beyond
-pub mod Kept
-pub mod Answering
-pub mod States
+pub mod Numbers

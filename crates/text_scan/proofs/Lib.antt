@@ -1,3 +1,3 @@
 pub mod Places
 pub mod Texts
-pub mod Limits
+pub mod Scanning

@@ -5,10 +5,11 @@
 // specs/Totals      the numbers of a text, added up
 // specs/Counting    the grammar's readers of texts, giving these numbers
 // specs/Answers     what the code's answers stand for, and `scanOf`
+// specs/Limits      questions 1 to 4 as far as the scan answers them
 //
 // proofs/Places     the numbers added up are those that `text` defines by places
 // proofs/Texts      definitions, located processes and texts as the code goes through them
-// proofs/Limits     what the scan answers, and questions 1 to 4 from it
+// proofs/Scanning   what the scan answers, and questions 1 to 4 from it
 ghost use mathlib.Core.Path.{_≡_};
 ghost use Prim.Native.Nat.{_<_};
 ghost use lib.ListN.{drop};
@@ -20,6 +21,7 @@ ghost use Rattle.text_parts.specs.Answers.{sized, after};
 ghost use Rattle.text_scan.specs.Totals.{cappedT};
 ghost use Rattle.text_scan.specs.Counting.{bodyCounts, defCounts, locatedCounts, manyCounts, networkCounts, textCounts};
 ghost use Rattle.text_scan.specs.Answers.{totaled, plusTotals, unreadScan, scanOf};
+ghost use Rattle.text_scan.specs.Limits.{limits};
 
 // Where definitions and located processes end, or 0, with their numbers: each stops one past its limit.
 pub struct Totals {
@@ -254,4 +256,32 @@ pub fn scan(text: &[u8]) -> Scanned
         parts: t.parts,
         components: t.components,
     }
+}
+
+// Questions 1 to 3, and 4 as far as the scan knows it: 0, or the number of the first that is answered by no.
+pub fn limits(c: Scanned) -> u32
+    ensures { λ r. ⌜ r ≡ limits c ⌝ }
+{
+    if !c.short {
+        return 1;
+    }
+    if !c.form {
+        return 2;
+    }
+    if 32 < c.nesting {
+        return 3;
+    }
+    if 32 < c.definitions {
+        return 4;
+    }
+    if 4 < c.parameters {
+        return 4;
+    }
+    if 4096 < c.parts {
+        return 4;
+    }
+    if 256 < c.components {
+        return 4;
+    }
+    0
 }

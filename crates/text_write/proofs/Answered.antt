@@ -12,9 +12,10 @@ use lib.Seq.{take-at, paste, paste-suc}
 use borrow.Author.Tests.{le-leb, lt-leb, ltb-true, ltb-false}
 use Rattle.table.specs.declared.State.{State}
 use Rattle.table.specs.Valid.{valid}
-use Rattle.text_write.specs.Put.{after, Wrote}
-use Rattle.text_write.specs.Answer.{textOf, noMark, writeAnswer, Answers}
-use Rattle.text_write.proofs.Puts.{after-most, after-room, after-full, over-whole}
+use Rattle.text_letters.specs.Put.{after, Wrote}
+use Rattle.text_network.specs.Text.{textOf, noMark}
+use Rattle.text_write.specs.Answer.{writeAnswer, Answers}
+use Rattle.text_letters.proofs.Puts.{after-most, after-room, after-full, over-whole}
 
 -- a measure that is at most the length of a buffer is the text's length
 pub measured : (s d : List ℕ) (n : ℕ) → n ≡ after 0 s → n ≤ length d → length d < 9_223_372_036_854_775_808 → n ≡ length s

@@ -1,9 +1,2 @@
-pub mod Puts
-pub mod Numbers
-pub mod Letters
-pub mod Lists
-pub mod Values
-pub mod Heads
-pub mod Spelled
-pub mod Networks
+pub mod Unmarked
 pub mod Answered

@@ -1,28 +1,18 @@
 -- What the write call answers: document 01, *Write* of *The other calls*, and its questions of *Questions, asked downward*:
 -- 17 of every call on a network, then 14, does no component bear a mark, then 15, does the lent buffer hold the whole text.
--- The text is that of the crate `text` for the network that the table stands for: definitions, then components, values put in.
+-- The text and question 14 stand in the crate `text_network`, Text.
 use Prim.Native.Nat.{ℕ}
 use mathlib.Core.List.{List, _++_}
-use mathlib.Core.Bool.{Bool, cond}
+use mathlib.Core.Bool.{cond}
 use mathlib.Core.Path.{_≡_}
 use lib.Dec.{leb}
 use lib.ListN.{length, drop}
-use Rattle.terms.specs.Same.{every}
-use Rattle.terms.specs.Rules.{Answer, unmarked}
+use Rattle.terms.specs.Rules.{Answer}
 use Rattle.terms.specs.Rules.Answer.{refused, accepted}
-use Rattle.text.specs.Write.{write}
 use Rattle.table.specs.declared.State.{State}
-use Rattle.table.specs.Meaning.{netOf, networkOf}
 use Rattle.table.specs.Valid.{valid}
+use Rattle.text_network.specs.Text.{textOf, noMark}
 use Rattle.text_write.specs.declared.Written.{Written}
-
--- the text of the network
-unfoldable pub textOf : List ℕ → State → List ℕ
-textOf w st = write (networkOf w st)
-
--- 14
-unfoldable pub noMark : List ℕ → State → Bool
-noMark w st = every unmarked (netOf w st)
 
 -- from the words, the components and the length of the buffer: the first question answered by no, or the text
 unfoldable pub writeAnswer : List ℕ → State → ℕ → Answer (List ℕ)

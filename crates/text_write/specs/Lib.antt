@@ -1,4 +1,1 @@
-pub mod Put
-pub mod Forms
-pub mod Values
 pub mod Answer

@@ -1,40 +1,26 @@
 // Layer 2, writing: a network in its table form as text, in a lent buffer.
 //
-// specs/Answer  what the call answers
-// specs/Put     bytes put into a buffer
-// specs/Forms   the bytes of each form
-// specs/Values  a place of the table under the values of some slots
+// specs/Answer     what the call answers
 //
-// put      bytes, numbers, names
-// parts    parts and processes, which are written in turn
-// network  definitions, components, the whole text
-//
-// proofs/Spelled   the bytes of each form are the spelling of its tokens
-// proofs/Puts      bytes put one after the other
-// proofs/Numbers   digits as the code puts them
-// proofs/Letters   the letters of a name by its words
-// proofs/Lists     names between brackets
-// proofs/Values    slots with values are a substitution
-// proofs/Heads     the text of a part by its head, under the values of slots
-// proofs/Networks  the text of a table
+// proofs/Unmarked  a test of the components from a position on
 // proofs/Answered  the answers of the call
-mod network;
-mod parts;
-pub mod put;
-
 ghost use mathlib.Core.Path.{_≡_};
-ghost use mathlib.Core.Bool.{true};
+ghost use mathlib.Core.Bool.{true, not};
 ghost use mathlib.Core.List.{_++_};
 ghost use Prim.Native.Nat.{_≤_};
+ghost use lib.Dec.{ltb};
 ghost use lib.ListN.{length, take, drop};
+ghost use Rattle.terms.specs.Same.{every};
+ghost use Rattle.table.specs.Meaning.{compsOf};
 ghost use Rattle.table.specs.Valid.{valid};
-ghost use Rattle.text_write.specs.Answer.{noMark, writeAnswer, Answers};
-use network::all_unmarked;
-use network::write_text;
+ghost use Rattle.text_network.specs.Text.{noMark};
+ghost use Rattle.text_write.specs.Answer.{writeAnswer, Answers};
 use table::Script;
 use table::Words;
+use table::comps::comp_at;
 use table::words::word;
 use table_valid::is_valid;
+use text_network::write_text;
 
 // What the write call returns: 0 or the number of the question answered by no, and the text's length.
 #[repr(C)]
@@ -97,4 +83,20 @@ fn write_valid(w: &Script, c: &Words, n: usize, buf: &mut [u8]) -> Written
     }
     let mut text = [0; 65536];
     write_beside(w, c, n, &mut text, buf)
+}
+
+// 14: is no component marked?
+fn all_unmarked(c: &Words, n: usize) -> bool
+    requires { ⌜ n ≤ 256 ⌝ }
+    ensures { λ r. ⌜ r ≡ every (λ x. not (ltb (x .mark) 64)) (compsOf (record { c = now (c .entry); n = n })) ⌝ }
+{
+    let mut k = 0;
+    while k < n {
+        let x = comp_at(c, k);
+        if x.mark < 64 {
+            return false;
+        }
+        k += 1;
+    }
+    true
 }

@@ -10,7 +10,7 @@ ghost use Rattle.calls_step.specs.Stepped.{stepAnswer, stepsAs};
 ghost use Rattle.calls_propose.specs.Proposed.{proposeAnswer};
 ghost use Rattle.calls_forced.specs.Report.{forcedReport};
 ghost use Rattle.calls_same.specs.Answer.{compared, sameAnswer};
-ghost use Rattle.text_read.specs.Answer.{ReadsAs};
+ghost use Rattle.text_answer.specs.Answer.{ReadsAs};
 ghost use Rattle.text_write.specs.Answer.{Answers, writeAnswer};
 ghost use Rattle.run_print.specs.Print.{printout};
 ghost use Rattle.host.specs.Shown.{locationsAnswer, counted, nameAnswer, labelAnswer, lineAnswer, Shows};
@@ -34,7 +34,7 @@ use host::step_line;
 use table::Script;
 use table::Words;
 use table_valid::is_valid;
-use text_read::Reading;
+use text_answer::Reading;
 use text_write::Written;
 use text_write::write;
 

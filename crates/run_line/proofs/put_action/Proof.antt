@@ -1,7 +1,7 @@
 -- The label of an action that is accepted.
 -- By what the answer of an action stands for.
 use Rattle.calls_act.specs.Acted.{actionRule}
-use Rattle.text_write.proofs.Puts.{then, same}
+use Rattle.text_letters.proofs.Puts.{then, same}
 use Rattle.run_line.proofs.Lines.{action-text}
 use borrow.Author.Needs.{needs}
 use Rattle.run_line.proofs.put_action.Statement.{statement}

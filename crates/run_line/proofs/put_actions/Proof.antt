@@ -5,7 +5,7 @@ use native.Mathlib.Omega.{arith}
 use mathlib.Core.List.{[], flatMap}
 use mathlib.Core.Path.{_≡_, refl}
 use lib.ListN.{length, getD, take}
-use Rattle.text_write.proofs.Puts.{Left, begun, step, done, left-as}
+use Rattle.text_letters.proofs.Puts.{Left, begun, step, done, left-as}
 use Rattle.run_line.specs.Line.{spaced}
 use Rattle.run_line.specs.Records.{labelIn}
 use Rattle.run_line.proofs.Lines.{rest, rest-next, rest-end, fires-at}

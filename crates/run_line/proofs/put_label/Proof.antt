@@ -1,6 +1,6 @@
 -- A label by its kind.
 -- By what a label in numbers stands for.
-use Rattle.text_write.proofs.Puts.{same}
+use Rattle.text_letters.proofs.Puts.{same}
 use Rattle.run_line.proofs.Lines.{label-call, label-move, label-sent}
 use borrow.Author.Needs.{needs}
 use Rattle.run_line.proofs.put_label.Statement.{statement}

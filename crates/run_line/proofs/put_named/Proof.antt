@@ -3,7 +3,7 @@
 use Prim.Native.Nat.{_+_, _*_}
 use mathlib.Core.Path.{ap}
 use Rattle.table.specs.Words.{locsAt, nameAt, locName, nameSize}
-use Rattle.text_write.proofs.Puts.{then, same}
+use Rattle.text_letters.proofs.Puts.{then, same}
 use borrow.Author.Needs.{needs}
 use Rattle.run_line.proofs.put_named.Statement.{statement}
 use Rattle.run_line.proofs.put_named.Tie as tie

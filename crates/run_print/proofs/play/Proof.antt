@@ -11,7 +11,8 @@ use Rattle.table.specs.Valid.{valid}
 use Rattle.text_build.specs.Rows.{locsOf}
 use Rattle.run_print.specs.Print.{four, playing}
 use Rattle.run_print.proofs.Playing.{locs-some, locs-few, Playing, play-first, play-stopped, play-on, play-next, play-end}
-use Rattle.run_print.proofs.Fits.{turn-ends, ending-ends}
+use Rattle.run_turn.proofs.Fits.{turn-ends}
+use Rattle.run_print.proofs.Fits.{ending-ends}
 use Rattle.run_print.proofs.play.Statement.{statement}
 use Rattle.run_print.proofs.play.Tie as tie
 

@@ -1,9 +1,9 @@
 -- The text is refused, or its network plays.
 use native.Mathlib.Omega.{arith}
 use borrow.Author.Needs.{needs}
-use Rattle.text_write.proofs.Puts.{same}
+use Rattle.text_letters.proofs.Puts.{same}
 use Rattle.run_print.proofs.Playing.{whole-refused, whole-number, whole-good, whole-printed}
-use Rattle.run_print.proofs.Fits.{refused-ends}
+use Rattle.run_turn.proofs.Fits.{refused-ends}
 use Rattle.run_print.proofs.printout.Statement.{statement}
 use Rattle.run_print.proofs.printout.Tie as tie
 

@@ -2,7 +2,7 @@
 use native.Mathlib.Omega.{arith}
 use mathlib.Core.Path.{refl}
 use borrow.Author.Needs.{needs}
-use Rattle.text_write.proofs.Puts.{same}
+use Rattle.text_letters.proofs.Puts.{same}
 use Rattle.run_print.proofs.Playing.{ending-refused, ending-short, ending-text}
 use Rattle.run_print.proofs.put_network.Statement.{statement}
 use Rattle.run_print.proofs.put_network.Tie as tie

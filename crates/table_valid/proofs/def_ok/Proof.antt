@@ -10,8 +10,8 @@ use Rattle.terms.specs.Same.{every}
 use Rattle.terms.specs.Letters.{isName, isSmall, distinct}
 use Rattle.table.specs.Words.{partsIn, arityOf, bodyOf, paramsAt, scopeAt}
 use Rattle.table.specs.Valid.{alike, defOk}
-use Rattle.table_valid.specs.Tests.{firstOf}
-use Rattle.table_valid.specs.declared.Sort.the-variants.{Small}
+use Rattle.table_names.specs.Tests.{firstOf}
+use Rattle.table_names.specs.declared.Sort.the-variants.{Small}
 use Rattle.table.proofs.ValidDefs.{params-names}
 use Rattle.table.proofs.ValidBool.{failed, passed, and-false}
 use Rattle.table_valid.proofs.def_ok.Statement.{statement}

@@ -8,7 +8,7 @@ use borrow.Author.Needs.{needs}
 use borrow.Author.Count.{below-none, below-more}
 use Rattle.table.specs.Words.{field, argField}
 use Rattle.text_tree.specs.Asked.{inScope}
-use Rattle.table_valid.proofs.ValidParts.{args-all, args-miss}
+use Rattle.table_parts.proofs.ValidParts.{args-all, args-miss}
 use Rattle.table.proofs.ValidBool.{failed, passed}
 use Rattle.text_asked.proofs.args_bound.Statement.{statement}
 use Rattle.text_asked.proofs.args_bound.Tie as tie

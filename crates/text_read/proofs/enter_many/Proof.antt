@@ -2,7 +2,7 @@
 use borrow.Author.Needs.{needs}
 use native.Mathlib.Omega.{arith}
 use mathlib.Core.Path.{refl}
-use Rattle.text_read.proofs.Answering.{may-fill}
+use Rattle.text_enter.proofs.Answering.{may-fill}
 use Rattle.text_read.proofs.enter_many.Statement.{statement}
 use Rattle.text_read.proofs.enter_many.Tie as tie
 

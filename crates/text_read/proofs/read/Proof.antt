@@ -2,7 +2,7 @@
 use borrow.Author.Needs.{needs}
 use native.Mathlib.Omega.{arith}
 use mathlib.Core.Path.{refl}
-use Rattle.text_read.proofs.Answering.{way-1, answer-no}
+use Rattle.text_enter.proofs.Answering.{way-1, answer-no}
 use Rattle.text_read.proofs.read.Statement.{statement}
 use Rattle.text_read.proofs.read.Tie as tie
 

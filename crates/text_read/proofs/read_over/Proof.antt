@@ -1,7 +1,7 @@
 -- The scan's refusal, that of the script, or the network; after a refusal the script is zero.
 use borrow.Author.Needs.{needs}
 use native.Mathlib.Omega.{arith}
-use Rattle.text_read.proofs.Answering.{way-1, answer-no}
+use Rattle.text_enter.proofs.Answering.{way-1, answer-no}
 use Rattle.text_read.proofs.read_over.Statement.{statement}
 use Rattle.text_read.proofs.read_over.Tie as tie
 

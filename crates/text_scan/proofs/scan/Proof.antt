@@ -1,7 +1,7 @@
 -- `scan` answers what the definition does: questions 1 and 2, and the numbers of the text.
 -- By its length, and by whether the text has an end.
 use mathlib.Core.Path.{_∙_}
-use Rattle.text_scan.proofs.Limits.{scan-long, scan-none, scan-some}
+use Rattle.text_scan.proofs.Scanning.{scan-long, scan-none, scan-some}
 use borrow.Author.Needs.{needs}
 use Rattle.text_scan.proofs.scan.Statement.{statement}
 use Rattle.text_scan.proofs.scan.Tie as tie

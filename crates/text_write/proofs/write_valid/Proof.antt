@@ -2,7 +2,7 @@
 use mathlib.Core.Path.{sym, _∙_}
 use borrow.Author.Tests.{not-true, not-false}
 use Rattle.table.proofs.InUse.{valid-state}
-use Rattle.text_write.proofs.Networks.{unmarked-table}
+use Rattle.text_network.proofs.Networks.{unmarked-table}
 use Rattle.text_write.proofs.Answered.{says-14}
 use borrow.Author.Needs.{needs}
 use Rattle.text_write.proofs.write_valid.Statement.{statement}

@@ -3,7 +3,7 @@ use native.Mathlib.Omega.{arith}
 use mathlib.Core.Path.{_≡_, refl, ap, _∙_}
 use lib.ListN.{length}
 use borrow.Author.Needs.{needs}
-use Rattle.run_print.specs.Pieces.{piecesLeft, ProgressOk}
+use Rattle.run_pieces.specs.Pieces.{piecesLeft, ProgressOk}
 use Rattle.timorun.proofs.show.Statement.{statement}
 use Rattle.timorun.proofs.show.Tie as tie
 

@@ -1,0 +1,4 @@
+pub mod Decided
+pub mod Fronts
+pub mod Pieces
+pub mod Definitions

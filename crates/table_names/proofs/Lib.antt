@@ -1,0 +1,2 @@
+pub mod NamesForm
+pub mod NamesRows

@@ -1,0 +1,4 @@
+pub mod ValidParts
+pub mod ValidLeaves
+pub mod ValidPlain
+pub mod ValidRoots

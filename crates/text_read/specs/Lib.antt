@@ -1,5 +1,0 @@
-pub mod Ready
-pub mod Spread
-pub mod Located
-pub mod Answer
-pub mod Front
