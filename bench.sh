@@ -1,5 +1,6 @@
 #!/usr/bin/env bash
-# The benchmark: the proved engine and the reference engine side by side in one run, on workloads that grow. It tests nothing. The table is also kept
+# The benchmark: the proved engine and the reference engine side by side in one run, on workloads that grow, and how much longer a step takes that
+# fires pairs than one that fires none (document 02, R-5; ratio.sh holds it to 2). It tests nothing. The table is also kept
 # in target/bench.md, and a picture of it in target/bench.svg; whole runs of the two engines' `timorun` are in target/process.md.
 # With Maude installed (apt-get install maude) and PEER naming a folder that holds run_peer.sh and, anywhere below it, scripts (*.timo), the scripts are
 # run by both engines and by that peer, whose better model is compared with.

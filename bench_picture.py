@@ -68,5 +68,5 @@ def picture(engines, peer):
 
 tables = rows(sys.argv[1])
 engines = [cells for cells in tables[0] if len(cells) > max(PANELS.values()) + 1]
-peer = {cells[0]: float(cells[2]) for cells in tables[1]} if len(tables) > 1 else {}
+peer = {cells[0]: float(cells[2]) for cells in tables[2]} if len(tables) > 2 else {}  # the second is that of steps that fire
 print(picture(engines, peer))

@@ -11,10 +11,12 @@
 //! | `tables`  | tables of every sort, made by hand, through both engines |
 //! | `differ`  | a script and a list of calls through both engines        |
 //! | `shrink`  | a smaller script and list that still show a difference   |
+//! | `load`    | workloads of the benchmark, and how they are timed       |
 
 pub mod agree;
 pub mod alike;
 pub mod differ;
+pub mod load;
 pub mod reading;
 pub mod shrink;
 pub mod table;

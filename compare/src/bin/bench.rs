@@ -6,15 +6,13 @@
 
 use std::env;
 use std::fs;
-use std::time::{Duration, Instant};
 
+use compare::load::{facing, grid, micros, nested, Ratio};
 use compare::timo::{read_into, words_of, State, Table};
 use timo_reference::calls::{Engine, Record};
 use timo_reference::term::Network;
 
-/// A measurement is the least of so many, each of which goes on so long.
-const TIMES: usize = 9;
-const LEAST: Duration = Duration::from_millis(30);
+/// Rounds of steps over all locations in one measurement.
 const ROUNDS: usize = 4;
 
 fn main() {
@@ -55,6 +53,10 @@ fn main() {
             Err(error) => eprintln!("bench: {path}: {error}"),
         }
     }
+    println!("\n{}", Ratio::HEAD);
+    for ratio in Ratio::all() {
+        println!("{ratio}");
+    }
 }
 
 /// The last part of a path.
@@ -76,56 +78,6 @@ fn step_only(path: &str) {
 
 fn steps_of(locations: usize) -> f64 {
     (ROUNDS * locations) as f64
-}
-
-/// Doors between neighbours of a square grid, and rovers spread over it.
-fn grid(side: usize, rovers: usize) -> String {
-    let name = |row: usize, column: usize| format!("L{}{}", row + 1, column + 1);
-    let mut components = Vec::new();
-    for row in 0..side {
-        for column in 0..side {
-            let mut door = |to: String| components.push(format!("{}[D({to})]", name(row, column)));
-            if row > 0 {
-                door(name(row - 1, column));
-            }
-            if column > 0 {
-                door(name(row, column - 1));
-            }
-            if column + 1 < side {
-                door(name(row, column + 1));
-            }
-            if row + 1 < side {
-                door(name(row + 1, column));
-            }
-        }
-    }
-    for rover in 0..rovers {
-        let place = rover * 37 % (side * side);
-        components.push(format!("{}[rover]", name(place / side, place % side)));
-    }
-    format!(
-        "D(l) = out(m,2,l,D(l),D(l)) .\nrover = in(m,0,x,go(0,x,rover),rover) .\n{} .\n",
-        components.join(" | ")
-    )
-}
-
-/// Outputs on one channel and inputs on another or the same.
-fn facing(pairs: usize, sent: &str, heard: &str) -> String {
-    let output = format!("A[out({sent},9,A,stop,stop)]");
-    let input = format!("A[in({heard},9,x,stop,stop)]");
-    let mut components = vec![output; pairs];
-    components.extend(vec![input; pairs]);
-    format!("{} .\n", components.join(" | "))
-}
-
-/// Outputs that nobody hears, each with as many parts as the depth twice over and
-/// one.
-fn nested(outputs: usize, depth: usize) -> String {
-    let process = (0..depth).fold(String::from("stop"), |inner, _| {
-        format!("out(c,9,A,{inner},stop)")
-    });
-    let components = vec![format!("A[{process}]"); outputs];
-    format!("{} .\n", components.join(" | "))
 }
 
 fn line(workload: &str, script: &str) {
@@ -197,18 +149,4 @@ fn rounds_reference(network: &Network) -> usize {
         }
     }
     fired
-}
-
-/// The time of one run.
-fn micros(mut run: impl FnMut() -> usize) -> f64 {
-    let times = (0..TIMES).map(|_| {
-        let start = Instant::now();
-        let mut runs = 0;
-        while start.elapsed() < LEAST {
-            std::hint::black_box(run());
-            runs += 1;
-        }
-        start.elapsed().as_secs_f64() * 1e6 / f64::from(runs)
-    });
-    times.fold(f64::INFINITY, f64::min)
 }

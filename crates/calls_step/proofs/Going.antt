@@ -7,8 +7,8 @@ use mathlib.Core.List.{List, [], _∷_, _++_, map, append-assoc, append-nil}
 use mathlib.Core.Bool.{Bool, true, false, cond}
 use mathlib.Core.Path.{_≡_, refl, sym, ap, subst, _∙_}
 use lib.Dec.{eqb, ltb}
-use lib.ListN.{length, getD, set, take, length-set, length-map, length-take}
-use lib.Seq.{sets, length-sets, getD-set-same, getD-set-other, take-suc-set, take-set-le}
+use lib.ListN.{length, getD, set, take, drop, length-set, length-map, length-take}
+use lib.Seq.{sets, length-sets, getD-set-same, getD-set-other, take-suc-set, take-set-le, drop-set-lt, drop-drop}
 use borrow.Author.Tests.{eqb-true, eqb-false, ltb-true, ltb-false}
 use Rattle.terms.specs.Same.{every}
 use Rattle.terms.specs.Rules.{Answer, Action, _>>=_, at, seek}
@@ -25,7 +25,9 @@ use Rattle.table.specs.Valid.{scriptOk, compOk}
 use Rattle.table.specs.Fire.{ActedAt, actOn, readyAt, sentOn, mustAct}
 use Rattle.table.proofs.Tests.{comp-fine}
 use Rattle.table.proofs.Fires.{every-at, map-append}
-use Rattle.table.proofs.Kept.{okA, goodActed, act-kept}
+use Rattle.table.proofs.Kept.{okA, inActed, act-kept}
+use Rattle.calls_steady.specs.Steady.{staysOne}
+use Rattle.calls_steady.proofs.Staying.{act-steady}
 use Rattle.calls_act.proofs.Positions.{at-in-use}
 use Rattle.table.proofs.InUse.{comps-length}
 use Rattle.table.proofs.Stores.{comps-put, past-put, past-none, past-then}
@@ -35,30 +37,42 @@ use Rattle.calls_step.specs.Visit.{sendsAt, kindAt, kindBy, Performed, o
 use Rattle.calls_step.proofs.Queues.{seek-first, sends-fits}
 use Rattle.calls_step.proofs.Sweeping.{recsOf, Turned, turned-none, turned-some}
 
-pub record Going (w : List ℕ) (l : ℕ) (st now : State) (heads nexts : List ℕ) (acts : List (List ℕ)) (count p : ℕ) : Type 0 where
+pub record Going (w : List ℕ) (l : ℕ) (st now : State) (heads nexts : List ℕ) (before acts : List (List ℕ)) (count p : ℕ) : Type 0 where
   pub few-p : p ≤ st .n
   pub few-count : count ≤ p
   pub size : length (now .c) ≡ stateWords
   pub same : now .n ≡ st .n
   pub past : PastKept (st .n) (st .c) (now .c)
-  pub room : length acts ≡ 256
+  pub enough : st .n ≤ length before
+  pub room : length acts ≡ length before
+  pub rest : drop count acts ≡ drop count before
   pub fine : every (compOk w) (compsOf now) ≡ true
   pub queue : Queued w l 0 (compsOf now) heads nexts
   pub actions : take count acts ++ map recOf (sweepAt w l p (st .n - p) (compsOf now) .actions) ≡ map recOf (sweepAt w l 0 (st .n) (compsOf st) .actions)
   pub comps : sweepAt w l p (st .n - p) (compsOf now) .comps ≡ sweepAt w l 0 (st .n) (compsOf st) .comps
 
 -- ── what stays good ──
-took-fine : (w : List ℕ) → scriptOk w ≡ true → (y : Answer Action) (cs : List Comp) → every (compOk w) cs ≡ true → every (compOk w) (takenAt w y cs .comps) ≡ true
-took-fine w g (refused n) cs e = e
-took-fine w g (accepted a) cs e = go (actOn w a cs) (act-kept w g cs e a)
+-- what actions keep of components, a visit keeps
+took-keeps : (w : List ℕ) (f : Comp → Bool) (y : Answer Action) (cs : List Comp) → every f cs ≡ true → ((a : Action) → okA (inActed f) (actOn w a cs) ≡ true) → every f (takenAt w y cs .comps) ≡ true
+took-keeps w f (refused n) cs e k = e
+took-keeps w f (accepted a) cs e k = go (actOn w a cs) (k a)
   where
-    go : (x : Answer ActedAt) → okA (goodActed w) x ≡ true → every (compOk w) (tookAt a x cs .comps) ≡ true
+    go : (x : Answer ActedAt) → okA (inActed f) x ≡ true → every f (tookAt a x cs .comps) ≡ true
     go (refused n) h = e
     go (accepted r) h = h
 
+visit-keeps : (w : List ℕ) (f : Comp → Bool) (l p : ℕ) (x : Answer Comp) (cs : List Comp) → every f cs ≡ true → ((a : Action) → okA (inActed f) (actOn w a cs) ≡ true) → every f (visitAt w l p x cs .comps) ≡ true
+visit-keeps w f l p (refused n) cs e k = e
+visit-keeps w f l p (accepted c) cs e k = took-keeps w f (choiceAt w l p c cs) cs e k
+
 visit-fine : (w : List ℕ) → scriptOk w ≡ true → (l p : ℕ) (x : Answer Comp) (cs : List Comp) → every (compOk w) cs ≡ true → every (compOk w) (visitAt w l p x cs .comps) ≡ true
-visit-fine w g l p (refused n) cs e = e
-visit-fine w g l p (accepted c) cs e = took-fine w g (choiceAt w l p c cs) cs e
+visit-fine w g l p x cs e = visit-keeps w (compOk w) l p x cs e (act-kept w g cs e)
+
+-- components that stay one still do after a sweep
+pub sweep-steady : (w : List ℕ) → scriptOk w ≡ true → (l n p : ℕ) (cs : List Comp) → every (compOk w) cs ≡ true → every (staysOne w l) cs ≡ true → every (staysOne w l) (sweepAt w l p n cs .comps) ≡ true
+unfolding sweepAt
+sweep-steady w g l zero p cs o e = e
+sweep-steady w g l (suc n) p cs o e = sweep-steady w g l n (suc p) _ (visit-fine w g l p (at cs p) cs o) (visit-keeps w (staysOne w l) l p (at cs p) cs e (act-steady w l g cs o e))
 
 seek-below : {A : Type 0} (f : A → Bool) (xs : List A) (i : ℕ) → seek f xs ≡ accepted i → i < length xs
 unfolding seek
@@ -91,10 +105,6 @@ take-rec : (acts : List (List ℕ)) (count k p q : ℕ) → count < length acts 
 take-rec acts count zero p q h = let z : count + 0 ≡ count = omega arith in ap (λ n. take n (set acts count (recBy 0 p q))) z ∙ take-set-le count acts count (recBy 0 p q) (omega arith) ∙ sym (append-nil (take count acts))
 take-rec acts count (suc k) p q h = ap (λ n. take n (set acts count (recBy (suc k) p q))) (add-one count) ∙ take-suc-set acts count (recBy (suc k) p q) h
 
-some-fits : (k : ℕ) → someOf k ≤ 1
-some-fits zero = omega arith
-some-fits (suc k) = omega arith
-
 -- ── the chain of the component's channel ──
 chain-none : (nexts : List ℕ) (x : ℕ) (qs : List ℕ) → Chain nexts x qs → x ≡ 0 → qs ≡ []
 chain-none nexts x [] c e = refl
@@ -125,7 +135,7 @@ idle-link w l c x = go (readyAt l c)
     go true e n = head-idle x c (headAt w (c .place)) e n
     go false e n = n refl
 
-module _ (w : List ℕ) (good : scriptOk w ≡ true) (l : ℕ) (st now : State) (heads nexts : List ℕ) (acts : List (List ℕ)) (count p : ℕ) (few : st .n ≤ 256) (i : Going w l st now heads nexts acts count p) (h : p < st .n) where
+module _ (w : List ℕ) (good : scriptOk w ≡ true) (l : ℕ) (st now : State) (heads nexts : List ℕ) (before acts : List (List ℕ)) (count p : ℕ) (few : st .n ≤ 256) (i : Going w l st now heads nexts before acts count p) (h : p < st .n) where
   abbrev cs : List Comp
   cs = compsOf now
 
@@ -244,33 +254,35 @@ module _ (w : List ℕ) (good : scriptOk w ≡ true) (l : ℕ) (st now : State) 
         ∙ ap (λ z. record { actions = visitAt w l p (at (compsOf now) p) (compsOf now) .actions ++ sweepAt w l (suc p) (st .n - (p + 1)) z .actions; comps = sweepAt w l (suc p) (st .n - (p + 1)) z .comps }) visited
         ∙ ap (λ z. record { actions = visitAt w l p (at (compsOf now) p) (compsOf now) .actions ++ z .actions; comps = z .comps }) (rest-is (st .n - (p + 1)) refl)
 
-    going-turn : Going w l st (record { c = sets (sets (now .c) (p * compSize) (wordsIn (v .x))) (otherOf p (getD heads (sendsAt w l (compIn (now .c) p)) 0) * compSize) (wordsIn (v .y)); n = now .n })
-        (set heads (sendsAt w l (compIn (now .c) p)) (poppedOf (getD heads (sendsAt w l (compIn (now .c) p)) 0) (getD nexts (otherOf p (getD heads (sendsAt w l (compIn (now .c) p)) 0)) 0))) nexts
-        (set acts count (recBy (kindAt w l (compIn (now .c) p) (getD heads (sendsAt w l (compIn (now .c) p)) 0)) p (otherOf p (getD heads (sendsAt w l (compIn (now .c) p)) 0))))
-        (count + someOf (kindAt w l (compIn (now .c) p) (getD heads (sendsAt w l (compIn (now .c) p)) 0))) (p + 1)
-    going-turn = record {
-      few-p = omega arith;
-      few-count = omega (arith, i .few-count, some-fits k);
-      size = length-sets (sets (now .c) (p * compSize) (wordsIn (v .x))) (q * compSize) (wordsIn (v .y)) ∙ length-sets (now .c) (p * compSize) (wordsIn (v .x)) ∙ i .size;
-      same = i .same;
-      past = past-then (omega arith) (i .past) (past-then (omega arith) (past-put (now .c) (st .n) p (v .x) h) (past-put (sets (now .c) (p * compSize) (wordsIn (v .x))) (st .n) q (v .y) other-fits));
-      room = length-set acts count (recBy k p q) ∙ i .room;
-      fine = subst (λ z. every (compOk w) z ≡ true) visited (visit-fine w good l p (at (compsOf now) p) (compsOf now) (i .fine));
-      queue = queue-next _ refl t comps-next;
-      actions =
-          ap (λ z. z ++ map recOf (sweepAt w l (p + 1) (st .n - (p + 1)) (compsOf next) .actions)) (take-rec acts count k p q (omega (arith, i .room, i .few-count)) ∙ ap (λ z. take count acts ++ z) (sym (t .actions)))
-          ∙ append-assoc (take count acts) _ _
-          ∙ ap (λ z. take count acts ++ z) (sym (map-append recOf (visitAt w l p (at (compsOf now) p) (compsOf now) .actions) _))
-          ∙ ap (λ z. take count acts ++ map recOf (z .actions)) (sym stepped)
-          ∙ i .actions;
-      comps = ap (λ z. z .comps) (sym stepped) ∙ i .comps;
-    }
+    turn-actions : take (count + someOf k) (set acts count (recBy k p q)) ++ map recOf (sweepAt w l (p + 1) (st .n - (p + 1)) (compsOf next) .actions) ≡ map recOf (sweepAt w l 0 (st .n) (compsOf st) .actions)
+    turn-actions =
+        ap (λ z. z ++ map recOf (sweepAt w l (p + 1) (st .n - (p + 1)) (compsOf next) .actions)) (take-rec acts count k p q (omega (arith, i .room, i .enough, i .few-count)) ∙ ap (λ z. take count acts ++ z) (sym (t .actions)))
+        ∙ append-assoc (take count acts) _ _
+        ∙ ap (λ z. take count acts ++ z) (sym (map-append recOf (visitAt w l p (at (compsOf now) p) (compsOf now) .actions) _))
+        ∙ ap (λ z. take count acts ++ map recOf (z .actions)) (sym stepped)
+        ∙ i .actions
+
+    turn-comps : sweepAt w l (p + 1) (st .n - (p + 1)) (compsOf next) .comps ≡ sweepAt w l 0 (st .n) (compsOf st) .comps
+    turn-comps = ap (λ z. z .comps) (sym stepped) ∙ i .comps
 
     pub going-fires : (kindAt w l (compIn (now .c) p) (getD heads (sendsAt w l (compIn (now .c) p)) 0) ≡ 0 → ⊥) → Going w l st (record { c = sets (sets (now .c) (p * compSize) (wordsIn (v .x))) (otherOf p (getD heads (sendsAt w l (compIn (now .c) p)) 0) * compSize) (wordsIn (v .y)); n = now .n })
         (set heads (sendsAt w l (compIn (now .c) p)) (poppedOf (getD heads (sendsAt w l (compIn (now .c) p)) 0) (getD nexts (otherOf p (getD heads (sendsAt w l (compIn (now .c) p)) 0)) 0))) nexts
-        (set acts count (recBy (kindAt w l (compIn (now .c) p) (getD heads (sendsAt w l (compIn (now .c) p)) 0)) p (otherOf p (getD heads (sendsAt w l (compIn (now .c) p)) 0))))
+        before (set acts count (recBy (kindAt w l (compIn (now .c) p) (getD heads (sendsAt w l (compIn (now .c) p)) 0)) p (otherOf p (getD heads (sendsAt w l (compIn (now .c) p)) 0))))
         (count + 1) (p + 1)
-    going-fires d = subst (λ m. Going w l st next (set heads s (poppedOf x (getD nexts q 0))) nexts (set acts count (recBy k p q)) (count + m) (p + 1)) (some-one k d) going-turn
+    going-fires d = record {
+      few-p = omega arith;
+      few-count = omega (arith, i .few-count);
+      size = length-sets (sets (now .c) (p * compSize) (wordsIn (v .x))) (q * compSize) (wordsIn (v .y)) ∙ length-sets (now .c) (p * compSize) (wordsIn (v .x)) ∙ i .size;
+      same = i .same;
+      past = past-then (omega arith) (i .past) (past-then (omega arith) (past-put (now .c) (st .n) p (v .x) h) (past-put (sets (now .c) (p * compSize) (wordsIn (v .x))) (st .n) q (v .y) other-fits));
+      enough = i .enough;
+      room = length-set acts count (recBy k p q) ∙ i .room;
+      rest = drop-set-lt (count + 1) acts count (recBy k p q) (omega arith) ∙ sym (drop-drop 1 count acts) ∙ ap (drop 1) (i .rest) ∙ drop-drop 1 count before;
+      fine = subst (λ z. every (compOk w) z ≡ true) visited (visit-fine w good l p (at (compsOf now) p) (compsOf now) (i .fine));
+      queue = queue-next _ refl t comps-next;
+      actions = subst (λ m. take (count + m) (set acts count (recBy k p q)) ++ map recOf (sweepAt w l (p + 1) (st .n - (p + 1)) (compsOf next) .actions) ≡ map recOf (sweepAt w l 0 (st .n) (compsOf st) .actions)) (some-one k d) turn-actions;
+      comps = turn-comps;
+    }
 
   -- a position where nothing fires is passed, and nothing changes
   module _ (idle : kindAt w l (compIn (now .c) p) (getD heads (sendsAt w l (compIn (now .c) p)) 0) ≡ 0) where
@@ -293,35 +305,36 @@ module _ (w : List ℕ) (good : scriptOk w ≡ true) (l : ℕ) (st now : State) 
     kept zero e z = let a = set-here (compsOf now) p (compIn (now .c) p) (at-here p h) in ap (λ cs. R.set cs p (compIn (now .c) p)) a ∙ a
     kept (suc q) e z = absurd (omega arith)
 
-    pub going-idle : Going w l st now heads nexts acts count (p + 1)
+    pub going-idle : Going w l st now heads nexts before acts count (p + 1)
     unfolding stays
     going-idle =
-        let g = going-turn stays (performed _ idle) in
         let z = comps-next stays (performed _ idle) ∙ kept _ refl (idle-link w l c x idle no-channel) in
         record {
-          few-p = g .few-p;
+          few-p = omega arith;
           few-count = omega (arith, i .few-count);
           size = i .size;
           same = i .same;
           past = i .past;
+          enough = i .enough;
           room = i .room;
+          rest = i .rest;
           fine = i .fine;
           queue = i .queue;
           actions =
-              ap (λ cs. cs ++ map recOf (sweepAt w l (p + 1) (st .n - (p + 1)) (compsOf now) .actions)) (sym (take-rec acts count (kindAt w l c x) p (otherOf p x) (omega (arith, i .room, i .few-count)) ∙ ap (λ k. take count acts ++ recsOf k p (otherOf p x)) idle ∙ append-nil (take count acts)))
-              ∙ subst (λ cs. take (count + someOf (kindAt w l c x)) (set acts count (recBy (kindAt w l c x) p (otherOf p x))) ++ map recOf (sweepAt w l (p + 1) (st .n - (p + 1)) cs .actions) ≡ map recOf (sweepAt w l 0 (st .n) (compsOf st) .actions)) z (g .actions);
-          comps = subst (λ cs. sweepAt w l (p + 1) (st .n - (p + 1)) cs .comps ≡ sweepAt w l 0 (st .n) (compsOf st) .comps) z (g .comps);
+              ap (λ cs. cs ++ map recOf (sweepAt w l (p + 1) (st .n - (p + 1)) (compsOf now) .actions)) (sym (take-rec acts count (kindAt w l c x) p (otherOf p x) (omega (arith, i .room, i .enough, i .few-count)) ∙ ap (λ k. take count acts ++ recsOf k p (otherOf p x)) idle ∙ append-nil (take count acts)))
+              ∙ subst (λ cs. take (count + someOf (kindAt w l c x)) (set acts count (recBy (kindAt w l c x) p (otherOf p x))) ++ map recOf (sweepAt w l (p + 1) (st .n - (p + 1)) cs .actions) ≡ map recOf (sweepAt w l 0 (st .n) (compsOf st) .actions)) z (turn-actions stays (performed _ idle));
+          comps = subst (λ cs. sweepAt w l (p + 1) (st .n - (p + 1)) cs .comps ≡ sweepAt w l 0 (st .n) (compsOf st) .comps) z (turn-comps stays (performed _ idle));
         }
 
-pub going-begin : (w : List ℕ) (l : ℕ) (st : State) (heads nexts : List ℕ) (acts : List (List ℕ)) → length (st .c) ≡ stateWords → length acts ≡ 256 → every (compOk w) (compsOf st) ≡ true → Queued w l 0 (compsOf st) heads nexts → Going w l st st heads nexts acts 0 0
+pub going-begin : (w : List ℕ) (l : ℕ) (st : State) (heads nexts : List ℕ) (acts : List (List ℕ)) → length (st .c) ≡ stateWords → st .n ≤ length acts → every (compOk w) (compsOf st) ≡ true → Queued w l 0 (compsOf st) heads nexts → Going w l st st heads nexts acts acts 0 0
 going-begin w l st heads nexts acts e r f q =
     let z : st .n - 0 ≡ st .n = omega arith in
-    record { few-p = omega arith; few-count = omega arith; size = e; same = refl; past = past-none (st .n) (st .c); room = r; fine = f; queue = q; actions = ap (λ n. map recOf (sweepAt w l 0 n (compsOf st) .actions)) z; comps = ap (λ n. sweepAt w l 0 n (compsOf st) .comps) z }
+    record { few-p = omega arith; few-count = omega arith; size = e; same = refl; past = past-none (st .n) (st .c); enough = r; room = refl; rest = refl; fine = f; queue = q; actions = ap (λ n. map recOf (sweepAt w l 0 n (compsOf st) .actions)) z; comps = ap (λ n. sweepAt w l 0 n (compsOf st) .comps) z }
 
-pub going-end : (w : List ℕ) (l : ℕ) (st now : State) (heads nexts : List ℕ) (acts : List (List ℕ)) (count p : ℕ) → Going w l st now heads nexts acts count p → st .n ≤ p → st .n ≤ 256
+pub going-end : (w : List ℕ) (l : ℕ) (st now : State) (heads nexts : List ℕ) (before acts : List (List ℕ)) (count p : ℕ) → Going w l st now heads nexts before acts count p → st .n ≤ p
     → (take count acts ≡ map recOf (sweepAt w l 0 (st .n) (compsOf st) .actions)) × (count ≡ length (sweepAt w l 0 (st .n) (compsOf st) .actions)) × (compsOf now ≡ sweepAt w l 0 (st .n) (compsOf st) .comps)
 unfolding sweepAt
-going-end w l st now heads nexts acts count p i h few = (records, number, sym done ∙ i .comps)
+going-end w l st now heads nexts before acts count p i h = (records, number, sym done ∙ i .comps)
   where
     none : st .n - p ≡ 0
     none = omega arith
@@ -333,4 +346,4 @@ going-end w l st now heads nexts acts count p i h few = (records, number, sym do
     records = sym (append-nil (take count acts)) ∙ ap (λ z. take count acts ++ map recOf z) (sym (ap (λ z. sweepAt w l p z (compsOf now) .actions) none)) ∙ i .actions
 
     number : count ≡ length (sweepAt w l 0 (st .n) (compsOf st) .actions)
-    number = omega (arith, ap length records, length-take count acts, length-map (sweepAt w l 0 (st .n) (compsOf st) .actions) recOf, i .room, i .few-count, i .few-p)
+    number = omega (arith, ap length records, length-take count acts, length-map (sweepAt w l 0 (st .n) (compsOf st) .actions) recOf, i .room, i .enough, i .few-count, i .few-p)

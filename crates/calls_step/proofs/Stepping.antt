@@ -7,9 +7,10 @@ use mathlib.Core.List.{List, [], _∷_, _++_, map, append-assoc}
 use mathlib.Core.Bool.{true}
 use mathlib.Core.Path.{_≡_, refl, sym, ap, subst, _∙_}
 use lib.Dec.{leb}
-use lib.ListN.{length, getD, set, take, drop, length-map, length-take}
+use lib.ListN.{length, getD, set, take, drop, length-map, length-take, take-append-drop}
 use lib.Seq.{take-suc, drop-cons, set-at}
 use borrow.Author.Tests.{lt-ltb, le-ltb, le-leb, lt-leb}
+use Rattle.terms.specs.Same.{every}
 use Rattle.terms.specs.Rules.{_>>=_}
 use Rattle.terms.specs.Rules.Answer.{refused, accepted}
 use Rattle.terms.specs.Step.{fires}
@@ -26,13 +27,16 @@ use Rattle.calls_act.proofs.Positions.{valid-parts}
 use Rattle.table.proofs.InUse.{comps-length}
 use Rattle.table.proofs.Stores.{past-then}
 use Rattle.calls_tick.specs.Ticked.{room}
+use Rattle.calls_steady.specs.Steady.{staysOne}
 use Rattle.calls_tick.proofs.Ticking.{tick-took}
+use Rattle.calls_steady.proofs.Staying.{tick-steady}
 use Rattle.calls_step.specs.Sweep.{SweptAt, sweepAt, recOf}
 use Rattle.calls_step.specs.Visit.{SweepsAs}
 use Rattle.calls_step.specs.Stepped.{stepOf, stepRule, Took}
 use Rattle.calls_step.proofs.Sweeps.{Like, fires-like}
+use Rattle.calls_step.proofs.Going.{sweep-steady}
 
-module _ (w : List ℕ) (st : State) (l : ℕ) (v : valid w st ≡ true) (after : List ℕ) (acts : List (List ℕ)) (count : ℕ) (s : SweepsAs w l st after acts count) where
+module _ (w : List ℕ) (st : State) (l : ℕ) (v : valid w st ≡ true) (after : List ℕ) (lent acts : List (List ℕ)) (count : ℕ) (s : SweepsAs w l st after lent acts count) where
   -- the state that the actions leave
   abbrev left : State
   left = record { c = after; n = st .n }
@@ -79,6 +83,14 @@ module _ (w : List ℕ) (st : State) (l : ℕ) (v : valid w st ≡ true) (after 
     step-took cs k before now e n b q a =
         let t = tick-took w left cs k l swept-good e n b q in
         record { code = refl; count = s .number; few = s .few; comps = t .comps; good = t .good; past = past-then (t .grows) (s .past) q; records = a ∙ ap (λ xs. xs ++ drop count before) (s .records) ∙ ap (λ k. map recOf (swept .actions) ++ drop k before) (s .number) }
+
+    -- where every component stays one, as many are left as there were
+    pub step-steady : every (staysOne w l) (compsOf st) ≡ true → length (passedAll w l (compsOf left)) ≡ st .n
+    step-steady e = tick-steady w l (compsOf left) (rw (s .comps) (sweep-steady w good l (st .n) 0 (compsOf st) (valid-parts w st v .1 .each) e)) ∙ comps-length left
+
+    -- the records, where they were written in front of the lent ones themselves
+    pub written : acts ≡ take count acts ++ drop count lent
+    written = sym (take-append-drop count acts) ∙ ap (λ z. take count acts ++ z) (s .rest)
 
 -- question 8
 pub step-out : (w : List ℕ) (st : State) (l size : ℕ) → locsIn w ≤ l → stepRule w st l size ≡ refused 8

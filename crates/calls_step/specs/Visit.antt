@@ -5,7 +5,7 @@ use mathlib.Core.List.{List, [], _∷_, map}
 use mathlib.Core.Bool.{cond}
 use mathlib.Core.Path.{_≡_}
 use lib.Dec.{eqb, ltb}
-use lib.ListN.{length, take}
+use lib.ListN.{length, take, drop}
 use Rattle.terms.specs.Rules.Kind.{calls, moves}
 use Rattle.table.specs.declared.Comp.{Comp}
 use Rattle.table.specs.declared.State.{State}
@@ -66,10 +66,11 @@ poppedOf (suc q) nx = nx
 abbrev pub recBy : ℕ → ℕ → ℕ → List ℕ
 recBy k p q = k ∷ p ∷ cond (eqb k 3) q 0 ∷ []
 
--- the sweep over all positions: its records, how many, and the components it leaves
-pub record SweepsAs (w : List ℕ) (l : ℕ) (st : State) (after : List ℕ) (acts : List (List ℕ)) (count : ℕ) : Type 0 where
-  pub room : length acts ≡ 256
+-- the sweep over all positions: its records in front of those that were lent, how many, and the components it leaves
+pub record SweepsAs (w : List ℕ) (l : ℕ) (st : State) (after : List ℕ) (before acts : List (List ℕ)) (count : ℕ) : Type 0 where
+  pub room : length acts ≡ length before
   pub records : take count acts ≡ map recOf (sweepAt w l 0 (st .n) (compsOf st) .actions)
+  pub rest : drop count acts ≡ drop count before
   pub number : count ≡ length (sweepAt w l 0 (st .n) (compsOf st) .actions)
   pub few : count ≤ st .n
   pub comps : compsOf (record { c = after; n = st .n }) ≡ sweepAt w l 0 (st .n) (compsOf st) .comps

@@ -2,12 +2,17 @@
 ghost use mathlib.Core.Path.{_≡_};
 ghost use mathlib.Core.Bool.{true};
 ghost use mathlib.Core.List.{_++_};
-ghost use Prim.Native.Nat.{_≤_};
+ghost use Prim.Native.Nat.{_<_, _≤_};
 ghost use lib.ListN.{length, take, drop};
+ghost use Rattle.terms.specs.Same.{every};
+ghost use Rattle.table.specs.Words.{locsIn};
+ghost use Rattle.table.specs.Meaning.{compsOf};
 ghost use Rattle.table.specs.Valid.{valid};
+ghost use Rattle.calls_steady.specs.Steady.{staysOne};
 ghost use Rattle.calls_step.specs.Stepped.{stepRule, stepsAs, refusal};
 use super::Stepped;
 use super::sweep;
+use calls_steady::known_steady;
 use calls_tick::pass;
 use table::Script;
 use table::Words;
@@ -45,13 +50,37 @@ fn put_records(acts: &[[u32; 3]; 256], count: usize, records: &mut [[u32; 3]])
     }
 }
 
-pub fn step_valid(w: &Script, c: &mut Words, n: usize, l: u32, records: &mut [[u32; 3]]) -> Stepped
+// Is it known at little cost that neither 15 nor 13 is answered by no? There is room for an action at every position, and every component stays one.
+fn spared(w: &Script, c: &Words, n: usize, l: u32, size: usize) -> bool
     requires { ⌜ valid (now w) (record { c = now c; n = n }) ≡ true ⌝ }
+    ensures { λ r. ⌜ (r ≡ true → (n ≤ size) × (every (staysOne (now (w .entry)) l) (compsOf (record { c = now (c .entry); n = n })) ≡ true)) ⌝ }
+{
+    if size < n {
+        return false;
+    }
+    known_steady(w, c, n, l)
+}
+
+// The step where it is so: nothing is to be put back, and the records are written where they are wanted.
+fn step_free(w: &Script, c: &mut Words, n: usize, l: u32, records: &mut [[u32; 3]]) -> Stepped
+    requires { ⌜ (valid (now w) (record { c = now c; n = n }) ≡ true) × (l < locsIn (now w)) × (n ≤ length (now records)) × (every (staysOne (now w) l) (compsOf (record { c = now c; n = n })) ≡ true) ⌝ }
     ensures { λ r. ⌜ stepsAs (now (w .entry)) (record { c = now (c .entry); n = n }) (stepRule (now (w .entry)) (record { c = now (c .entry); n = n }) l (length (now (records .entry)))) r (now (c .exit)) (now (records .entry)) (now (records .exit)) ⌝ }
 {
-    if words::word(w, 1) <= l {
-        return refuse(8, n);
+    sized(*c);
+    let count = sweep::sweep(w, c, n, l, records);
+    let k = pass::pass_all(w, c, n, l);
+    Stepped {
+        code: 0,
+        count: count,
+        n: k,
     }
+}
+
+// The step with questions 15 and 13: the records are written beside the lent ones, and a copy of the components is kept, until both are answered.
+fn step_kept(w: &Script, c: &mut Words, n: usize, l: u32, records: &mut [[u32; 3]]) -> Stepped
+    requires { ⌜ (valid (now w) (record { c = now c; n = n }) ≡ true) × (l < locsIn (now w)) ⌝ }
+    ensures { λ r. ⌜ stepsAs (now (w .entry)) (record { c = now (c .entry); n = n }) (stepRule (now (w .entry)) (record { c = now (c .entry); n = n }) l (length (now (records .entry)))) r (now (c .exit)) (now (records .entry)) (now (records .exit)) ⌝ }
+{
     sized(*c);
     let mut acts = [[0; 3]; 256];
     let held = *c;
@@ -69,4 +98,17 @@ pub fn step_valid(w: &Script, c: &mut Words, n: usize, l: u32, records: &mut [[u
         count: count,
         n: k,
     }
+}
+
+pub fn step_valid(w: &Script, c: &mut Words, n: usize, l: u32, records: &mut [[u32; 3]]) -> Stepped
+    requires { ⌜ valid (now w) (record { c = now c; n = n }) ≡ true ⌝ }
+    ensures { λ r. ⌜ stepsAs (now (w .entry)) (record { c = now (c .entry); n = n }) (stepRule (now (w .entry)) (record { c = now (c .entry); n = n }) l (length (now (records .entry)))) r (now (c .exit)) (now (records .entry)) (now (records .exit)) ⌝ }
+{
+    if words::word(w, 1) <= l {
+        return refuse(8, n);
+    }
+    if spared(w, c, n, l, records.len()) {
+        return step_free(w, c, n, l, records);
+    }
+    step_kept(w, c, n, l, records)
 }

@@ -1,7 +1,7 @@
 // The actions of a step: through the positions upward once. Who hears a channel is found beforehand, as a chain of positions for each channel.
 ghost use mathlib.Core.Path.{_≡_};
 ghost use mathlib.Core.Bool.{true};
-ghost use Prim.Native.Nat.{_<_};
+ghost use Prim.Native.Nat.{_<_, _≤_};
 ghost use lib.ListN.{length};
 ghost use Rattle.table.specs.Valid.{scriptOk, compOk, valid};
 ghost use Rattle.calls_step.specs.Visit.{sendsAt, link, kindOf, kindBy, kindAt, Performed, otherOf, poppedOf, recBy, SweepsAs};
@@ -123,16 +123,10 @@ fn rec_by(k: u32, p: usize, q: usize) -> [u32; 3]
     [k, p as u32, 0]
 }
 
-// How many actions there are. Their records are the first of acts, and the components are left as they leave them.
-pub(crate) fn sweep(
-    w: &Script,
-    c: &mut Words,
-    n: usize,
-    l: u32,
-    acts: &mut [[u32; 3]; 256],
-) -> usize
-    requires { ⌜ (valid (now w) (record { c = now c; n = n }) ≡ true) × (length (now c) ≡ stateWords) × (length (now acts) ≡ 256) ⌝ }
-    ensures { λ r. ⌜ SweepsAs (now (w .entry)) l (record { c = now (c .entry); n = n }) (now (c .exit)) (now (acts .exit)) r ⌝ }
+// How many actions there are. Their records are the first of acts, which has room for one at each position, and the components are left as they leave them.
+pub(crate) fn sweep(w: &Script, c: &mut Words, n: usize, l: u32, acts: &mut [[u32; 3]]) -> usize
+    requires { ⌜ (valid (now w) (record { c = now c; n = n }) ≡ true) × (length (now c) ≡ stateWords) × (n ≤ length (now acts)) ⌝ }
+    ensures { λ r. ⌜ SweepsAs (now (w .entry)) l (record { c = now (c .entry); n = n }) (now (c .exit)) (now (acts .entry)) (now (acts .exit)) r ⌝ }
 {
     let mut queue = Queue {
         heads: [0u32; 65],

@@ -19,6 +19,7 @@ use Rattle.table.specs.Valid.{headOk, scriptOk, compOk}
 use Rattle.table.specs.Fire.{readyAt, sentOn, hears, mustAct, heardAt, pressesAt}
 use Rattle.table.proofs.Tests.{script-fine, part-fine, comp-fine}
 use Rattle.table.proofs.Places.{out-fine, in-fine}
+use Rattle.calls_steady.proofs.Staying.{take-more}
 use Rattle.calls_tick.specs.Heard.{heardOn, hearsAt, Heard, pressedBy}
 
 -- ── lists ──
@@ -36,9 +37,6 @@ or-none true = refl
 or-none false = refl
 
 -- one more component
-pub take-more : {A : Type 0} (xs : List A) (j : ℕ) (d : A) → j < length xs → take (j + 1) xs ≡ take j xs ++ (getD xs j d ∷ [])
-take-more xs j d h = ap (λ k. take k xs) (add-one j) ∙ take-suc xs j d h
-
 pub some-more : {A : Type 0} (f : A → Bool) (xs : List A) (j : ℕ) (d : A) → j < length xs → some f (take (j + 1) xs) ≡ (some f (take j xs) || f (getD xs j d))
 unfolding some
 some-more f xs j d h = ap (some f) (take-more xs j d h) ∙ some-append f (take j xs) (getD xs j d ∷ []) ∙ ap (λ b. some f (take j xs) || b) (or-none (f (getD xs j d)))

@@ -22,8 +22,9 @@ use Rattle.table.proofs.Tests.{every-getD, script-fine, comp-fine}
 use Rattle.table.proofs.Kept.{tick-kept, tick-grows}
 use Rattle.calls_act.proofs.Positions.{valid-parts, comp-good}
 use Rattle.calls_tick.specs.declared.Turn.{Turn}
-use Rattle.calls_tick.specs.Turn.{stepOf, turnOf, touches, remaining}
-use Rattle.calls_tick.specs.Ticked.{passedFrom, PassedHere}
+use Rattle.calls_steady.specs.Steady.{touches}
+use Rattle.calls_tick.specs.Turn.{stepOf, turnOf, remaining}
+use Rattle.calls_tick.specs.Ticked.{passedFrom, PassedHere, passes}
 use Rattle.calls_tick.proofs.Turns.{turn-vals, turn-next, remaining-begin, remaining-turn, remaining-some, untouched}
 use Rattle.table.proofs.InUse.{comps-length, in-use, from-here, comp-at}
 use Rattle.table.proofs.ValidLists.{every-all, listFrom-length, listFrom-at}
@@ -230,3 +231,12 @@ module _ (w : List ℕ) (l : ℕ) (st : State) where
                 let g = every-getD (compOk w) _ noComp m (passed-fine v) (omega (arith, length-append (listFrom 0 i (compIn out)) (passedAll w l (drop i (compsOf st))), listFrom-length 0 i (compIn out))) in
                 ap (compOk w) (sym (List·getD-append (listFrom 0 i (compIn out)) _ noComp m (omega (arith, listFrom-length 0 i (compIn out))) ∙ listFrom-at 0 i (compIn out) m noComp d ∙ ap (compIn out) (omega arith))) ∙ g
             go false e = ap (compOk w) (p .rest m (ltb-false m i e)) ∙ comp-good w st v m c
+
+-- ── room for all ──
+-- the pass over all components finds room where they are as many afterwards
+pub pass-fits : (cs : List Comp) (before out : List ℕ) (k : ℕ) → passes cs before out k → length cs ≤ 256 → k ≤ 256
+pass-fits cs before out k p h = go (ltb 256 k) refl
+  where
+    go : (b : Bool) → ltb 256 k ≡ b → k ≤ 256
+    go true e = absurd (omega (arith, p .0 (ltb-true 256 k e)))
+    go false e = ltb-false 256 k e

@@ -18,8 +18,9 @@ use Rattle.table.specs.Fire.{passedAll}
 use Rattle.table.proofs.Tests.{inner, part-fine, comp-fine}
 use Rattle.table.proofs.Places.{out-fine, in-fine}
 use Rattle.table.proofs.Kept.{pass-some}
+use Rattle.calls_steady.specs.Steady.{touches}
 use Rattle.calls_tick.specs.declared.Turn.{Turn}
-use Rattle.calls_tick.specs.Turn.{whole, stepOf, partOf, elseTurn, waitTurn, firstTurn, turnOf, touches, restOf, remaining}
+use Rattle.calls_tick.specs.Turn.{whole, stepOf, partOf, elseTurn, waitTurn, firstTurn, turnOf, restOf, remaining}
 
 -- ── a split, part by part ──
 next-small : (w : List ℕ) (i n : ℕ) → nextOk w i n ≡ true → n ≤ i

@@ -50,10 +50,6 @@ unfoldable pub turnOf : List ℕ → ℕ → Comp → ℕ → Turn
 turnOf w l c zero = firstTurn w l c
 turnOf w l c (suc j) = partOf w c j
 
--- has the tick at l anything to do with c?
-unfoldable pub touches : ℕ → Comp → Bool
-touches l c = cond (ltb (c .mark) 64) (eqb (c .mark) l) (eqb (c .loc) l)
-
 -- what is left to be written of c
 unfoldable pub restOf : List ℕ → ℕ → Comp → ℕ → List Comp
 restOf w l c zero = passed w l c

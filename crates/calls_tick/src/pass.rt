@@ -10,9 +10,10 @@ ghost use Rattle.table.specs.Valid.{scriptOk, compOk, valid, headOk};
 ghost use Rattle.table.specs.Split.{timerIn, fresh, timed};
 ghost use Rattle.table.specs.Fire.{passedAll};
 ghost use Rattle.terms.specs.Clock.{lessRaw};
-ghost use Rattle.calls_tick.specs.Turn.{whole, partOf, elseTurn, waitTurn, firstTurn, turnOf, touches};
+ghost use Rattle.calls_tick.specs.Turn.{whole, partOf, elseTurn, waitTurn, firstTurn, turnOf};
 ghost use Rattle.calls_tick.specs.Ticked.{passes, passedFrom, PassedHere};
 use super::Turn;
+use calls_steady::touched;
 use table::Comp;
 use table::Head;
 use table::Script;
@@ -145,16 +146,6 @@ fn turn(w: &Script, l: u32, c: Comp, next: u32) -> Turn
         return first_turn(w, l, c);
     }
     part_turn(w, c, next - 1)
-}
-
-// Has the tick at l anything to do with c?
-fn touched(l: u32, c: Comp) -> bool
-    ensures { λ r. ⌜ r ≡ touches l c ⌝ }
-{
-    if 64 <= c.mark {
-        return c.loc == l;
-    }
-    c.mark == l
 }
 
 // The components in place, up to the first that splits: its position, or n. One that the tick does not touch is left alone.

@@ -25,7 +25,7 @@ abbrev μ-loop : tie.MeasureT-loop
 μ-loop w c n l acts queue₀ j₀ queue j = j
 
 abbrev Inv-loop2 : tie.InvT-loop2
-Inv-loop2 w c₀ n l acts₀ queue₀ j count₀ p₀ c acts queue count p = Going w l (record { c = c₀; n = n }) (record { c = c; n = n }) (queue .heads) (queue .nexts) acts count p
+Inv-loop2 w c₀ n l acts₀ queue₀ j count₀ p₀ c acts queue count p = Going w l (record { c = c₀; n = n }) (record { c = c; n = n }) (queue .heads) (queue .nexts) acts₀ acts count p
 
 abbrev μ-loop2 : tie.MeasureT-loop2
 μ-loop2 w c₀ n l acts₀ queue₀ j count₀ p₀ c acts queue count p = n - p
@@ -42,13 +42,13 @@ module _ (c : tie.In-loop2 Inv-loop μ-loop Inv-loop2 μ-loop2) where
   below = c .loop2-test .taken
 
   fine : (q : ℕ) → q < c .before .before .before .before .args .n → compOk (c .before .before .before .before .args .w .now) (compIn (c .before .loop2 .c) q) ≡ true
-  fine = good-at _ script _ _ _ _ _ _ _ _ few (c .before .loop2 .inv) below
+  fine = good-at _ script _ _ _ _ _ _ _ _ _ few (c .before .loop2 .inv) below
 
   channel : sendsAt (c .before .before .before .before .args .w .now) (c .before .before .before .before .args .l) (compIn (c .before .loop2 .c) (c .before .loop2 .p)) ≤ 64
-  channel = channel-fits _ script _ _ _ _ _ _ _ _ few (c .before .loop2 .inv) below
+  channel = channel-fits _ script _ _ _ _ _ _ _ _ _ few (c .before .loop2 .inv) below
 
   other : otherOf (c .before .loop2 .p) (getD (c .before .loop2 .queue .heads) (sendsAt (c .before .before .before .before .args .w .now) (c .before .before .before .before .args .l) (compIn (c .before .loop2 .c) (c .before .loop2 .p))) 0) < c .before .before .before .before .args .n
-  other = other-fits _ script _ _ _ _ _ _ _ _ few (c .before .loop2 .inv) below
+  other = other-fits _ script _ _ _ _ _ _ _ _ _ few (c .before .loop2 .inv) below
 
 loop-holds : tie.Need-loop-holds Inv-loop μ-loop Inv-loop2 μ-loop2
 loop-holds c =
@@ -168,7 +168,7 @@ loop2-less c = omega arith
 loop2-again : tie.Need-loop2-again Inv-loop μ-loop Inv-loop2 μ-loop2
 loop2-again c =
     let e = rw (c .before .before .before .wide2 .ensures, c .before .before .before .before .sends-at .ensures, c .before .before .before .before .before .comp-at2 .ensures) at (sym (c .before .kind-at .ensures) ∙ c .if1 .taken) in
-    going-idle _ (script (c .before .before .before .before .before .before .before)) _ _ _ _ _ _ _ _ (few (c .before .before .before .before .before .before .before)) (c .before .before .before .before .before .before .before .before .loop2 .inv) (below (c .before .before .before .before .before .before .before)) e
+    going-idle _ (script (c .before .before .before .before .before .before .before)) _ _ _ _ _ _ _ _ _ (few (c .before .before .before .before .before .before .before)) (c .before .before .before .before .before .before .before .before .loop2 .inv) (below (c .before .before .before .before .before .before .before)) e
 
 comp-at-requires-3 : tie.Need-comp-at-requires-3 Inv-loop μ-loop Inv-loop2 μ-loop2
 comp-at-requires-3 c κs =
@@ -201,17 +201,17 @@ rec-by-requires c κs =
 mul-r : tie.Need-mul-r Inv-loop μ-loop Inv-loop2 μ-loop2
 mul-r c =
     let past = c .before .before .before .before .before .before .before .before .before .before .before .before .before .before .before .before .before .before in
-    omega (arith, few (past), below (past), past .before .loop2 .inv .few-count, past .before .loop2 .inv .room)
+    omega (arith, few (past), below (past), past .before .loop2 .inv .few-count, past .before .loop2 .inv .enough, past .before .loop2 .inv .room)
 
-element-set-from-r : tie.Need-element-set-from-r Inv-loop μ-loop Inv-loop2 μ-loop2
-element-set-from-r c =
+slice-set-from-r : tie.Need-slice-set-from-r Inv-loop μ-loop Inv-loop2 μ-loop2
+slice-set-from-r c =
     let past = c .before .before .before .before .before .before .before .before .before .before .before .before .before .before .before .before .before .before in
-    omega (arith, few (past), below (past), past .before .loop2 .inv .few-count, past .before .loop2 .inv .room)
+    omega (arith, few (past), below (past), past .before .loop2 .inv .few-count, past .before .loop2 .inv .enough, past .before .loop2 .inv .room)
 
 add-count : tie.Need-add-count Inv-loop μ-loop Inv-loop2 μ-loop2
 add-count c =
     let past = c .before .before .before .before .before .before .before .before .before .before .before .before .before .before .before .before .before .before in
-    omega (arith, few (past), below (past), past .before .loop2 .inv .few-count, past .before .loop2 .inv .room)
+    omega (arith, few (past), below (past), past .before .loop2 .inv .few-count, past .before .loop2 .inv .enough, past .before .loop2 .inv .room)
 
 mul-nx : tie.Need-mul-nx Inv-loop μ-loop Inv-loop2 μ-loop2
 mul-nx c =
@@ -248,16 +248,18 @@ loop2-again-2 c =
     let f = rw (far .before .before .before .before .before .kind-at .ensures, far .before .comp-at3 .ensures, far .before .before .before .other-of .ensures, far .before .before .before .before .before .before .before .wide2 .ensures, far .before .before .before .before .before .before .before .before .sends-at .ensures, far .before .before .before .before .before .before .before .before .before .comp-at2 .ensures) at (far .perform .ensures) in
     let e = rw (far .before .before .before .before .before .before .before .wide2 .ensures, far .before .before .before .before .before .before .before .before .sends-at .ensures, far .before .before .before .before .before .before .before .before .before .comp-at2 .ensures) at (far .before .before .before .before .before .kind-at .ensures) in
     rw (c .popped-of .ensures, c .before .before .rec-by .ensures, c .before .before .before .put-comp2 .ensures, past .put-comp .ensures, far .before .before .before .before .before .kind-at .ensures, far .before .before .before .other-of .ensures, far .before .before .before .before .before .before .before .wide2 .ensures, far .before .before .before .before .before .before .before .before .sends-at .ensures, far .before .before .before .before .before .before .before .before .before .comp-at2 .ensures)
-    (going-fires _ (script (far .before .before .before .before .before .before .before .before .before .before .before)) _ _ _ _ _ _ _ _ (few (far .before .before .before .before .before .before .before .before .before .before .before)) (far .before .before .before .before .before .before .before .before .before .before .before .before .loop2 .inv) (below (far .before .before .before .before .before .before .before .before .before .before .before)) (far .perform .result) f (λ z. far .before .before .before .before .if1 .left (e ∙ z)))
+    (going-fires _ (script (far .before .before .before .before .before .before .before .before .before .before .before)) _ _ _ _ _ _ _ _ _ (few (far .before .before .before .before .before .before .before .before .before .before .before)) (far .before .before .before .before .before .before .before .before .before .before .before .before .loop2 .inv) (below (far .before .before .before .before .before .before .before .before .before .before .before)) (far .perform .result) f (λ z. far .before .before .before .before .if1 .left (e ∙ z)))
+
+same-length : tie.Need-same-length Inv-loop μ-loop Inv-loop2 μ-loop2
+same-length c = c .before .loop2 .inv .room
 
 returns : tie.Need-returns Inv-loop μ-loop Inv-loop2 μ-loop2
 returns c =
     let a = c .before .before .before .before .args in
-    let v = c .before .before .before .before .pre .0 in
     let st : State = record { c = a .c .now; n = a .n } in
     let i = c .before .loop2 .inv in
-    let e = going-end (a .w .now) (a .l) st _ _ _ _ _ _ i (omega arith) (few-comps (a .w .now) st v) in
-    record { room = i .room; records = e .0; number = e .1; few = omega (arith, i .few-count, i .few-p); comps = e .2; slotted = i .size; past = i .past }
+    let e = going-end (a .w .now) (a .l) st _ _ _ _ _ _ _ i (omega arith) in
+    record { room = i .room; records = e .0; rest = i .rest; number = e .1; few = omega (arith, i .few-count, i .few-p); comps = e .2; slotted = i .size; past = i .past }
 
 pub sweep-spec : {M : Type 1} → statement M
 sweep-spec =
@@ -298,7 +300,7 @@ sweep-spec =
     put-comp-requires-2
     rec-by-requires
     mul-r
-    element-set-from-r
+    slice-set-from-r
     add-count
     mul-nx
     element-copy-out-nx
@@ -308,4 +310,5 @@ sweep-spec =
     add-p-2
     loop2-less-2
     loop2-again-2
+    same-length
     returns)

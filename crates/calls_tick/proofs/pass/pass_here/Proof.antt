@@ -4,7 +4,8 @@ use mathlib.Core.Path.{_≡_, sym, ap, _∙_}
 use borrow.Author.Tests.{not-true}
 use Rattle.table.specs.Meaning.{compIn}
 use Rattle.calls_act.proofs.Positions.{few-comps, valid-parts, comp-good}
-use Rattle.calls_tick.specs.Turn.{turnOf, touches}
+use Rattle.calls_steady.specs.Steady.{touches}
+use Rattle.calls_tick.specs.Turn.{turnOf}
 use Rattle.calls_tick.specs.Ticked.{PassedHere}
 use Rattle.calls_tick.proofs.Passing.{here-begin, here-turn, here-left}
 use borrow.Author.Needs.{needs}

@@ -1,8 +1,8 @@
 -- `touched` meets its contract: the mark decides, then the location.
 use borrow.Author.Tests.{le-ltb, lt-ltb}
-use Rattle.calls_tick.specs.Turn.{touches}
-use Rattle.calls_tick.proofs.pass.touched.Statement.{statement}
-use Rattle.calls_tick.proofs.pass.touched.Tie as tie
+use Rattle.calls_steady.specs.Steady.{touches}
+use Rattle.calls_steady.proofs.touched.Statement.{statement}
+use Rattle.calls_steady.proofs.touched.Tie as tie
 
 returns : tie.Need-returns
 unfolding touches
