@@ -6,9 +6,7 @@
 # run by both engines and by that peer, whose better model is compared with.
 set -eu
 cd "$(dirname "$0")"
-mkdir -p target
-rt staticlib timo > target/staticlib.log 2>&1 || { tail -n 20 target/staticlib.log; exit 1; }
-(cd compare && cargo build --release --offline --quiet)
+. compare/built.sh
 bench=compare/target/release/bench
 scripts=()
 if [ -n "${PEER:-}" ]; then mapfile -t scripts < <(find "$PEER" -name '*.timo' | sort); fi

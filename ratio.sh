@@ -4,9 +4,7 @@
 # `bash ratio.sh --count`: instructions of such steps with 1, 16 and 128 pairs, where valgrind is installed.
 set -eu
 cd "$(dirname "$0")"
-mkdir -p target
-rt staticlib timo > target/staticlib.log 2>&1 || { tail -n 20 target/staticlib.log; exit 1; }
-(cd compare && cargo build --release --offline --quiet)
+. compare/built.sh
 ratio=compare/target/release/ratio
 [ "${1:-}" = --count ] || exec "$ratio"
 

@@ -4,7 +4,7 @@ use std::fmt;
 use std::hint::black_box;
 use std::time::{Duration, Instant};
 
-use crate::timo::Table;
+use crate::timo::{State, Table};
 
 /// A measurement is the least of so many, each of which goes on so long.
 const TIMES: usize = 9;
@@ -41,33 +41,26 @@ pub fn grid(side: usize, rovers: usize) -> String {
     )
 }
 
-/// Outputs on one channel and inputs on another or the same.
-pub fn facing(pairs: usize, sent: &str, heard: &str) -> String {
-    let output = format!("A[out({sent},9,A,stop,stop)]");
-    let input = format!("A[in({heard},9,x,stop,stop)]");
-    let mut components = vec![output; pairs];
-    components.extend(vec![input; pairs]);
+/// An output on a channel within its P, so many deep, around `stop`.
+fn outputs(channel: &str, depth: usize) -> String {
+    (0..depth).fold(String::from("stop"), |inner, _| {
+        format!("out({channel},9,A,{inner},stop)")
+    })
+}
+
+/// Outputs on one channel and inputs on another or the same, as many of each,
+/// with a P that goes on so many outputs deep.
+pub fn facing(pairs: usize, sent: &str, heard: &str, depth: usize) -> String {
+    let rest = outputs("e", depth);
+    let mut components = vec![format!("A[out({sent},9,A,{rest},stop)]"); pairs];
+    components.extend(vec![format!("A[in({heard},9,x,{rest},stop)]"); pairs]);
     format!("{} .\n", components.join(" | "))
 }
 
 /// Outputs that nobody hears, each with as many parts as the depth twice over and
 /// one.
-pub fn nested(outputs: usize, depth: usize) -> String {
-    let process = (0..depth).fold(String::from("stop"), |inner, _| {
-        format!("out(c,9,A,{inner},stop)")
-    });
-    let components = vec![format!("A[{process}]"); outputs];
-    format!("{} .\n", components.join(" | "))
-}
-
-/// As many outputs on one channel and inputs on another or the same, all with a
-/// continuation of so many parts, in one location.
-fn pairs(pairs: usize, heard: &str, depth: usize) -> String {
-    let rest = (0..depth).fold(String::from("stop"), |inner, _| {
-        format!("out(e,9,A,{inner},stop)")
-    });
-    let mut components = vec![format!("A[out(c,9,A,{rest},stop)]"); pairs];
-    components.extend(vec![format!("A[in({heard},9,x,{rest},stop)]"); pairs]);
+pub fn nested(count: usize, depth: usize) -> String {
+    let components = vec![format!("A[{}]", outputs("c", depth)); count];
     format!("{} .\n", components.join(" | "))
 }
 
@@ -76,7 +69,7 @@ fn pairs(pairs: usize, heard: &str, depth: usize) -> String {
 /// 02, R-5. The networks are the same but for the channel's name.
 pub struct Ratio {
     pub pairs: usize,
-    /// Parts of a component's continuation, `stop` not counted.
+    /// Outputs that follow in the P of each.
     pub depth: usize,
     /// µs of the step that fires.
     pub fires: f64,
@@ -85,14 +78,14 @@ pub struct Ratio {
 }
 
 impl Ratio {
-    pub const HEAD: &'static str = "| pairs | parts that follow | a step that fires them µs | one that fires none µs | ratio |\n|---|---|---|---|---|";
+    pub const HEAD: &'static str = "| pairs | outputs that follow | a step that fires them µs | one that fires none µs | ratio |\n|---|---|---|---|---|";
 
-    pub fn measure(pairs_of: usize, depth: usize) -> Ratio {
+    pub fn measure(pairs: usize, depth: usize) -> Ratio {
         Ratio {
-            pairs: pairs_of,
+            pairs,
             depth,
-            fires: one_step(&pairs(pairs_of, "c", depth), pairs_of),
-            idle: one_step(&pairs(pairs_of, "d", depth), 0),
+            fires: First::of(pairs, true, depth).micros(),
+            idle: First::of(pairs, false, depth).micros(),
         }
     }
 
@@ -122,34 +115,38 @@ impl fmt::Display for Ratio {
     }
 }
 
-/// The time of the first step of a script, which has to fire so many actions.
-/// The state is put back before each, and what that takes is taken off.
-fn one_step(script: &str, actions: usize) -> f64 {
-    let mut table = Table::read(script.as_bytes()).expect("the workload is read");
-    let start = table.state;
-    let mut lent = vec![[0; 3]; 256];
-    assert_eq!(table.step(0, &mut lent), Ok(actions));
-    let both = micros(|| {
-        table.state = start;
-        table.step(0, &mut lent).unwrap_or(0)
-    });
-    let back = micros(|| {
-        table.state = start;
-        black_box(&mut table.state).n
-    });
-    both - back
+/// The first step of a network of pairs, which all fire or of which none does.
+pub struct First {
+    table: Table,
+    start: State,
+    lent: Vec<[u32; 3]>,
 }
 
-/// So many first steps of the same network, each of which fires all pairs or
-/// none.
-pub fn steps(pairs_of: usize, fires: bool, count: usize) {
-    let script = pairs(pairs_of, if fires { "c" } else { "d" }, 0);
-    let mut table = Table::read(script.as_bytes()).expect("the workload is read");
-    let start = table.state;
-    let mut lent = vec![[0; 3]; 256];
-    for _ in 0..count {
-        table.state = start;
-        black_box(table.step(0, &mut lent).unwrap_or(0));
+impl First {
+    pub fn of(pairs: usize, fires: bool, depth: usize) -> First {
+        let script = facing(pairs, "c", if fires { "c" } else { "d" }, depth);
+        let table = Table::read(script.as_bytes()).expect("the workload is read");
+        let start = table.state;
+        let lent = vec![[0; 3]; 256];
+        let mut first = First { table, start, lent };
+        assert_eq!(first.step(), if fires { pairs } else { 0 });
+        first
+    }
+
+    fn put_back(&mut self) -> usize {
+        self.table.state = self.start;
+        black_box(&mut self.table.state).n
+    }
+
+    /// The state is put back before it.
+    pub fn step(&mut self) -> usize {
+        self.put_back();
+        black_box(self.table.step(0, &mut self.lent).unwrap_or(0))
+    }
+
+    /// What it takes to put the state back is taken off.
+    fn micros(mut self) -> f64 {
+        micros(|| self.step()) - micros(|| self.put_back())
     }
 }
 

@@ -35,13 +35,13 @@ fn main() {
     for pairs in [16, 32, 64, 128] {
         line(
             &format!("{pairs} pairs that fire"),
-            &facing(pairs, "c", "c"),
+            &facing(pairs, "c", "c", 0),
         );
     }
     for pairs in [16, 32, 64, 128] {
         line(
             &format!("{pairs} pairs that do not"),
-            &facing(pairs, "c", "d"),
+            &facing(pairs, "c", "d", 0),
         );
     }
     for depth in [1, 2, 4, 8, 16] {

@@ -9,7 +9,7 @@
 use std::env;
 use std::process::ExitCode;
 
-use compare::load::{steps, Ratio};
+use compare::load::{First, Ratio};
 
 const ROUNDS: usize = 7;
 const PAIRS: usize = 128;
@@ -20,7 +20,10 @@ fn main() -> ExitCode {
     if let [option, pairs, count, rest @ ..] = words.as_slice() {
         if option == "--count" {
             let number = |word: &String| word.parse().expect("a number");
-            steps(number(pairs), rest.is_empty(), number(count));
+            let mut first = First::of(number(pairs), rest.is_empty(), 0);
+            for _ in 0..number(count) {
+                first.step();
+            }
             return ExitCode::SUCCESS;
         }
     }
