@@ -1,6 +1,6 @@
 /* The library from C, and as it stands from C++: document 01's network read,
- * stepped and printed as timorun prints it, then the single calls and what is
- * refused. Every function of timo.h is called. */
+ * stepped and printed as timorun prints it, then the single calls, what is
+ * refused, and a text under both editions. Every function of timo.h is called. */
 #include <stdio.h>
 #include <string.h>
 #include "timo.h"
@@ -9,11 +9,18 @@ static const char page[] =
     "Page(x) = go(0,x,out(c,1,x,stop,stop)) .\n"
     "A[Page(B)] | B[in(c,2,y,go(0,y,stop),stop)] .\n";
 
+/* A pair at timer 1, and an output at 1 that nobody hears, with an input at 1 as
+ * its Q. */
+static const char chances[] =
+    "A[out(c,1,A,stop,stop) | in(c,1,x,stop,stop)] | B[out(c,1,B,stop,in(d,1,y,stop,go(1,B,stop)))] .\n";
+
 static uint32_t script[TIMO_WORDS], other[TIMO_WORDS];
 
-static struct timo_reading read_text(const char *text, uint32_t words[TIMO_WORDS])
+static struct timo_reading read_text(const char *text, uint32_t edition, uint32_t words[TIMO_WORDS])
 {
-    return timo_read((const uint8_t *)text, strlen(text), words);
+    struct timo_settings settings;
+    settings.edition = edition;
+    return timo_read((const uint8_t *)text, strlen(text), settings, words);
 }
 
 static void refused(const char *what, uint32_t code)
@@ -109,8 +116,12 @@ static void single_calls(struct timo_state state)
 
 static void refusals(struct timo_state state, uint32_t locations)
 {
-    refused("no text", timo_read(NULL, 0, other).code);
-    refused("unbound variable", read_text("A[go(1,x,stop)] .", other).code);
+    struct timo_settings settings = {1};
+
+    refused("no text", timo_read(NULL, 0, settings, other).code);
+    refused("edition 3", read_text(page, 3, other).code);
+    refused("no text, no edition", read_text("", 0, other).code);
+    refused("unbound variable", read_text("A[go(1,x,stop)] .", 1, other).code);
     refused("no such location", timo_location_name(script, &state.c, state.n, locations, NULL, 0).code);
     refused("no bytes", timo_location_name(script, &state.c, state.n, 0, NULL, 0).code);
     refused("no records", timo_step(script, &state.c, state.n, 0, NULL, 0).code);
@@ -121,9 +132,33 @@ static void refusals(struct timo_state state, uint32_t locations)
     refused("no component", timo_tick(script, &state.c, state.n, 0).code);
 }
 
+/* Under both editions the pair stops the tick and meets. The output at timer 1
+ * is lowered under edition 1 and takes its Q under edition 2; that Q is not
+ * lowered in the same tick. */
+static void editions(void)
+{
+    struct timo_state one = read_text(chances, 1, other).state, state;
+    uint32_t edition, round;
+
+    for (edition = 1; edition <= 2; edition++) {
+        state = read_text(chances, edition, script).state;
+        printf("edition %u:\n", (unsigned)script[TIMO_EDITION]);
+        refused("tick first", timo_tick(script, &state.c, state.n, 0).code);
+        step(&state, 0);
+        for (round = 0; round < 3; round++) {
+            step(&state, 1);
+            put_network(&state);
+        }
+    }
+    state = read_text(chances, 2, script).state;
+    printf("same text, other edition: same %s\n", timo_same(other, &one.c, one.n, script, &state.c, state.n).yes ? "yes" : "no");
+    script[TIMO_EDITION] = 0;
+    refused("no edition in the table", timo_tick(script, &state.c, state.n, 1).code);
+}
+
 int main(void)
 {
-    struct timo_reading reading = read_text(page, script);
+    struct timo_reading reading = read_text(page, 1, script);
     struct timo_state state = reading.state;
     static uint8_t printed[TIMO_PRINTOUT];
     uint32_t locations, l;
@@ -141,6 +176,7 @@ int main(void)
     put_network(&state);
     single_calls(reading.state);
     refusals(reading.state, locations);
+    editions();
     length = timo_printout((const uint8_t *)page, strlen(page), printed, sizeof printed);
     printf("printout: %zu bytes, %zu where none are lent\n", length, timo_printout((const uint8_t *)page, strlen(page), NULL, 0));
     fwrite(printed, 1, length, stdout);

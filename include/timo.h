@@ -15,12 +15,20 @@
  * that it is lent; what it only reads may: timo_same can be given one network
  * twice. Nothing else may write any of it during the call.
  *
+ * Editions. A text is read under edition 1 or 2 of the script guild's rules,
+ * which stays with the network. Under edition 1 an `in` or `out` takes its Q at a
+ * tick with timer 0, under edition 2 with timer 0 or 1; nothing else but
+ * timo_same depends on it. The script has it in one word, TIMO_EDITION, which
+ * reading writes; a text that is written does not show it.
+ *
  * Words that are not in use. No call looks at the spare words of a component,
- * at the ledger behind the components, at positions past the components in use,
- * or at the words of a script behind the row of its last part. After an accepted
- * action, tick, step or proposal all of them are as they were; reading returns
- * zeros in the state's, and leaves the script's as they were. A later version
- * may give them a meaning: a host that makes tables itself sets them to 0.
+ * at the ledger behind the components or at positions past the components in
+ * use. After an accepted action, tick, step or proposal all of them are as they
+ * were; reading returns zeros there. Of the words of a script behind the row of
+ * its last part the calls look at TIMO_EDITION and, in a table made by hand, at
+ * names that a scope has there; reading writes TIMO_EDITION and leaves the others
+ * as they were. A later version may give such words a meaning: a host that makes
+ * tables itself sets them to 0, but writes 1 or 2 into TIMO_EDITION.
  *
  * Threads. The calls share nothing and keep nothing, so that several threads
  * may call at the same time, also with one script.
@@ -44,6 +52,7 @@ extern "C" {
 #endif
 
 #define TIMO_WORDS 99984      /* words of a script */
+#define TIMO_EDITION 99592    /* the word of a script that holds its edition, 1 or 2 */
 #define TIMO_COMPONENTS 256   /* components of a state; no step has more actions */
 #define TIMO_LOCATIONS 64     /* most locations of a network */
 #define TIMO_UNMARKED 64      /* the mark of a component that has none */
@@ -59,6 +68,11 @@ extern "C" {
 #define TIMO_LABEL 51         /* a label */
 #define TIMO_LINE 13329       /* the line of a step, with its line feed */
 #define TIMO_PRINTOUT 3477760 /* a printout */
+
+/* What is given with a text at reading; later versions add to it. */
+struct timo_settings {
+    uint32_t edition;         /* 1 or 2 */
+};
 
 /* A component: the numbers of its location and its owner, the place of its
  * part, its timer, the location that each slot of its scope has, and four words
@@ -139,14 +153,15 @@ struct timo_counted {
     uint32_t count;           /* 0 where code is not 0 */
 };
 
-/* Reading: the network of a text of n bytes, its script in the words lent and
- * its components in the state returned. The words may hold anything before.
- * Locations and channels are numbered by first place in the text; components
- * stand in text order, unmarked. A refusal leaves the words unchanged and
- * returns a state of zeros. Refusals: 1 to 7. It goes one level deeper for each
- * level of nesting in the text, at most 9,361, and needs up to 1.8 MiB of
- * stack. A text of no bytes is refused by 2. */
-struct timo_reading timo_read(const uint8_t *text, size_t n, uint32_t script[TIMO_WORDS]);
+/* Reading: the network of a text of n bytes under the edition given, its script
+ * in the words lent and its components in the state returned. The words may hold
+ * anything before. Locations and channels are numbered by first place in the
+ * text; components stand in text order, unmarked. A refusal leaves the words
+ * unchanged and returns a state of zeros. Refusals: 21 for an edition that is
+ * neither 1 nor 2, then 1 to 7. It goes one level deeper for each level of
+ * nesting in the text, at most 9,361, and needs up to 1.8 MiB of stack. A text of
+ * no bytes is refused by 2. */
+struct timo_reading timo_read(const uint8_t *text, size_t n, struct timo_settings settings, uint32_t script[TIMO_WORDS]);
 
 /* Question 17. */
 bool timo_valid(const uint32_t script[TIMO_WORDS], const struct timo_comps *c, size_t n);
@@ -156,7 +171,9 @@ bool timo_valid(const uint32_t script[TIMO_WORDS], const struct timo_comps *c, s
  * 11, in this order. */
 struct timo_acted timo_action(const uint32_t script[TIMO_WORDS], struct timo_comps *c, size_t n, uint32_t kind, size_t p, size_t q);
 
-/* The tick at location l. Refusals: 17, 8, 12, 13. */
+/* The tick at location l: what is ready there is lowered by one or, if it is an
+ * `in` or `out` that has no tick left under the script's edition, becomes its Q,
+ * with timers as they stand. Refusals: 17, 8, 12, 13. */
 struct timo_ticked timo_tick(const uint32_t script[TIMO_WORDS], struct timo_comps *c, size_t n, uint32_t l);
 
 /* The step at location l: its actions as records (kind, p, q) in the records
@@ -173,14 +190,15 @@ struct timo_ticked timo_propose(const uint32_t script[TIMO_WORDS], struct timo_c
 /* The locations where the tick is not allowed. Refusal: 17. */
 struct timo_report timo_forced(const uint32_t script[TIMO_WORDS], const struct timo_comps *c, size_t n);
 
-/* The network as text in the bytes lent. Bytes past the length are unchanged.
+/* The network as text in the bytes lent; it does not show the edition, and is
+ * to be read back under the script's own. Bytes past the length are unchanged.
  * Refusals: 17, 14, 15. What a text of at most TIMO_TEXT bytes gives can still
  * be longer than that, with values put in. */
 struct timo_written timo_write(const uint32_t script[TIMO_WORDS], const struct timo_comps *c, size_t n, uint8_t *bytes, size_t lent);
 
-/* Whether two networks are the same: the same definitions as a set and, in any
- * order, the same components, each as often, location and owner by name, parts
- * letter by letter with values put in. The numbers that names have do not count,
+/* Whether two networks are the same: of one edition, with the same definitions
+ * as a set and, in any order, the same components, each as often, location and
+ * owner by name, parts letter by letter with values put in. The numbers that names have do not count,
  * nor does a name that no longer occurs. yes is false where code is not 0.
  * Refusal: 17, for either network. */
 struct timo_compared timo_same(const uint32_t script_a[TIMO_WORDS], const struct timo_comps *a, size_t n, const uint32_t script_b[TIMO_WORDS], const struct timo_comps *b, size_t m);
@@ -206,8 +224,8 @@ struct timo_written timo_action_label(const uint32_t script[TIMO_WORDS], const s
  * Refusals: 17, 8, 13 as for the step, then 15. */
 struct timo_written timo_step_line(const uint32_t script[TIMO_WORDS], const struct timo_comps *c, size_t n, uint32_t l, uint8_t *bytes, size_t lent);
 
-/* The whole printout of a text of n bytes, as timorun prints it, refusals
- * included. It returns the printout's length, at most TIMO_PRINTOUT, whatever
+/* The whole printout of a text of n bytes, as timorun prints it, under edition 1,
+ * refusals included. It returns the printout's length, at most TIMO_PRINTOUT, whatever
  * is lent. Fewer bytes get the printout's first ones; with more, those past the
  * length are unchanged. */
 size_t timo_printout(const uint8_t *text, size_t n, uint8_t *bytes, size_t lent);
@@ -221,6 +239,7 @@ size_t timo_printout(const uint8_t *text, size_t n, uint8_t *bytes, size_t lent)
 #define TIMO_ASSERT(test)
 #endif
 TIMO_ASSERT(sizeof(size_t) == 8 && sizeof(bool) == 1)
+TIMO_ASSERT(sizeof(struct timo_settings) == 4)
 TIMO_ASSERT(sizeof(struct timo_comp) == 64 && offsetof(struct timo_comp, vals) == 16 && offsetof(struct timo_comp, spare) == 48)
 TIMO_ASSERT(sizeof(struct timo_comps) == 16448 && offsetof(struct timo_comps, ledger) == 16384)
 TIMO_ASSERT(sizeof(struct timo_state) == 16456 && offsetof(struct timo_state, n) == 16448)

@@ -1,13 +1,24 @@
 #!/usr/bin/env bash
-# The printout of each example script, as the reference engine makes it, is the stored one.
+# The printout of each example script, as the reference engine makes it, is the stored one, and so are the answers to each example list: under the edition
+# that NAME.edition holds, or 1, and in NAME.edition_1.answers those under edition 1.
 set -eu
 cd "$(dirname "$0")/.."
 (cd reference && cargo build --release --offline -j 2 --quiet)
 differ=0
+# stored FILE PROGRAM..: what a program prints is the file
+stored() {
+    local file=$1
+    shift
+    "$@" | cmp -s - "$file" || { echo "differs: $file"; differ=1; }
+}
 for script in examples/*.timo; do
-    if ! reference/target/release/timorun < "$script" | cmp -s - "${script%.timo}.out"; then
-        echo "differs: $script"
-        differ=1
-    fi
+    stored "${script%.timo}.out" reference/target/release/timorun < "$script"
+done
+for list in examples/*.calls; do
+    name=${list%.calls}
+    edition=1
+    if [ -e "$name.edition" ]; then edition=$(cat "$name.edition"); fi
+    stored "$name.answers" reference/target/release/answers "$name.timo" "$list" "$edition"
+    if [ -e "$name.edition_1.answers" ]; then stored "$name.edition_1.answers" reference/target/release/answers "$name.timo" "$list"; fi
 done
 test "$differ" -eq 0

@@ -2,7 +2,7 @@
 """Pointers and lists that a reader follows.
 
 - `document 01, *Section*` in crates/, reference/, compare/, examples/, tests/ or docs/ means that section of docs/ENGINE.md: each name between stars that
-  stands in one sentence with `document 01` has to be a heading there or one of its bold words.
+  stands in one sentence with `document 01` has to be a heading there or one of its bold words. `document 02, R-n` means what that page marks with (R-n).
 - The head of each crate's src/lib.rt has to name every file of the crate: specs/, the law files of proofs/, src/.
 - Each page of docs/ that README.md or a page of docs/ names has to be there, and each definition that a page names as `name` of `crate/specs/File`.
 """
@@ -51,7 +51,12 @@ def files():
 
 def pointers():
     known, count = sections(), 0
+    requests = set(re.findall(r"\(R-(\d+)\)", read("docs/ENGINE.md")))
     for path in files():
+        for number in re.findall(r"document\s+02,\s+R-(\d+)", read(path), re.I):
+            count += 1
+            if number not in requests:
+                errors.append(f"{path}: docs/ENGINE.md marks nothing with (R-{number})")
         for sentence in sentences(path):
             if not re.search(r"document\s+01", sentence, re.I):
                 continue

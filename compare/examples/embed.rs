@@ -1,9 +1,16 @@
 //! The library from Rust: what `examples/embed.c` does, and the same printout.
 
-use compare::timo::{printout, read_into, words_of, Record, Table, LABEL, LINE, NAME, PRINTOUT};
+use compare::timo::{
+    printout, read_into, words_of, Record, Settings, Table, EDITION, LABEL, LINE, NAME, PRINTOUT,
+};
 
 const PAGE: &[u8] = b"Page(x) = go(0,x,out(c,1,x,stop,stop)) .\n\
     A[Page(B)] | B[in(c,2,y,go(0,y,stop),stop)] .\n";
+
+/// A pair at timer 1, and an output at 1 that nobody hears, with an input at 1 as
+/// its Q.
+const CHANCES: &[u8] = b"A[out(c,1,A,stop,stop) | in(c,1,x,stop,stop)] | \
+    B[out(c,1,B,stop,in(d,1,y,stop,go(1,B,stop)))] .\n";
 
 /// The bytes that a call wrote, or its refusal.
 fn put(answer: Result<usize, u32>, bytes: &[u8]) {
@@ -94,10 +101,15 @@ fn single_calls(table: &Table) -> Result<(), u32> {
 }
 
 fn refusals(mut table: Table, locations: u32) {
+    let settings = Settings { edition: 1 };
     let mut words = words_of(0);
-    let code = read_into(b"", &mut words).code;
+    let code = read_into(b"", settings, &mut words).code;
     println!("no text: refused {code}");
-    refused("unbound variable", Table::read(b"A[go(1,x,stop)] ."));
+    refused("edition 3", Table::read(PAGE, Settings { edition: 3 }));
+    let none = Table::read(b"", Settings { edition: 0 });
+    refused("no text, no edition", none);
+    let unbound = Table::read(b"A[go(1,x,stop)] .", settings);
+    refused("unbound variable", unbound);
     refused("no such location", table.location_name(locations, &mut []));
     refused("no bytes", table.location_name(0, &mut []));
     refused("no records", table.step(0, &mut []));
@@ -109,8 +121,31 @@ fn refusals(mut table: Table, locations: u32) {
     refused("no component", table.tick(0));
 }
 
+/// Under both editions the pair stops the tick and meets. The output at timer 1
+/// is lowered under edition 1 and takes its Q under edition 2; that Q is not
+/// lowered in the same tick.
+fn editions() -> Result<(), u32> {
+    for edition in [1, 2] {
+        let mut table = Table::read(CHANCES, Settings { edition })?;
+        println!("edition {}:", table.words[EDITION]);
+        refused("tick first", table.tick(0));
+        step(&mut table, 0)?;
+        for _ in 0..3 {
+            step(&mut table, 1)?;
+            put_network(&table);
+        }
+    }
+    let one = Table::read(CHANCES, Settings { edition: 1 })?;
+    let mut two = Table::read(CHANCES, Settings { edition: 2 })?;
+    let same = yes_or_no(one.same(&two)?);
+    println!("same text, other edition: same {same}");
+    two.words[EDITION] = 0;
+    refused("no edition in the table", two.tick(1));
+    Ok(())
+}
+
 fn main() -> Result<(), u32> {
-    let read = Table::read(PAGE)?;
+    let read = Table::read(PAGE, Settings { edition: 1 })?;
     let mut table = read.clone();
     let locations = look(&table)?;
     for _ in 0..4 {
@@ -121,6 +156,7 @@ fn main() -> Result<(), u32> {
     put_network(&table);
     single_calls(&read)?;
     refusals(read, locations);
+    editions()?;
     let mut printed = vec![0; PRINTOUT];
     let length = printout(PAGE, &mut printed);
     let measured = printout(PAGE, &mut []);

@@ -4,7 +4,7 @@
 
 use timo_reference::calls::Engine;
 use timo_reference::random::Random;
-use timo_reference::table::{Fault, DEFINITIONS, LOCATIONS, PARTS, ROW};
+use timo_reference::table::{Fault, DEFINITIONS, EDITION, LOCATIONS, PARTS, ROW};
 use timo_reference::term::Network;
 
 use crate::agree::{equal, Agreed};
@@ -179,6 +179,12 @@ fn variations(random: &mut Random, table: &Table) -> Vec<(&'static str, Table)> 
         let row = PARTS + ROW * random.below(other.words[0] as usize);
         let word = &mut other.words[row + random.below(21)];
         *word = *random.pick(&[0, 1, 5, 64, 65, word.wrapping_add(1), word.wrapping_sub(1)]);
+    });
+    add("the other edition", &mut |other| {
+        *other = other.under_other_edition();
+    });
+    add("no edition", &mut |other| {
+        other.words[EDITION] = *random.pick(&[0, 3, u32::MAX]);
     });
     add("a tick", &mut |other| {
         let _ = other.tick(location);

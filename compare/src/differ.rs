@@ -1,4 +1,4 @@
-//! A script and a list of calls through both engines.
+//! A script and a list of calls through both engines, under an edition.
 
 use timo_reference::calls::{Engine, Numbers, Record};
 use timo_reference::generate::call_list;
@@ -10,9 +10,9 @@ use timo_reference::writing;
 
 use crate::agree::{equal, Agreed};
 use crate::alike;
-use crate::reading::{self, Pair};
+use crate::reading::{self, settings_of, Pair};
 use crate::table;
-use crate::timo::{self, Comp, Table};
+use crate::timo::{self, Comp, Settings, Table};
 
 const BLANK: [u32; 3] = [77; 3];
 const BLANK_BYTE: u8 = b'#';
@@ -84,9 +84,14 @@ pub struct Difference {
 /// run again straight and grouped, by the right rules. A script that both
 /// refuse makes no calls. `engine` may be a wrong variant, for which a
 /// difference is wanted.
-pub fn differ(engine: Engine, script: &[u8], calls: &[Call]) -> Result<Tally, Difference> {
+pub fn differ(
+    engine: Engine,
+    settings: Settings,
+    script: &[u8],
+    calls: &[Call],
+) -> Result<Tally, Difference> {
     let at = |place| move |what| Difference { place, what };
-    let read = reading::read(script).map_err(at(Place::Reading))?;
+    let read = reading::read(script, settings).map_err(at(Place::Reading))?;
     let Ok(pair) = read else {
         return Ok(Tally::default());
     };
@@ -260,10 +265,11 @@ impl Session {
         }
     }
 
-    /// Where the written text meets the limits, reading it gives the network.
-    /// The words lent still hold the script.
+    /// Where the written text meets the limits, reading it under the network's
+    /// own edition gives the network. The words lent still hold the script.
     fn read_back(&self, text: &[u8]) -> Agreed {
-        let Ok(again) = reading::read_over(text, self.table.words.clone())? else {
+        let words = self.table.words.clone();
+        let Ok(again) = reading::read_over(text, settings_of(&self.network), words)? else {
             return Ok(());
         };
         equal(
@@ -291,32 +297,42 @@ impl Session {
         self.compare(index)
     }
 
-    /// One of the networks made by hand goes through both engines by itself.
+    /// One of the networks made by hand goes through both engines by itself. That
+    /// is done with the right engine, so it would tell nothing of a wrong variant.
     fn compare(&mut self, index: usize) -> Agreed {
+        if !self.engine.is_right() {
+            return Ok(());
+        }
         let mut random = Random::new(index as u64);
         let made = alike::compare(&mut random, &self.table, &mut self.tally.pairs)?;
         run_by_itself(&mut random, made)
     }
 
+    /// Compares the network with the one kept, and with itself under the other
+    /// edition.
     fn same(&self) -> Agreed {
-        let theirs = self.engine.same(&self.network, &self.kept.network);
-        equal("same", &self.table.same(&self.kept.table), &Ok(theirs))
+        self.compared_with(&self.kept.table, &self.kept.network)?;
+        let table = self.table.under_other_edition();
+        let network = table::network(&table).map_err(alike::fault)?;
+        self.compared_with(&table, &network)
     }
 
-    /// Reads a text and compares the network with it. The words lent still
-    /// hold this network's script.
+    /// Reads a text under the network's own edition and compares the network with
+    /// it. The words lent still hold this network's script.
     fn like(&self, text: &str) -> Agreed {
         let words = self.table.words.clone();
-        let Ok(other) = reading::read_over(text.as_bytes(), words)? else {
+        let settings = settings_of(&self.network);
+        let Ok(other) = reading::read_over(text.as_bytes(), settings, words)? else {
             return Ok(());
         };
-        let theirs = self.engine.same(&self.network, &other.network);
-        equal("same", &self.table.same(&other.table), &Ok(theirs))?;
-        equal(
-            "same, exchanged",
-            &other.table.same(&self.table),
-            &Ok(theirs),
-        )
+        self.compared_with(&other.table, &other.network)
+    }
+
+    /// `same` with another network, both ways round.
+    fn compared_with(&self, table: &Table, network: &Network) -> Agreed {
+        let theirs = self.engine.same(&self.network, network);
+        equal("same", &self.table.same(table), &Ok(theirs))?;
+        equal("same, exchanged", &table.same(&self.table), &Ok(theirs))
     }
 
     /// Counts the answer; a refusal has left the state as it was, an accepted

@@ -4,7 +4,7 @@ use std::fmt;
 use std::hint::black_box;
 use std::time::{Duration, Instant};
 
-use crate::timo::{State, Table};
+use crate::timo::{Settings, State, Table};
 
 /// A measurement is the least of so many, each of which goes on so long.
 const TIMES: usize = 9;
@@ -125,7 +125,8 @@ pub struct First {
 impl First {
     pub fn of(pairs: usize, fires: bool, depth: usize) -> First {
         let script = facing(pairs, "c", if fires { "c" } else { "d" }, depth);
-        let table = Table::read(script.as_bytes()).expect("the workload is read");
+        let table = Table::read(script.as_bytes(), Settings::EDITION_1);
+        let table = table.expect("the workload is read");
         let start = table.state;
         let lent = vec![[0; 3]; 256];
         let mut first = First { table, start, lent };

@@ -1,6 +1,7 @@
 //! `compare SEED N`: N generated scripts with call lists, and ten times as many
 //! texts of any sort, through the proved engine's library and the reference
-//! engine, and thirty tables made by hand from each script. Prints the first
+//! engine under both editions, and thirty tables made by hand from each script.
+//! Prints the first
 //! difference with its seed, a shrunken script and list, and ends with status 1;
 //! then puts each wrong variant of the rules in the reference's place and says of
 //! any that no list has told apart.
@@ -8,16 +9,17 @@
 use std::env;
 use std::process::ExitCode;
 
-use compare::differ::{differ, Place, Tally};
+use compare::differ::{differ, Difference, Place, Tally};
 use compare::reading;
 use compare::shrink::{shrink, Case};
 use compare::tables;
-use compare::timo::Table;
+use compare::timo::{Settings, Table};
 use timo_reference::calls::Engine;
 use timo_reference::generate::{self, edges};
 use timo_reference::lists::{self, Call};
 use timo_reference::random::Random;
 use timo_reference::rules::Variant;
+use timo_reference::term::Edition;
 
 /// Texts of any sort to one list.
 const TEXTS: u64 = 10;
@@ -44,15 +46,17 @@ fn main() -> ExitCode {
     }
 }
 
-/// Texts at each limit and past it, and texts of any sort.
+/// Texts at each limit and past it, and texts of any sort, under both editions
+/// and under none.
 fn texts(seed: u64, count: u64) -> Result<(), String> {
     let mut numbers = [0; 8];
+    let mut random = Random::new(seed);
     let mut read = |name: String, text: Vec<u8>| {
-        let Ok(read) = reading::read(&text) else {
-            return Err(report(&name, Engine::default(), &text, &[]));
-        };
+        let none = no_edition(&mut random);
+        let read = reading::read(&text, none).and(reading::read_under_both(&text));
+        let read = read.map_err(|what| report_of_text(&name, none, &text, what))?;
         numbers[read.err().unwrap_or(0) as usize] += 1;
-        Ok(())
+        Ok::<(), String>(())
     };
     for (choice, past) in (0..edges::LIMITS).flat_map(|choice| [(choice, 0), (choice, 1)]) {
         read(
@@ -65,7 +69,7 @@ fn texts(seed: u64, count: u64) -> Result<(), String> {
         read(format!("text of seed {seed}"), generate::script(seed))?;
     }
     println!(
-        "texts by both alike: {} read, refused 1 to 7: {:?}",
+        "texts by both alike under both editions: {} read, refused 1 to 7: {:?}; all refused 21 under none",
         numbers[0],
         &numbers[1..]
     );
@@ -75,66 +79,92 @@ fn texts(seed: u64, count: u64) -> Result<(), String> {
     )
 }
 
-/// A script that both read, with its list.
+/// Settings that reading refuses by 21.
+fn no_edition(random: &mut Random) -> Settings {
+    let number = random.draw() as u32;
+    let edition = match random.below(4) {
+        0 => 0,
+        1 => 3,
+        2 => u32::MAX,
+        _ => number.max(3),
+    };
+    Settings { edition }
+}
+
+/// A script that both read, with its list, which was made by following the script
+/// under its own edition.
 struct List {
     seed: u64,
+    own: Settings,
     script: Vec<u8>,
     calls: Vec<Call>,
 }
 
+impl List {
+    /// The list through both engines under an edition.
+    fn differ(&self, engine: Engine, settings: Settings) -> Result<Tally, Difference> {
+        differ(engine, settings, &self.script, &self.calls)
+    }
+}
+
 fn all_lists(seed: u64, count: u64) -> Result<Vec<List>, String> {
-    let seeds = (0..count).map(|index| generate::seed(seed, index));
-    let lists: Vec<List> = seeds
-        .map(list)
+    let lists: Vec<List> = (0..count)
+        .map(|index| list(seed, index))
         .filter(|list| !list.calls.is_empty())
         .collect();
+    println!("{} lists", lists.len());
+    for settings in Settings::BOTH {
+        under(settings, &lists)?;
+    }
+    Ok(lists)
+}
+
+/// All lists under an edition.
+fn under(settings: Settings, lists: &[List]) -> Result<(), String> {
+    let engine = Engine::default();
     let mut total = Tally::default();
-    for List {
-        seed,
-        script,
-        calls,
-    } in &lists
-    {
-        let Ok(tally) = differ(Engine::default(), script, calls) else {
-            return Err(report(
-                &format!("list of seed {seed}"),
-                Engine::default(),
-                script,
-                calls,
-            ));
+    for list in lists {
+        let Ok(tally) = list.differ(engine, settings) else {
+            let name = format!("list of seed {}", list.seed);
+            return Err(report(&name, engine, settings, &list.script, &list.calls));
         };
         total.add(tally);
     }
     println!(
-        "{} lists, calls by both alike: {} accepted, {} refused; the grouped run holds",
-        lists.len(),
-        total.accepted,
-        total.refused
+        "edition {}, calls by both alike: {} accepted, {} refused; the grouped run holds",
+        settings.edition, total.accepted, total.refused
     );
     println!(
-        "pairs of networks by both alike: {} same, {} not the same, {} refused 17",
-        total.pairs.same, total.pairs.not_same, total.pairs.refused
+        "edition {}, pairs of networks by both alike: {} same, {} not the same, {} refused 17",
+        settings.edition, total.pairs.same, total.pairs.not_same, total.pairs.refused
     );
-    enough(total.is_everywhere(), "no call of one sort")?;
-    Ok(lists)
+    enough(total.is_everywhere(), "no call of one sort")
 }
 
-fn list(seed: u64) -> List {
+/// The editions take turns.
+fn list(seed: u64, index: u64) -> List {
+    let edition = Edition::BOTH[index as usize % 2];
+    let seed = generate::seed(seed, index);
     let script = generate::script_to_run(seed);
-    let calls = generate::calls(seed, &script);
+    let calls = generate::calls(seed, &script, edition);
+    let edition = edition.number();
     List {
         seed,
+        own: Settings { edition },
         script,
         calls,
     }
 }
 
-/// Tables made by hand from what each script is after some steps.
+/// Tables made by hand from what each script is after some steps, under an edition
+/// by its seed.
 fn all_tables(lists: &[List]) -> Result<(), String> {
     let mut tally = tables::Tally::default();
     for List { seed, script, .. } in lists {
         let mut random = Random::new(*seed);
-        let mut good = Table::read(script).map_err(|number| format!("refused {number}"))?;
+        let settings = *random.pick(&Settings::BOTH);
+        let good = Table::read(script, settings);
+        let mut good = good.map_err(|number| format!("refused {number}"))?;
         for _ in 0..TABLES {
             let mut made = tables::make(&mut random, &good);
             made.change = format!("script of seed {seed}, {}", made.change);
@@ -152,14 +182,15 @@ fn all_tables(lists: &[List]) -> Result<(), String> {
     enough(!few, &format!("few tests: {:?}", tally.needed))
 }
 
-/// Each wrong variant differs from the proved engine on some list.
+/// Each wrong variant differs from the proved engine on some list under its own
+/// edition.
 fn variants(lists: &[List]) -> Result<(), String> {
     let noticed = |variant: Variant| {
-        let differs =
-            |list: &List| differ(Engine::new(variant), &list.script, &list.calls).is_err();
+        let engine = Engine::new(variant);
+        let differs = |list: &List| list.differ(engine, list.own).is_err();
         lists.iter().any(differs)
     };
-    let wrong = [&Variant::WRONG[..], &Variant::WRONG_NUMBERS].concat();
+    let wrong = Variant::every_wrong();
     let count = wrong.len();
     let unnoticed: Vec<Variant> = wrong.into_iter().filter(|v| !noticed(*v)).collect();
     println!(
@@ -180,9 +211,20 @@ fn enough(holds: bool, else_say: &str) -> Result<(), String> {
     }
 }
 
+/// The difference in reading a text: under one edition or none, or between the
+/// two.
+fn report_of_text(name: &str, none: Settings, text: &[u8], what: String) -> String {
+    let mut given = Settings::BOTH.into_iter().chain([none]);
+    let differs = |settings: &Settings| reading::read(text, *settings).is_err();
+    match given.find(differs) {
+        Some(settings) => report(name, Engine::default(), settings, text, &[]),
+        None => format!("{name}: {what}"),
+    }
+}
+
 /// The difference on a script and a list, both shrunken.
-fn report(name: &str, engine: Engine, script: &[u8], calls: &[Call]) -> String {
-    let Some(case) = Case::of(engine, script, calls) else {
+fn report(name: &str, engine: Engine, settings: Settings, script: &[u8], calls: &[Call]) -> String {
+    let Some(case) = Case::of(engine, settings, script, calls) else {
         return format!("{name}: differs only at times");
     };
     let case = shrink(engine, case);
@@ -192,7 +234,8 @@ fn report(name: &str, engine: Engine, script: &[u8], calls: &[Call]) -> String {
         Place::End => "at the end".to_string(),
     };
     format!(
-        "{name}, shrunken:\n{}\n{}differs {place}: {}",
+        "{name}, edition {}, shrunken:\n{}\n{}differs {place}: {}",
+        settings.edition,
         case.script.escape_ascii().to_string().replace("\\n", "\n"),
         lists::print(&case.calls),
         case.difference.what

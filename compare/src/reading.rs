@@ -1,15 +1,15 @@
-//! A text through both readers.
+//! A text through both readers, under an edition.
 
 use timo_reference::calls::Engine;
 use timo_reference::reading::MOST_PARTS;
-use timo_reference::table::{PARTS, ROW};
+use timo_reference::table::{EDITION, PARTS, PARTS_END, ROW};
 use timo_reference::term::Network;
 use timo_reference::writing;
 
 use crate::agree::{equal, Agreed};
 use crate::alike;
 use crate::table;
-use crate::timo::{self, State, Table, WORDS};
+use crate::timo::{self, Settings, State, Table, WORDS};
 
 /// What the words hold that are lent to reading.
 const BLANK: u32 = 0xa5a5_a5a5;
@@ -21,20 +21,59 @@ pub struct Pair {
     pub network: Network,
 }
 
+impl Pair {
+    /// What the network was read with.
+    pub fn settings(&self) -> Settings {
+        settings_of(&self.network)
+    }
+}
+
+/// What a network was read with.
+pub fn settings_of(network: &Network) -> Settings {
+    let edition = network.script.edition.number();
+    Settings { edition }
+}
+
 /// What both say of a text: its network, or the number of its refusal.
 pub type Read = Result<Pair, u32>;
 
 /// Reads a text by both engines into words of a fixed content.
-pub fn read(text: &[u8]) -> Result<Read, String> {
-    read_over(text, timo::words_of(BLANK))
+pub fn read(text: &[u8], settings: Settings) -> Result<Read, String> {
+    read_over(text, settings, timo::words_of(BLANK))
+}
+
+/// Reads a text by both engines under each edition: the same number, or tables
+/// that are the same but for the word of the edition. Gives both.
+pub fn read_under_both(text: &[u8]) -> Result<Result<[Pair; 2], u32>, String> {
+    let [one, two] = Settings::BOTH.map(|settings| read(text, settings));
+    match (one?, two?) {
+        (Ok(one), Ok(two)) => {
+            let other = one.table.under_other_edition();
+            yes(
+                *other.words == *two.table.words,
+                "words but for the edition",
+            )?;
+            yes(one.table.state == two.table.state, "state of both editions")?;
+            Ok(Ok([one, two]))
+        }
+        (one, two) => {
+            let number = one.err();
+            equal("reading under editions 1 and 2", &number, &two.err())?;
+            Ok(Err(number.unwrap_or(0)))
+        }
+    }
 }
 
 /// Reads a text by both engines. The words lent have any content: a refusal
 /// leaves it, and a network does not depend on it.
-pub fn read_over(text: &[u8], mut words: Box<[u32; WORDS]>) -> Result<Read, String> {
+pub fn read_over(
+    text: &[u8],
+    settings: Settings,
+    mut words: Box<[u32; WORDS]>,
+) -> Result<Read, String> {
     let before = words.clone();
-    let reading = timo::read_into(text, &mut words);
-    let theirs = Engine::default().read(text);
+    let reading = timo::read_into(text, settings, &mut words);
+    let theirs = Engine::default().read(text, settings.edition);
     let number = match &theirs {
         Ok(_) => 0,
         Err(refusal) => u32::from(refusal.number()),
@@ -52,23 +91,26 @@ pub fn read_over(text: &[u8], mut words: Box<[u32; WORDS]>) -> Result<Read, Stri
     };
     yes(table.is_valid(), "question 17 of the table read")?;
     kept_behind(&table, &before)?;
+    equal("edition", &table.words[EDITION], &settings.edition)?;
     let ours = table::network(&table).map_err(alike::fault)?;
     equal_networks("the network read", &ours, &network)?;
     Ok(Ok(Pair { table, network }))
 }
 
-/// The words behind the last row are as they were, and those that no component
-/// in use has as its own are 0.
+/// The words behind the last row, but for the edition, are as they were, and
+/// those that no component in use has as its own are 0.
 fn kept_behind(table: &Table, before: &[u32; WORDS]) -> Agreed {
     let rows = PARTS + ROW * (table.words[0] as usize).min(MOST_PARTS);
-    let behind = table.words[rows..] == before[rows..];
+    let behind = table.words[rows..PARTS_END] == before[rows..PARTS_END];
     yes(behind, "words kept behind the last row")?;
+    let spare = table.words[EDITION + 1..] == before[EDITION + 1..];
+    yes(spare, "words kept behind the edition")?;
     let n = table.state.n;
     let zeros = table.state.beside(n) == State::ZERO.beside(n);
     yes(zeros, "zeros beside the components")
 }
 
-/// Names by number, definitions in order and components in order.
+/// The edition, names by number, definitions in order and components in order.
 pub fn equal_networks(what: &str, ours: &Network, theirs: &Network) -> Agreed {
     if ours == theirs {
         return Ok(());
@@ -80,6 +122,7 @@ pub fn equal_networks(what: &str, ours: &Network, theirs: &Network) -> Agreed {
 fn shown(network: &Network) -> Vec<String> {
     let script = &network.script;
     let names = [
+        format!("edition {}", script.edition.number()),
         format!("locations {}", script.locations.join(" ")),
         format!("channels {}", script.channels.join(" ")),
     ];

@@ -12,13 +12,16 @@ use timo_reference::lists::Call;
 use timo_reference::term::Network;
 
 use crate::differ::{differ, Difference, Place};
+use crate::timo::Settings;
 
 /// How many changes of one script are tried.
 const MOST_TRIALS: usize = 3_000;
 
-/// A script and a list on which the engines differ.
+/// A script and a list on which the engines differ, and what the script is read
+/// with.
 #[derive(Clone, Debug)]
 pub struct Case {
+    pub settings: Settings,
     pub script: Vec<u8>,
     pub calls: Vec<Call>,
     pub difference: Difference,
@@ -27,18 +30,24 @@ pub struct Case {
 impl Case {
     /// The case of a script and a list, if the engines differ there. Calls
     /// behind the difference are left out.
-    pub fn of(engine: Engine, script: &[u8], calls: &[Call]) -> Option<Case> {
-        let difference = differ(engine, script, calls).err()?;
+    pub fn of(engine: Engine, settings: Settings, script: &[u8], calls: &[Call]) -> Option<Case> {
+        let difference = differ(engine, settings, script, calls).err()?;
         let needed = match difference.place {
             Place::Reading => 0,
             Place::Call(index) => index + 1,
             Place::End => calls.len(),
         };
         Some(Case {
+            settings,
             script: script.to_vec(),
             calls: calls[..needed].to_vec(),
             difference,
         })
+    }
+
+    /// The case with another script and list, if the engines differ there too.
+    fn with(&self, engine: Engine, script: &[u8], calls: &[Call]) -> Option<Case> {
+        Case::of(engine, self.settings, script, calls)
     }
 
     fn size(&self) -> (usize, usize) {
@@ -71,7 +80,7 @@ fn fewer_calls(engine: Engine, mut case: Case) -> Case {
             let start = end.saturating_sub(length);
             let mut calls = case.calls.clone();
             calls.drain(start..end);
-            if let Some(found) = Case::of(engine, &case.script, &calls) {
+            if let Some(found) = case.with(engine, &case.script, &calls) {
                 case = found;
             }
             end = start.min(case.calls.len());
@@ -90,7 +99,7 @@ fn fewer_bytes(engine: Engine, mut case: Case) -> Case {
         while end > 0 {
             let start = end.saturating_sub(length);
             let script = replaced(&case.script, &(start..end), b"");
-            if let Some(found) = Case::of(engine, &script, &case.calls) {
+            if let Some(found) = case.with(engine, &script, &case.calls) {
                 case = found;
             }
             end = start.min(case.script.len());
@@ -109,7 +118,7 @@ fn smaller_script(engine: Engine, mut case: Case) -> Case {
         .copied()
         .filter(|b| !is_blank(b))
         .collect();
-    if let Some(found) = Case::of(engine, &script, &case.calls) {
+    if let Some(found) = case.with(engine, &script, &case.calls) {
         case = found;
     }
     while let Some(smaller) = one_piece_less(engine, &case) {
@@ -128,10 +137,10 @@ fn one_piece_less(engine: Engine, case: &Case) -> Option<Case> {
             &change.range,
             &case.script[change.with.clone()],
         );
-        let as_they_stand = Case::of(engine, &script, &case.calls);
+        let as_they_stand = case.with(engine, &script, &case.calls);
         as_they_stand.or_else(|| {
-            let calls = moved(&case.script, &script, &case.calls)?;
-            Case::of(engine, &script, &calls)
+            let calls = moved(case, &script)?;
+            case.with(engine, &script, &calls)
         })
     };
     changes.iter().take(MOST_TRIALS).find_map(again)
@@ -246,11 +255,12 @@ fn pieces(text: &[u8]) -> Vec<Piece> {
 
 // --- calls on a smaller network -------------------------------------------------
 
-/// The calls with the positions and location numbers that they have where the
+/// A case's calls with the positions and location numbers that they have where the
 /// new script lacks some of the old one's components or locations.
-fn moved(old: &[u8], new: &[u8], calls: &[Call]) -> Option<Vec<Call>> {
-    let old = Engine::default().read(old).ok()?;
-    let new = Engine::default().read(new).ok()?;
+fn moved(case: &Case, script: &[u8]) -> Option<Vec<Call>> {
+    let read = |script: &[u8]| Engine::default().read(script, case.settings.edition);
+    let old = read(&case.script).ok()?;
+    let new = read(script).ok()?;
     let missing = old.components.len().checked_sub(new.components.len())?;
     let pairs = old.components.iter().zip(&new.components);
     let first = pairs.take_while(|(one, other)| one == other).count();
@@ -279,7 +289,7 @@ fn moved(old: &[u8], new: &[u8], calls: &[Call]) -> Option<Vec<Call>> {
         },
         other => other.clone(),
     };
-    Some(calls.iter().map(call).collect())
+    Some(case.calls.iter().map(call).collect())
 }
 
 fn renumbered(old: &Network, new: &Network, location: u32) -> u32 {

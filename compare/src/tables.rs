@@ -1,6 +1,6 @@
 //! Tables of every sort, made by hand from a valid one: words changed anywhere,
-//! scopes with names of every sort, rows that nothing reaches, words of any
-//! content. Question 17 by both engines; where both say yes the network runs
+//! scopes with names of every sort, rows that nothing reaches, editions of every
+//! number, words of any content. Question 17 by both engines; where both say yes the network runs
 //! through both, where both say no every call refuses 17.
 
 use std::collections::{BTreeMap, BTreeSet};
@@ -8,8 +8,8 @@ use std::fmt;
 
 use timo_reference::random::Random;
 use timo_reference::table::{
-    Test, CHANNELS, DEFINITIONS, IN_SCOPE, LOCATIONS, NAME, OWN, PARTS, PARTS_END, ROW, SCOPE,
-    SCRIPT,
+    Test, CHANNELS, DEFINITIONS, EDITION, IN_SCOPE, LOCATIONS, NAME, OWN, PARTS, PARTS_END, ROW,
+    SCOPE, SCRIPT,
 };
 
 use crate::agree::{equal, Agreed};
@@ -115,7 +115,7 @@ pub fn make(random: &mut Random, from: &Table) -> Made {
 }
 
 fn change(random: &mut Random, table: &mut Table) -> String {
-    match random.weighted(&[24, 12, 8, 8, 8, 16, 3, 4, 18, 3, 2]) {
+    match random.weighted(&[24, 12, 8, 8, 8, 16, 3, 4, 18, 3, 4, 2]) {
         0 => part_word(random, table),
         1 => scope_word(random, table),
         2 => script_word(random, table, "count", 0, 8),
@@ -126,6 +126,7 @@ fn change(random: &mut Random, table: &mut Table) -> String {
         7 => rows_exchanged(random, table),
         8 => tree_on_top(random, table),
         9 => script_word(random, table, "any word", 0, SCRIPT),
+        10 => edition_word(random, table),
         _ => any_content(random, table),
     }
 }
@@ -166,6 +167,16 @@ fn script_word(
     let before = table.words[at];
     table.words[at] = content(random, table, before);
     format!("{name}: word {at} from {before} to {}", table.words[at])
+}
+
+/// Another edition or none: near the two, or with a bit too many.
+fn edition_word(random: &mut Random, table: &mut Table) -> String {
+    if random.chance(1, 4) {
+        return script_word(random, table, "edition", EDITION, 1);
+    }
+    let words = [0, 1, 1, 2, 2, 3, 4, 256 + 1, 65_536 + 2, 0x8000_0001];
+    table.words[EDITION] = *random.pick(&words);
+    format!("edition {}", table.words[EDITION])
 }
 
 fn part_word(random: &mut Random, table: &mut Table) -> String {

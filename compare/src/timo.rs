@@ -4,6 +4,8 @@
 
 /// Words of a script.
 pub const WORDS: usize = 99_984;
+/// The word of a script that holds its edition, 1 or 2.
+pub const EDITION: usize = 99_592;
 
 /// Bytes that hold the name of every location, every label, every line of a
 /// step, every printout.
@@ -17,6 +19,21 @@ pub const UNMARKED: u32 = 64;
 
 /// Stands for the number of a refusal that comes with anything but its number.
 pub const MORE_THAN_A_NUMBER: u32 = 1_000;
+
+/// What is given with a text at reading. An edition other than 1 and 2 is
+/// refused by 21.
+#[repr(C)]
+#[derive(Clone, Copy, Debug, PartialEq, Eq)]
+pub struct Settings {
+    pub edition: u32,
+}
+
+impl Settings {
+    pub const EDITION_1: Settings = Settings { edition: 1 };
+    pub const EDITION_2: Settings = Settings { edition: 2 };
+    /// Those that reading takes.
+    pub const BOTH: [Settings; 2] = [Settings::EDITION_1, Settings::EDITION_2];
+}
 
 /// A component: location, mark, place of its part, timer, a location for each
 /// slot, and words that are not used.
@@ -156,7 +173,7 @@ struct Counted {
 }
 
 extern "C" {
-    fn timo_read(text: *const u8, n: usize, w: *mut u32) -> Reading;
+    fn timo_read(text: *const u8, n: usize, settings: Settings, w: *mut u32) -> Reading;
     fn timo_same(
         w: *const u32,
         a: *const Comps,
@@ -217,12 +234,13 @@ extern "C" {
 }
 
 /// Reading into lent words. A refusal leaves them unchanged.
-pub fn read_into(text: &[u8], words: &mut [u32; WORDS]) -> Reading {
+pub fn read_into(text: &[u8], settings: Settings, words: &mut [u32; WORDS]) -> Reading {
     // SAFETY: the text is only read; `words` is not reached otherwise meanwhile.
-    unsafe { timo_read(text.as_ptr(), text.len(), words.as_mut_ptr()) }
+    unsafe { timo_read(text.as_ptr(), text.len(), settings, words.as_mut_ptr()) }
 }
 
-/// The whole printout of a text: its length. Fewer bytes get its first ones.
+/// The whole printout of a text, which is read under edition 1: its length. Fewer
+/// bytes get its first ones.
 pub fn printout(text: &[u8], lent: &mut [u8]) -> usize {
     // SAFETY: the text is only read; `lent` is not reached otherwise meanwhile.
     unsafe { timo_printout(text.as_ptr(), text.len(), lent.as_mut_ptr(), lent.len()) }
@@ -244,10 +262,17 @@ pub struct Table {
 
 impl Table {
     /// The network of a text, or the number of its refusal.
-    pub fn read(text: &[u8]) -> Result<Table, u32> {
+    pub fn read(text: &[u8], settings: Settings) -> Result<Table, u32> {
         let mut words = words_of(0);
-        let Reading { code, state } = read_into(text, &mut words);
+        let Reading { code, state } = read_into(text, settings, &mut words);
         answer(code, state).map(|state| Table { words, state })
+    }
+
+    /// The same network under the other edition.
+    pub fn under_other_edition(&self) -> Table {
+        let mut other = self.clone();
+        other.words[EDITION] = if self.words[EDITION] == 1 { 2 } else { 1 };
+        other
     }
 
     /// Whether two tables stand for the same network.

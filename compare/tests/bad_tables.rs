@@ -2,7 +2,7 @@
 
 use compare::alike::refused_by_all;
 use compare::table;
-use compare::timo::{Table, UNMARKED, WORDS};
+use compare::timo::{Settings, Table, EDITION, UNMARKED, WORDS};
 use timo_reference::table::{CHANNELS, DEFINITIONS, LOCATIONS, PARTS, ROW};
 
 const SCRIPT: &[u8] = b"D(x,y)=go(1,x,stop|D(y,A)).E=stop.
@@ -10,7 +10,7 @@ const SCRIPT: &[u8] = b"D(x,y)=go(1,x,stop|D(y,A)).E=stop.
 const KINDS: [&str; 5] = ["stop", "go", "out", "in", "call"];
 
 fn read() -> Table {
-    Table::read(SCRIPT).expect("a good script")
+    Table::read(SCRIPT, Settings::EDITION_1).expect("a good script")
 }
 
 /// The first row of a kind, from the highest place down.
@@ -63,10 +63,16 @@ fn components() {
     refused("a mark past the one for none", |t| {
         t.state.c.at[2].mark = UNMARKED + 1
     });
-    refused("a place out of range", |t| t.state.c.at[1].place = t.words[0]);
-    refused("a timer out of range", |t| t.state.c.at[0].timer = 1_000_002);
+    refused("a place out of range", |t| {
+        t.state.c.at[1].place = t.words[0]
+    });
+    refused("a timer out of range", |t| {
+        t.state.c.at[0].timer = 1_000_002
+    });
     refused("a value out of range", |t| t.state.c.at[0].vals[0] = 2);
-    refused("a component of all ones", |t| t.state.c.at[1].place = u32::MAX);
+    refused("a component of all ones", |t| {
+        t.state.c.at[1].place = u32::MAX
+    });
 }
 
 #[test]
@@ -85,6 +91,23 @@ fn counts() {
     }
     refused("words of all ones", |t| t.words.fill(u32::MAX));
     refused("words of zeros", |t| *t.words = [0; WORDS]);
+}
+
+#[test]
+fn editions() {
+    for edition in [0, 3, 4, 256 + 1, 65_536 + 2, 0x8000_0001, u32::MAX - 1] {
+        refused(&format!("edition {edition}"), |t| {
+            t.words[EDITION] = edition
+        });
+    }
+    refused("an edition of all ones", |t| t.words[EDITION] = u32::MAX);
+    let (one, two) = (read(), read().under_other_edition());
+    assert!(two.is_valid());
+    assert_eq!(one.same(&two), Ok(false));
+    let mut bad = read();
+    bad.words[EDITION] = 0;
+    assert_eq!(two.same(&bad), Err(17));
+    assert_eq!(bad.same(&two), Err(17));
 }
 
 #[test]

@@ -4,6 +4,7 @@
 //! a record is lent for each component; no answer shows which way was gone.
 
 use compare::differ::differ;
+use compare::timo::Settings;
 use timo_reference::calls::{Engine, Record};
 use timo_reference::lists::Call;
 use timo_reference::refusal::Refusal;
@@ -49,6 +50,15 @@ const LAST: [&str; 7] = [
     "out(c,0,A,stop | stop,stop)",
 ];
 
+/// Both editions where all stand at A, otherwise one of them.
+fn editions(apart: usize) -> &'static [Settings] {
+    match apart {
+        1 => &Settings::BOTH,
+        3 => &[Settings::EDITION_2],
+        _ => &[Settings::EDITION_1],
+    }
+}
+
 fn through_both(count: usize, apart: usize, one: fn(usize) -> &'static str, last: &str) {
     let script = network(count, apart, one, last);
     let mut calls: Vec<Call> = (0..4).flat_map(|_| [0, 1].map(Call::Tick)).collect();
@@ -61,8 +71,13 @@ fn through_both(count: usize, apart: usize, one: fn(usize) -> &'static str, last
             ]);
         }
     }
-    let result = differ(Engine::default(), script.as_bytes(), &calls);
-    assert!(result.is_ok(), "{count} components, {apart} apart, {last}");
+    for settings in editions(apart) {
+        let result = differ(Engine::default(), *settings, script.as_bytes(), &calls);
+        assert!(
+            result.is_ok(),
+            "{count} components, {apart} apart, {last}, {settings:?}"
+        );
+    }
 }
 
 #[test]
@@ -83,7 +98,7 @@ fn steps_and_ticks_with_and_without_a_copy() {
 fn thirteen_on_a_full_network() {
     let script = network(256, 1, mixed, "D");
     let engine = Engine::default();
-    let network = engine.read(script.as_bytes()).expect("a network");
+    let network = engine.read(script.as_bytes(), 1).expect("a network");
     let mut lent = vec![Record::new(0, 0, 0); 256];
     let refused = engine.step(&network, 0, &mut lent).err();
     assert_eq!(refused.map(Refusal::number), Some(13));
@@ -94,5 +109,7 @@ fn thirteen_on_a_full_network() {
         },
         Call::Forced,
     ];
-    assert!(differ(engine, script.as_bytes(), &calls).is_ok());
+    for settings in Settings::BOTH {
+        assert!(differ(engine, settings, script.as_bytes(), &calls).is_ok());
+    }
 }

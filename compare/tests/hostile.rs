@@ -1,11 +1,13 @@
-//! Texts that strain a reader, and texts with two faults, through both engines,
-//! on the stack of the main thread and on a thread of 2 MiB. Each gives its
-//! number or is read, and what is read can be stepped, compared and written.
+//! Texts that strain a reader, and texts with two faults, through both engines
+//! and under both editions, on the stack of the main thread and on a thread of 2
+//! MiB. Each gives its number or is read, and what is read can be stepped,
+//! compared and written; without an edition each gives 21.
 //! This test has a main of its own, so that it has the main thread.
 
 use std::thread;
 
 use compare::reading::{self, Pair};
+use compare::timo::Settings;
 use timo_reference::generate::{faults, hostile};
 
 const SMALL_STACK: usize = 2 << 20;
@@ -44,9 +46,16 @@ fn all_pairs() -> usize {
 }
 
 fn answered(name: &str, text: &[u8], number: u8) {
-    let read = reading::read(text).unwrap_or_else(|what| panic!("{name}: {what}"));
+    for settings in Settings::BOTH {
+        answered_under(settings, name, text, number);
+    }
+    answered_under(Settings { edition: 3 }, name, text, 21);
+}
+
+fn answered_under(settings: Settings, name: &str, text: &[u8], number: u8) {
+    let read = reading::read(text, settings).unwrap_or_else(|what| panic!("{name}: {what}"));
     let found = read.as_ref().err().copied().unwrap_or(0);
-    assert_eq!(found, u32::from(number), "{name}");
+    assert_eq!(found, u32::from(number), "{name}, {settings:?}");
     if let Ok(pair) = read {
         used(name, pair);
     }

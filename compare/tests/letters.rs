@@ -1,6 +1,6 @@
 //! What a host shows: locations, names, labels, lines and printouts, by the
-//! proved engine and by the reference engine on generated scripts. Each text is
-//! asked for with too few bytes, just enough and more.
+//! proved engine and by the reference engine on generated scripts, under both
+//! editions. Each text is asked for with too few bytes, just enough and more.
 
 use compare::reading::{self, Pair};
 use compare::timo::{printout, LABEL, LINE, NAME, PRINTOUT};
@@ -121,9 +121,8 @@ fn names_labels_and_lines() {
     let mut accepted = 0;
     for index in 0..150 {
         let text = script_to_run(seed(2026, index));
-        if let Ok(pair) = reading::read(&text).expect("both readers agree") {
-            accepted += rounds(pair);
-        }
+        let both = reading::read_under_both(&text).expect("both readers agree");
+        accepted += both.into_iter().flatten().map(rounds).sum::<usize>();
     }
     assert!(accepted > 1_000, "{accepted} labels");
 }

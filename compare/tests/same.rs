@@ -1,16 +1,26 @@
 //! `same` on pairs that document 01 decides: definitions as a set, components
-//! in any order and each as often, letter by letter with values put in.
+//! in any order and each as often, letter by letter with values put in; under
+//! both editions and, as document 02 says, never between them.
 
 use compare::table;
-use compare::timo::Table;
+use compare::timo::{Settings, Table};
 use timo_reference::calls::Engine;
 
 fn read(text: &str) -> Table {
-    Table::read(text.as_bytes()).unwrap_or_else(|number| panic!("refused {number}: {text}"))
+    let read = Table::read(text.as_bytes(), Settings::EDITION_1);
+    read.unwrap_or_else(|number| panic!("refused {number}: {text}"))
 }
 
-/// Both engines, both ways round.
+/// Both engines, both ways round, under both editions and between them.
 fn answered(one: &Table, other: &Table, wanted: bool, what: &str) {
+    let [one_2, other_2] = [one, other].map(Table::under_other_edition);
+    answered_once(one, other, wanted, what);
+    answered_once(&one_2, &other_2, wanted, &format!("edition 2: {what}"));
+    answered_once(one, &other_2, false, &format!("two editions: {what}"));
+    answered_once(&one_2, other, false, &format!("two editions: {what}"));
+}
+
+fn answered_once(one: &Table, other: &Table, wanted: bool, what: &str) {
     let network = |table| table::network(table).expect("a network");
     let reference = Engine::default().same(&network(one), &network(other));
     assert_eq!(reference, wanted, "reference: {what}");

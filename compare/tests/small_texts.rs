@@ -1,7 +1,9 @@
-//! The number that reading gives, by both engines, to every text of a few
-//! tokens and to every text that differs in two tokens from a readable one.
+//! The number that reading gives, by both engines, to every text of a few tokens
+//! and to every text that differs in two tokens from a readable one. The proved
+//! engine gives it under both editions, or for the many texts of six tokens and
+//! those with two replaced under one of them in turn.
 
-use compare::timo::{self, WORDS};
+use compare::timo::{self, Settings, WORDS};
 use timo_reference::calls::Engine;
 use timo_reference::generate::draft::cut;
 
@@ -20,14 +22,25 @@ impl Both {
     }
 
     fn read(&mut self, tokens: &[&str]) {
+        self.read_under(&Settings::BOTH, tokens);
+    }
+
+    fn read_under(&mut self, editions: &[Settings], tokens: &[&str]) {
         let text = tokens.join(" ");
-        let ours = timo::read_into(text.as_bytes(), &mut self.words).code;
-        let theirs = Engine::default().read(text.as_bytes());
+        let theirs = Engine::default().read(text.as_bytes(), 1);
         let theirs = theirs
             .err()
             .map_or(0, |refusal| u32::from(refusal.number()));
-        assert_eq!(ours, theirs, "{text}");
-        self.numbers[ours as usize] += 1;
+        for settings in editions {
+            let ours = timo::read_into(text.as_bytes(), *settings, &mut self.words).code;
+            assert_eq!(ours, theirs, "{text}, {settings:?}");
+        }
+        self.numbers[theirs as usize] += 1;
+    }
+
+    fn read_in_turn(&mut self, tokens: &[&str]) {
+        let turn = self.numbers.iter().sum::<usize>() % 2;
+        self.read_under(&Settings::BOTH[turn..=turn], tokens);
     }
 }
 
@@ -41,7 +54,11 @@ fn every_text_of_at_most_six_tokens() {
         let mut chosen = vec![0; length];
         loop {
             let tokens: Vec<&str> = chosen.iter().map(|index| known[*index]).collect();
-            both.read(&tokens);
+            if length < 6 {
+                both.read(&tokens);
+            } else {
+                both.read_in_turn(&tokens);
+            }
             if !next(&mut chosen, known.len()) {
                 break;
             }
@@ -106,7 +123,7 @@ fn every_script_with_one_or_two_tokens_replaced() {
                 for second in first + 1..script.len() {
                     for other in OTHERS {
                         tokens[second] = other;
-                        both.read(&tokens);
+                        both.read_in_turn(&tokens);
                     }
                     tokens[second] = &script[second];
                 }

@@ -7,7 +7,7 @@ use compare::differ::run_by_itself;
 use compare::reading::Pair;
 use compare::table;
 use compare::tables::{any_components, make, Tally};
-use compare::timo::{words_of, Comp, State, Table, UNMARKED, WORDS};
+use compare::timo::{words_of, Comp, Settings, State, Table, EDITION, UNMARKED, WORDS};
 use timo_reference::calls::Engine;
 use timo_reference::deep::on_big_stack;
 use timo_reference::generate;
@@ -25,11 +25,17 @@ const SCRIPT: &[u8] = b"D(x,y)=go(1,x,stop|D(y,A)).E=stop.
 /// Where D's parameters stand.
 const X: u32 = 14;
 const Y: u32 = 18;
-/// The last four words of a script.
+/// The last four words of the rows.
 const LAST: u32 = 99_588;
+/// The first word behind the edition.
+const BEHIND: u32 = EDITION as u32 + 1;
 
 fn read(text: &[u8]) -> Table {
-    Table::read(text).expect("a good script")
+    read_under(Settings::EDITION_1, text)
+}
+
+fn read_under(settings: Settings, text: &[u8]) -> Table {
+    Table::read(text, settings).expect("a good script")
 }
 
 /// Question 17 by both engines, and the calls; the test that is not passed.
@@ -53,7 +59,8 @@ fn tables_of_every_sort() {
     let mut tally = Tally::default();
     for index in 0..60 {
         let seed = generate::seed(1_717, index);
-        let Ok(good) = Table::read(&generate::script_to_run(seed)) else {
+        let settings = Settings::BOTH[index as usize % 2];
+        let Ok(good) = Table::read(&generate::script_to_run(seed), settings) else {
             continue;
         };
         let mut random = Random::new(seed);
@@ -80,7 +87,7 @@ fn small_table() -> Table {
     for (at, name) in [(99_580, b"v\0\0\0"), (99_584, b"w\0\0\0")] {
         table.words[at] = u32::from_le_bytes(*name);
     }
-    table.words[LAST as usize + 1] = u32::from_le_bytes(*b"u\0\0\0");
+    table.words[BEHIND as usize] = u32::from_le_bytes(*b"u\0\0\0");
     put_go(&mut table, &scope);
     stood_at(table)
 }
@@ -96,7 +103,7 @@ fn contents(table: &Table, word: u32) -> Vec<u32> {
     ];
     let mut contents: Vec<u32> = (0..40).chain(62..74).collect();
     contents.extend([776, 780, 1_032, 1_036, 4_095, 4_096, 4_097]);
-    contents.extend([99_580, 99_584, 99_588, 99_589, 99_590]);
+    contents.extend([99_580, 99_584, 99_588, 99_589, 99_590, BEHIND]);
     contents.extend([1_000_000, 1_000_001, 1_000_002, u32::MAX]);
     contents.extend([word.wrapping_add(1), word.wrapping_sub(1)]);
     contents.extend(own);
@@ -170,8 +177,8 @@ fn past_a_limit() -> [(&'static str, Table); 4] {
     locations.words[CHANNELS] = u32::from_le_bytes(*b"Last");
     let mut parameters = read(b"D(a,b,c,d)=stop.A[stop].");
     parameters.words[DEFINITIONS] = 5;
-    let mut scope = stood_at(with_scope(&[LAST + 1], b""));
-    scope.words[LAST as usize + 1] = u32::from_le_bytes(*b"u\0\0\0");
+    let mut scope = stood_at(with_scope(&[BEHIND], b""));
+    scope.words[BEHIND as usize] = u32::from_le_bytes(*b"u\0\0\0");
     [
         ("65 locations", locations),
         ("five parameters", parameters),
@@ -239,7 +246,7 @@ fn words_of_any_content() {
 // --- scopes on the outside ------------------------------------------------------
 
 /// `go(2,v0,stop)` above the rows of a script, with a scope of its own, and a
-/// name in the script's last words.
+/// name in the last words of the rows.
 fn with_scope(scope: &[u32], name: &[u8]) -> Table {
     let mut table = read(SCRIPT);
     let mut spelt = [0; 16];
@@ -306,7 +313,7 @@ const NOT_OF_FORM: [(&str, &[u32], &[u8]); 6] = [
     ("a hole", &[LAST], b"x\0y"),
 ];
 
-const BAD: [Case; 3] = [
+const BAD: [Case; 4] = [
     ("twice at one word", &[X, Y, X], b"", Some(Test::ScopeTwice)),
     (
         "twice at two words",
@@ -315,6 +322,12 @@ const BAD: [Case; 3] = [
         Some(Test::ScopeTwice),
     ),
     ("past the words", &[LAST + 1], b"", Some(Test::ScopeWord)),
+    (
+        "at the edition",
+        &[EDITION as u32],
+        b"",
+        Some(Test::ScopeWord),
+    ),
 ];
 
 #[test]
@@ -406,17 +419,19 @@ fn reading_lays_a_text_out_as_the_page_says() {
     let mut laid_out = 0;
     for index in 0..300 {
         let script = generate::script_to_run(generate::seed(18, index));
-        let Ok(network) = Engine::default().read(&script) else {
+        let settings = Settings::BOTH[index as usize % 2];
+        let Ok(network) = Engine::default().read(&script, settings.edition) else {
             continue;
         };
         let text = writing::network(&network);
-        let Ok(network) = Engine::default().read(text.as_bytes()) else {
+        let Ok(network) = Engine::default().read(text.as_bytes(), settings.edition) else {
             continue;
         };
-        let table = read(text.as_bytes());
+        let table = read_under(settings, text.as_bytes());
         let laid = lay(&network).expect("a network within the limits");
         let used = PARTS + ROW * laid.script[0] as usize;
         assert!(table.words[..used] == laid.script[..used], "{text}");
+        assert_eq!(table.words[EDITION], laid.script[EDITION]);
         assert_eq!(table::words(&table.state), laid.components, "{text}");
         assert_eq!(table.state.n, laid.n);
         laid_out += 1;
@@ -427,4 +442,5 @@ fn reading_lays_a_text_out_as_the_page_says() {
 #[test]
 fn a_script_has_as_many_words_by_both() {
     assert_eq!(WORDS, timo_reference::table::SCRIPT);
+    assert_eq!(EDITION, timo_reference::table::EDITION);
 }

@@ -9,7 +9,7 @@
 use crate::reading::{self, Limits, MOST_COMPONENTS};
 use crate::refusal::Refusal;
 use crate::rules::{Action, Label, Rules, Vanish, Variant};
-use crate::term::{Component, Definition, Network, Part, Script};
+use crate::term::{Component, Definition, Edition, Network, Part, Script};
 use crate::writing;
 
 /// An action as callers hand it in, of any content.
@@ -79,9 +79,14 @@ impl Engine {
         }
     }
 
-    /// Questions 1 to 7.
-    pub fn read(self, text: &[u8]) -> Result<Network, Refusal> {
-        reading::read(text, Limits::On)
+    /// Whether the rules are the right ones.
+    pub fn is_right(self) -> bool {
+        self.rules.variant == Variant::Right
+    }
+
+    /// Questions 21 and 1 to 7. The edition is given as a number.
+    pub fn read(self, text: &[u8], edition: u32) -> Result<Network, Refusal> {
+        reading::read(text, edition, Limits::On)
     }
 
     /// Questions 8 to 11.
@@ -122,7 +127,7 @@ impl Engine {
         let mut records = Vec::new();
         let mut labels = Vec::new();
         for position in 0..components.len() {
-            if let Some(action) = self.choice(&components, position, location) {
+            if let Some(action) = self.choice(&network.script, &components, position, location) {
                 labels.push(self.take(network, &mut components, action)?);
                 records.push(Record::of(action));
             }
@@ -162,7 +167,10 @@ impl Engine {
     pub fn forced(self, network: &Network) -> Forced {
         let mut set = 0u64;
         for (number, location) in network.script.locations.iter().take(64).enumerate() {
-            if self.rules.forced(&network.components, location) {
+            if self
+                .rules
+                .forced(&network.script, &network.components, location)
+            {
                 set |= 1 << number;
             }
         }
@@ -173,13 +181,19 @@ impl Engine {
         }
     }
 
-    /// No question.
+    /// No question. Networks of different editions are not the same.
     pub fn same(self, one: &Network, other: &Network) -> bool {
-        sorted_definitions(one) == sorted_definitions(other)
+        self.one_edition(one.script.edition, other.script.edition)
+            && sorted_definitions(one) == sorted_definitions(other)
             && same_in_any_order(&one.components, &other.components)
     }
 
-    /// Questions 14 and 15. Gives the length of the text.
+    fn one_edition(self, one: Edition, other: Edition) -> bool {
+        one == other || self.rules.variant == Variant::SameAcrossEditions
+    }
+
+    /// Questions 14 and 15. Gives the length of the text, which does not show the
+    /// edition.
     pub fn write(self, network: &Network, lent: &mut [u8]) -> Result<usize, Refusal> {
         if network
             .components
@@ -215,10 +229,13 @@ impl Engine {
         components: Vec<Component>,
         location: &str,
     ) -> Result<Network, Refusal> {
-        if self.rules.forced(&components, location) {
+        let script = &network.script;
+        if self.rules.forced(script, &components, location) {
             return Err(Refusal::Forced);
         }
-        let after = self.rules.tick(components, location, Vanish::OwnMarks);
+        let after = self
+            .rules
+            .tick(script, components, location, Vanish::OwnMarks);
         if after.len() > MOST_COMPONENTS {
             return Err(Refusal::TableFull);
         }
@@ -226,10 +243,17 @@ impl Engine {
     }
 
     /// What a step fires when its pass comes to `position`.
-    fn choice(self, components: &[Component], position: usize, location: &str) -> Option<Action> {
+    fn choice(
+        self,
+        script: &Script,
+        components: &[Component],
+        position: usize,
+        location: &str,
+    ) -> Option<Action> {
+        let must_move = |timer| self.rules.must_move(script.edition, timer);
         match components[position].ready_at(location)? {
             Part::Call { .. } => Some(Action::Call(position)),
-            Part::Go { timer, .. } if timer.is_zero() => Some(Action::Move(position)),
+            Part::Go { timer, .. } if must_move(*timer) => Some(Action::Move(position)),
             Part::Out { channel, .. } => {
                 let partner = self.partner(components, location, channel)?;
                 Some(Action::Communication(position, partner))

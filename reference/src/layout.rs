@@ -4,7 +4,8 @@
 
 use crate::reading::{MOST_COMPONENTS, MOST_PARTS, MOST_VARIABLES};
 use crate::table::{
-    Table, CHANNELS, COMPONENT, DEFINITIONS, LOCATIONS, NAME, OWN, PARTS, ROW, SCRIPT, STATE,
+    Table, CHANNELS, COMPONENT, DEFINITIONS, EDITION, LOCATIONS, NAME, OWN, PARTS, ROW, SCRIPT,
+    STATE,
 };
 use crate::term::{Component, Network, Part, Process, Script, Timer, Value};
 
@@ -38,7 +39,7 @@ pub fn lay(network: &Network) -> Option<Laid> {
         words: vec![0; SCRIPT],
         unused: parts,
     };
-    layer.counts(parts);
+    layer.counts_and_edition(parts);
     layer.names();
     layer.definitions()?;
     let mut components = vec![0; STATE];
@@ -82,7 +83,7 @@ struct Layer<'s> {
 }
 
 impl Layer<'_> {
-    fn counts(&mut self, parts: usize) {
+    fn counts_and_edition(&mut self, parts: usize) {
         let script = self.script;
         let counts = [
             parts,
@@ -91,6 +92,7 @@ impl Layer<'_> {
             script.definitions.len(),
         ];
         self.words[..4].copy_from_slice(&counts.map(|count| count as u32));
+        self.words[EDITION] = script.edition.number();
     }
 
     fn names(&mut self) {

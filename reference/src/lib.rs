@@ -1,5 +1,5 @@
-//! A reference engine for TiMo, written from document 01 and from Tables 1
-//! and 2 of source document 001.
+//! A reference engine for TiMo, written from document 01, from Tables 1 and 2 of
+//! source document 001 and from document 02's R-8.
 //!
 //! Terms carry their names as strings and own their sub-terms; values are put
 //! in by substitution; an action builds new terms. The calls know no table, no
@@ -8,9 +8,9 @@
 //!
 //! | module      | what it holds                                               |
 //! |-------------|-------------------------------------------------------------|
-//! | `term`      | timers, values, parts, processes, components, networks      |
+//! | `term`      | timers, editions, values, parts, components, networks       |
 //! | `refusal`   | the numbered questions                                      |
-//! | `reading`   | from bytes to a network, questions 1 to 7                   |
+//! | `reading`   | from bytes to a network, questions 21 and 1 to 7            |
 //! | `writing`   | from terms to text                                          |
 //! | `rules`     | actions with labels, the forced test, the tick              |
 //! | `calls`     | the outward calls with questions 8 to 16                    |

@@ -20,10 +20,10 @@ const BLANK_RECORD: Record = Record {
 };
 const BLANK_BYTE: u8 = b'#';
 
-/// The printout of a script and its calls, answered by `engine`. The run is
-/// judged by the right rules whatever the engine's are.
-pub fn answers(engine: Engine, script: &[u8], calls: &[Call]) -> String {
-    let network = match engine.read(script) {
+/// The printout of a script read under an edition and of its calls, answered by
+/// `engine`. The run is judged by the right rules whatever the engine's are.
+pub fn answers(engine: Engine, script: &[u8], edition: u32, calls: &[Call]) -> String {
+    let network = match engine.read(script, edition) {
         Ok(network) => network,
         Err(refusal) => return format!("read refused {}\n", refusal.number()),
     };
@@ -201,8 +201,10 @@ impl Session {
         }
     }
 
+    /// The text is read under the network's own edition.
     fn like(&mut self, text: &str) {
-        match self.engine.read(text.as_bytes()) {
+        let edition = self.network.script.edition.number();
+        match self.engine.read(text.as_bytes(), edition) {
             Ok(other) => {
                 let same = self.engine.same(&self.network, &other);
                 self.line(yes_or_no(same));

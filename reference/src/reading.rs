@@ -1,4 +1,5 @@
-//! From bytes to a network (document 01, *Reading* and questions 1 to 7).
+//! From bytes to a network (document 01, *Reading* and questions 1 to 7; document
+//! 02, question 21).
 //!
 //! The whole text is read for its form first; while this is done a tally
 //! keeps what the later questions need. They are then asked in order. The
@@ -10,7 +11,7 @@ use std::mem;
 use std::sync::Arc;
 
 use crate::refusal::Refusal;
-use crate::term::{Component, Definition, Network, Part, Process, Script, Timer, Value};
+use crate::term::{Component, Definition, Edition, Network, Part, Process, Script, Timer, Value};
 
 /// Whether questions 1, 3 and 4 are asked.
 #[derive(Clone, Copy, Debug, PartialEq, Eq)]
@@ -32,9 +33,11 @@ pub const MOST_VARIABLES: usize = 8;
 const LONGEST_NAME: usize = 16;
 pub(crate) const RESERVED: [&str; 6] = ["stop", "go", "in", "out", "inf", "S"];
 
-/// Reads a text, or gives the first question answered by no.
-pub fn read(text: &[u8], limits: Limits) -> Result<Network, Refusal> {
+/// Reads a text under the edition of a number, or gives the first question
+/// answered by no.
+pub fn read(text: &[u8], edition: u32, limits: Limits) -> Result<Network, Refusal> {
     let limited = limits == Limits::On;
+    let edition = Edition::of(edition).ok_or(Refusal::NoEdition)?;
     ask(!limited || text.len() <= MOST_BYTES, Refusal::TooLong)?;
     let mut reader = Reader::new(text);
     let (definitions, components) = reader.text().map_err(|NotOfForm| Refusal::NotOfForm)?;
@@ -53,6 +56,7 @@ pub fn read(text: &[u8], limits: Limits) -> Result<Network, Refusal> {
     )?;
     ask(!tally.unbound, Refusal::NotBound)?;
     let script = Script {
+        edition,
         definitions,
         locations: tally.locations.in_order(),
         channels: tally.channels.in_order(),

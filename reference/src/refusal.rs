@@ -1,5 +1,5 @@
-//! The numbered questions of document 01, *Questions, asked downward*.
-//! A refusal is the first question that was answered by no.
+//! The numbered questions of document 01, *Questions, asked downward*, and of
+//! document 02. A refusal is the first question that was answered by no.
 //! Question 17 is asked of tables only (`table`): here a network is a term.
 
 use std::fmt;
@@ -40,10 +40,12 @@ pub enum Refusal {
     BufferShort = 15,
     /// 16: an action of the proposal fires at another location.
     Elsewhere = 16,
+    /// 21, asked before 1: the edition is neither 1 nor 2.
+    NoEdition = 21,
 }
 
 impl Refusal {
-    /// The question's number in document 01.
+    /// The question's number.
     pub fn number(self) -> u8 {
         self as u8
     }

@@ -1,9 +1,11 @@
-//! The rules (document 01, *Actions* and *The tick at l*; Table 2).
+//! The rules (document 01, *Actions* and *The tick at l*; Table 2; document 02,
+//!
 //!
 //! `fire` takes the components of an action and gives what they become, with
 //! the label; positions play no part in it. The tick is a map from each
 //! component to a list of components, with the test "whose marks vanish" as a
-//! parameter. Nothing here knows a limit.
+//! parameter. The right rules look at the script's edition in one place: when an
+//! `in` or `out` takes its Q at a tick. Nothing here knows a limit.
 //!
 //! `Variant` puts a wrong rule in the place of a right one, to try whether a
 //! comparison notices. Everything but such trials uses `Variant::Right`.
@@ -12,7 +14,7 @@ use std::collections::HashSet;
 use std::fmt;
 use std::mem;
 
-use crate::term::{Component, Part, Process, Script, Timer, Value};
+use crate::term::{Component, Edition, Part, Process, Script, Timer, Value};
 use crate::writing::spelling;
 
 /// The right rules, or rules with one mistake.
@@ -44,11 +46,25 @@ pub enum Variant {
     NumbersMeetingAsNine,
     /// Gives a refused action a label in numbers.
     NumbersRefusal,
+    /// Forces a `go` with timer 1 under edition 2, as if it were counted so too.
+    ForcesGoAtOne,
+    /// Gives the Q of a timer of 2 too under edition 2.
+    TakesQAtTwo,
+    /// Lowers a timer of 1 under edition 2, as under edition 1.
+    LowersOneUnderTwo,
+    /// Lets a tick under edition 2 time out a pair whose timers are at most 1.
+    TimesOutPairAtOne,
+    /// Gives the Q of a timer of 1 under edition 1, as under edition 2.
+    TakesQAtOneUnderOne,
+    /// Lowers the timers of a Q in the tick that gives it, under edition 2.
+    LowersFreshQUnderTwo,
+    /// Says that networks of different editions are the same.
+    SameAcrossEditions,
 }
 
 impl Variant {
-    /// Every variant with a mistake.
-    pub const WRONG: [Variant; 9] = [
+    /// Every variant with a mistake that the answers to a list can show.
+    pub const WRONG: [Variant; 15] = [
         Variant::TimesOutPairAtZero,
         Variant::ClearsAllMarks,
         Variant::TicksMarkedByOthers,
@@ -58,6 +74,12 @@ impl Variant {
         Variant::FiresHighestInput,
         Variant::ForgetsSplitOfQ,
         Variant::LowersFreshQ,
+        Variant::ForcesGoAtOne,
+        Variant::TakesQAtTwo,
+        Variant::LowersOneUnderTwo,
+        Variant::TimesOutPairAtOne,
+        Variant::TakesQAtOneUnderOne,
+        Variant::LowersFreshQUnderTwo,
     ];
 
     /// Every variant with a mistake in labels by number, which a comparison of
@@ -67,6 +89,20 @@ impl Variant {
         Variant::NumbersMeetingAsNine,
         Variant::NumbersRefusal,
     ];
+
+    /// Every variant with a mistake in comparing networks of different editions,
+    /// which the answers to a list cannot show: its networks have one edition.
+    pub const WRONG_SAME: [Variant; 1] = [Variant::SameAcrossEditions];
+
+    /// All of them.
+    pub fn every_wrong() -> Vec<Variant> {
+        [
+            &Variant::WRONG[..],
+            &Variant::WRONG_NUMBERS,
+            &Variant::WRONG_SAME,
+        ]
+        .concat()
+    }
 }
 
 /// An action with the positions of its components.
@@ -363,19 +399,40 @@ impl Rules {
     // --- the tick ------------------------------------------------------------
 
     /// Whether a call, a communication or a move with timer 0 could fire at
-    /// `location`; exactly then the tick there is not allowed.
-    pub fn forced(self, components: &[Component], location: &str) -> bool {
+    /// `location`; exactly then the tick there is not allowed. The edition plays
+    /// no part in it but in wrong variants.
+    pub fn forced(self, script: &Script, components: &[Component], location: &str) -> bool {
+        let edition = script.edition;
         let ready: Vec<&Part> = components
             .iter()
             .filter_map(|component| component.ready_at(location))
             .collect();
-        ready.iter().any(|part| fires_alone(part)) || self.pair_could_meet(&ready)
+        ready.iter().any(|part| self.fires_alone(edition, part))
+            || self.pair_could_meet(edition, &ready)
+    }
+
+    /// A call, or a move that can wait no longer.
+    fn fires_alone(self, edition: Edition, part: &Part) -> bool {
+        match part {
+            Part::Call { .. } => true,
+            Part::Go { timer, .. } => self.must_move(edition, *timer),
+            _ => false,
+        }
+    }
+
+    /// Whether a `go` with this timer can wait no longer.
+    pub(crate) fn must_move(self, edition: Edition, timer: Timer) -> bool {
+        let too_early = self.is(Variant::ForcesGoAtOne) && edition == Edition::Two;
+        timer.is_zero() || too_early && timer == Timer::Ticks(1)
     }
 
     /// Timers play no part in it.
-    fn pair_could_meet(self, ready: &[&Part]) -> bool {
+    fn pair_could_meet(self, edition: Edition, ready: &[&Part]) -> bool {
         if self.is(Variant::TimesOutPairAtZero) {
-            return pair_above_zero(ready);
+            return pair_above(0, ready);
+        }
+        if self.is(Variant::TimesOutPairAtOne) && edition == Edition::Two {
+            return pair_above(1, ready);
         }
         let sent: HashSet<&str> = ready.iter().filter_map(|part| sends_on(part)).collect();
         ready
@@ -387,25 +444,32 @@ impl Rules {
     /// The network after the tick at `location`, which must be allowed.
     pub fn tick(
         self,
+        script: &Script,
         components: Vec<Component>,
         location: &str,
         vanish: Vanish,
     ) -> Vec<Component> {
         components
             .into_iter()
-            .flat_map(|c| self.tick_component(c, location, vanish))
+            .flat_map(|c| self.tick_component(script.edition, c, location, vanish))
             .collect()
     }
 
-    fn tick_component(self, c: Component, location: &str, vanish: Vanish) -> Vec<Component> {
+    fn tick_component(
+        self,
+        edition: Edition,
+        c: Component,
+        location: &str,
+        vanish: Vanish,
+    ) -> Vec<Component> {
         let all = vanish == Vanish::AllMarks || self.is(Variant::ClearsAllMarks);
         match &c.mark {
-            None if c.location == location => self.tick_ready(c),
+            None if c.location == location => self.tick_ready(edition, c),
             None => vec![c],
             Some(owner) if all || owner == location => split(Component { mark: None, ..c }),
             Some(_) if c.location == location && self.is(Variant::TicksMarkedByOthers) => {
                 vec![Component {
-                    process: tick_all_parts(c.process),
+                    process: self.tick_all_parts(edition, c.process),
                     ..c
                 }]
             }
@@ -414,8 +478,8 @@ impl Rules {
     }
 
     /// A component ready at the ticking location.
-    fn tick_ready(self, mut component: Component) -> Vec<Component> {
-        match self.timed_out(&mut component) {
+    fn tick_ready(self, edition: Edition, mut component: Component) -> Vec<Component> {
+        match self.timed_out(edition, &mut component) {
             Some(otherwise) => {
                 let given = Component {
                     process: otherwise,
@@ -434,16 +498,65 @@ impl Rules {
         }
     }
 
-    /// The Q of an `in` or `out` with timer 0.
-    fn timed_out(self, component: &mut Component) -> Option<Process> {
+    /// The Q of an `in` or `out` that has no tick left.
+    fn timed_out(self, edition: Edition, component: &mut Component) -> Option<Process> {
         let [part] = component.process.parts.as_mut_slice() else {
             return None;
         };
-        let mut otherwise = expired_branch(part)?;
-        if self.is(Variant::LowersFreshQ) {
+        let mut otherwise = self.expired_branch(edition, part)?;
+        if self.lowers_fresh_q(edition) {
             otherwise.parts.iter_mut().for_each(lower);
         }
         Some(otherwise)
+    }
+
+    /// Takes the Q out of an `in` or `out` that has no tick left.
+    fn expired_branch(self, edition: Edition, part: &mut Part) -> Option<Process> {
+        match part {
+            Part::Out {
+                timer, otherwise, ..
+            }
+            | Part::In {
+                timer, otherwise, ..
+            } if *timer <= self.last_timer(edition) => Some(Process {
+                parts: mem::take(&mut otherwise.parts),
+            }),
+            _ => None,
+        }
+    }
+
+    /// The largest timer with which an `in` or `out` takes its Q.
+    fn last_timer(self, edition: Edition) -> Timer {
+        match (self.variant, edition) {
+            (Variant::TakesQAtOneUnderOne, Edition::One) => Timer::Ticks(1),
+            (Variant::LowersOneUnderTwo, Edition::Two) => Timer::Ticks(0),
+            (Variant::TakesQAtTwo, Edition::Two) => Timer::Ticks(2),
+            _ => edition.last_timer(),
+        }
+    }
+
+    fn lowers_fresh_q(self, edition: Edition) -> bool {
+        match self.variant {
+            Variant::LowersFreshQ => true,
+            Variant::LowersFreshQUnderTwo => edition == Edition::Two,
+            _ => false,
+        }
+    }
+
+    /// The mistake of ticking a marked process: every part is lowered or replaced
+    /// by its Q.
+    fn tick_all_parts(self, edition: Edition, mut process: Process) -> Process {
+        let mut after = Vec::new();
+        for mut part in mem::take(&mut process.parts) {
+            match self.expired_branch(edition, &mut part) {
+                Some(mut otherwise) => after.append(&mut otherwise.parts),
+                None => {
+                    lower(&mut part);
+                    after.push(part);
+                }
+            }
+        }
+        Process { parts: after }
     }
 }
 
@@ -457,15 +570,6 @@ fn put_value(values: &Values, value: &Value) -> Value {
     match values.iter().find(|(name, _)| name == variable) {
         Some((_, put)) => (*put).clone(),
         None => value.clone(),
-    }
-}
-
-/// A call, or a move that can wait no longer.
-fn fires_alone(part: &Part) -> bool {
-    match part {
-        Part::Call { .. } => true,
-        Part::Go { timer, .. } => timer.is_zero(),
-        _ => false,
     }
 }
 
@@ -483,17 +587,17 @@ fn hears_on(part: &Part) -> Option<&str> {
     }
 }
 
-/// The mistake of passing over a pair whose timers are both 0.
-fn pair_above_zero(ready: &[&Part]) -> bool {
-    let at_zero = |part: &Part| match part {
-        Part::Out { timer, .. } | Part::In { timer, .. } => timer.is_zero(),
+/// The mistake of passing over a pair whose timers are both at most a number.
+fn pair_above(ticks: u32, ready: &[&Part]) -> bool {
+    let at_end = |part: &Part| match part {
+        Part::Out { timer, .. } | Part::In { timer, .. } => *timer <= Timer::Ticks(ticks),
         _ => false,
     };
     ready.iter().any(|one| {
         ready.iter().any(|other| {
             sends_on(one).is_some()
                 && sends_on(one) == hears_on(other)
-                && !(at_zero(one) && at_zero(other))
+                && !(at_end(one) && at_end(other))
         })
     })
 }
@@ -527,39 +631,4 @@ fn lower(part: &mut Part) {
         }
         Part::Stop | Part::Call { .. } => {}
     }
-}
-
-/// Takes the Q out of an `in` or `out` whose timer is 0.
-fn expired_branch(part: &mut Part) -> Option<Process> {
-    match part {
-        Part::Out {
-            timer: Timer::Ticks(0),
-            otherwise,
-            ..
-        }
-        | Part::In {
-            timer: Timer::Ticks(0),
-            otherwise,
-            ..
-        } => Some(Process {
-            parts: mem::take(&mut otherwise.parts),
-        }),
-        _ => None,
-    }
-}
-
-/// The mistake of ticking a marked process: every part is lowered or replaced
-/// by its Q.
-fn tick_all_parts(mut process: Process) -> Process {
-    let mut after = Vec::new();
-    for mut part in mem::take(&mut process.parts) {
-        match expired_branch(&mut part) {
-            Some(mut otherwise) => after.append(&mut otherwise.parts),
-            None => {
-                lower(&mut part);
-                after.push(part);
-            }
-        }
-    }
-    Process { parts: after }
 }

@@ -33,6 +33,8 @@ pub enum Broken {
     GroupedDiffers,
     /// The definitions have changed.
     DefinitionsChanged,
+    /// The edition has changed.
+    EditionChanged,
 }
 
 impl fmt::Display for Broken {
@@ -47,6 +49,7 @@ impl fmt::Display for Broken {
             Broken::StraightDiffers => "straight network differs from the engine's last",
             Broken::GroupedDiffers => "grouped network is no permutation of the engine's last",
             Broken::DefinitionsChanged => "definitions changed",
+            Broken::EditionChanged => "edition changed",
         })
     }
 }
@@ -71,7 +74,8 @@ pub struct Run {
 }
 
 impl Run {
-    /// A run from the network that reading returned, by the right rules.
+    /// A run from the network that reading returned, by the right rules under its
+    /// edition.
     pub fn new(read: &Network) -> Run {
         Run {
             rules: Rules::default(),
@@ -141,6 +145,9 @@ impl Run {
         if self.read.script.definitions != last.script.definitions {
             return Err(Broken::DefinitionsChanged);
         }
+        if self.read.script.edition != last.script.edition {
+            return Err(Broken::EditionChanged);
+        }
         if self.straight != last.components {
             return Err(Broken::StraightDiffers);
         }
@@ -157,10 +164,11 @@ impl Run {
         location: &str,
         vanish: Vanish,
     ) -> Option<Vec<Component>> {
-        if self.rules.forced(&components, location) {
+        let script = &self.read.script;
+        if self.rules.forced(script, &components, location) {
             return None;
         }
-        Some(self.rules.tick(components, location, vanish))
+        Some(self.rules.tick(script, components, location, vanish))
     }
 
     fn fire_in_order(&mut self, notes: Vec<Note>) -> Result<(), Broken> {

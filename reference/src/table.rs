@@ -15,7 +15,7 @@ use crate::reading::{
     MOST_VARIABLES, RESERVED,
 };
 use crate::rules::Rules;
-use crate::term::{Component, Definition, Network, Part, Process, Script, Timer, Value};
+use crate::term::{Component, Definition, Edition, Network, Part, Process, Script, Timer, Value};
 
 /// Words of a script.
 pub const SCRIPT: usize = 99_984;
@@ -29,6 +29,8 @@ pub const CHANNELS: usize = 1_032;
 pub const PARTS: usize = 1_288;
 /// Where the rows of parts end.
 pub const PARTS_END: usize = PARTS + ROW * MOST_PARTS;
+/// The word of the edition, the first behind the rows.
+pub const EDITION: usize = PARTS_END;
 pub const ROW: usize = 24;
 pub const NAME: usize = 4;
 pub const COMPONENT: usize = 16;
@@ -152,11 +154,13 @@ pub enum Test {
     ComponentTimer,
     /// 31
     ComponentValue,
+    /// 32
+    Edition,
 }
 
 impl Test {
     /// Every test, first to last.
-    pub const ALL: [Test; 38] = [
+    pub const ALL: [Test; 39] = [
         Test::Sizes,
         Test::Counts,
         Test::LocationForm,
@@ -195,6 +199,7 @@ impl Test {
         Test::ComponentPlace,
         Test::ComponentTimer,
         Test::ComponentValue,
+        Test::Edition,
     ];
 
     fn at(self, at: usize) -> Fault {
@@ -260,7 +265,9 @@ impl<'w> Table<'w> {
         self.names()?;
         self.all_definitions()?;
         self.all_parts()?;
-        self.all_components()
+        self.all_components()?;
+        let edition = self.edition().is_some();
+        self.ask(edition, Test::Edition, EDITION)
     }
 
     fn counts(&self) -> Asked {
@@ -519,6 +526,10 @@ impl Table<'_> {
         self.number(3)
     }
 
+    fn edition(&self) -> Option<Edition> {
+        self.script.get(EDITION).and_then(|word| Edition::of(*word))
+    }
+
     fn arity(&self, d: usize) -> usize {
         self.number(head(d))
     }
@@ -588,6 +599,7 @@ impl Table<'_> {
     pub fn network(&self) -> Result<Network, Fault> {
         self.rightly_asked()?;
         let script = Script {
+            edition: self.edition().unwrap_or_default(),
             definitions: (0..self.definitions())
                 .map(|d| self.definition(d))
                 .collect(),

@@ -30,6 +30,40 @@ impl Timer {
     }
 }
 
+/// How communication timers are counted (document 02, R-8). It is given at
+/// reading and stays with the network.
+#[derive(Clone, Copy, Debug, Default, PartialEq, Eq, PartialOrd, Ord)]
+pub enum Edition {
+    /// In ticks: an `in` or `out` takes its Q at a tick with timer 0.
+    #[default]
+    One = 1,
+    /// In chances to meet: it takes its Q with timer 0 or 1.
+    Two = 2,
+}
+
+impl Edition {
+    pub const BOTH: [Edition; 2] = [Edition::One, Edition::Two];
+
+    /// The edition of a number, if it is 1 or 2.
+    pub fn of(number: u32) -> Option<Edition> {
+        Edition::BOTH
+            .into_iter()
+            .find(|edition| edition.number() == number)
+    }
+
+    pub fn number(self) -> u32 {
+        self as u32
+    }
+
+    /// The largest timer with which an `in` or `out` takes its Q at a tick.
+    pub fn last_timer(self) -> Timer {
+        match self {
+            Edition::One => Timer::Ticks(0),
+            Edition::Two => Timer::Ticks(1),
+        }
+    }
+}
+
 /// What is sent, passed or moved to.
 #[derive(Clone, Debug, PartialEq, Eq, PartialOrd, Ord)]
 pub enum Value {
@@ -148,10 +182,11 @@ impl Component {
     }
 }
 
-/// What reading fixes for good: definitions in text order, and the names of
-/// locations and channels in the order of their numbers.
-#[derive(Debug, PartialEq, Eq)]
+/// What reading fixes for good: the edition, definitions in text order, and the
+/// names of locations and channels in the order of their numbers.
+#[derive(Clone, Debug, PartialEq, Eq)]
 pub struct Script {
+    pub edition: Edition,
     pub definitions: Vec<Definition>,
     pub locations: Vec<String>,
     pub channels: Vec<String>,
@@ -176,6 +211,18 @@ impl Network {
         Network {
             script: Arc::clone(&self.script),
             components,
+        }
+    }
+
+    /// The same network under an edition.
+    pub fn under(&self, edition: Edition) -> Network {
+        let script = Script {
+            edition,
+            ..(*self.script).clone()
+        };
+        Network {
+            script: Arc::new(script),
+            components: self.components.clone(),
         }
     }
 }

@@ -23,7 +23,9 @@ fn each_hostile_text_gets_its_number() {
 fn every_limit_can_be_met_at_once() {
     let all = hostile::all();
     let full = all.last().expect("a text");
-    let network = engine().read(&full.text).expect("a text within the limits");
+    let network = engine()
+        .read(&full.text, 1)
+        .expect("a text within the limits");
     assert_eq!(full.text.len(), 65_535);
     assert_eq!(network.components.len(), 256);
     assert_eq!(network.script.definitions.len(), 32);
@@ -60,6 +62,21 @@ fn of_two_faults_the_lower_number_is_given() {
     }
 }
 
+/// Under edition 2 the numbers are the same, and under none 21 comes first.
+#[test]
+fn the_edition_is_asked_before_any_fault() {
+    let hostile = hostile::all();
+    let hostile = hostile.iter().map(|text| (text.text.clone(), text.number));
+    let all = faults::all();
+    let faulty = all.iter().map(|one| (faults::text(&[one]), one.number));
+    for (text, number) in hostile.chain(faulty) {
+        assert_eq!(question_under(2, &text), number);
+        for edition in [0, 3, 21, 256 + 1, 65_536 + 2, u32::MAX] {
+            assert_eq!(question_under(edition, &text), 21, "edition {edition}");
+        }
+    }
+}
+
 #[test]
 fn every_byte_alone_and_doubled_is_2() {
     for byte in 0..=255u8 {
@@ -82,10 +99,10 @@ fn every_beginning_of_a_text_is_2() {
 #[test]
 fn deep_terms_read_without_limits_are_dropped_on_a_small_stack() {
     let text = format!("A[{}stop{}].", "go(0,A,".repeat(50_000), ")".repeat(50_000));
-    let network = reading::read(text.as_bytes(), Limits::Off).expect("a text of the form");
+    let network = reading::read(text.as_bytes(), 1, Limits::Off).expect("a text of the form");
     drop(network);
     let length = on_big_stack(|| {
-        let network = reading::read(text.as_bytes(), Limits::Off).expect("a text of the form");
+        let network = reading::read(text.as_bytes(), 1, Limits::Off).expect("a text of the form");
         writing::network(&network.clone()).len()
     });
     assert_eq!(length, text.len() + 2);

@@ -10,26 +10,51 @@ use timo_reference::lists::{self, Call};
 use timo_reference::printout;
 use timo_reference::rules::Variant;
 use timo_reference::runs::{Broken, Run};
-use timo_reference::term::Network;
+use timo_reference::term::{Edition, Network};
 
-/// A script that is read, with its calls.
-fn case(index: u64) -> Option<(Vec<u8>, Vec<Call>)> {
+/// A script that is read under an edition, with its calls.
+struct Case {
+    edition: u32,
+    script: Vec<u8>,
+    calls: Vec<Call>,
+}
+
+impl Case {
+    fn network(&self) -> Network {
+        engine()
+            .read(&self.script, self.edition)
+            .expect("a list belongs to a readable script")
+    }
+
+    fn answers(&self, engine: Engine) -> String {
+        printout::answers(engine, &self.script, self.edition, &self.calls)
+    }
+}
+
+/// The editions take turns.
+fn case(index: u64) -> Option<Case> {
+    let edition = Edition::BOTH[index as usize % 2];
     let seed = generate::seed(2024, index);
     let script = generate::script_to_run(seed);
-    let calls = generate::calls(seed, &script);
-    (!calls.is_empty()).then_some((script, calls))
+    let calls = generate::calls(seed, &script, edition);
+    (!calls.is_empty()).then_some(Case {
+        edition: edition.number(),
+        script,
+        calls,
+    })
+}
+
+fn cases(count: u64) -> Vec<Case> {
+    (0..count).filter_map(case).collect()
 }
 
 #[test]
 fn the_claim_holds_on_hundreds_of_random_lists() {
     let (mut calls_made, mut refusals) = (0, 0);
-    for (script, calls) in (0..400).filter_map(case) {
-        let network = engine()
-            .read(&script)
-            .expect("a list belongs to a readable script");
-        let (run, refused) = printout::verdict(engine(), network, &calls);
-        assert_eq!(run, Ok(()), "{}", String::from_utf8_lossy(&script));
-        calls_made += calls.len();
+    for case in (0..500).filter_map(case) {
+        let (run, refused) = printout::verdict(engine(), case.network(), &case.calls);
+        assert_eq!(run, Ok(()), "{}", String::from_utf8_lossy(&case.script));
+        calls_made += case.calls.len();
         refusals += refused;
     }
     assert!(calls_made > 80_000);
@@ -42,36 +67,49 @@ fn the_claim_holds_on_hundreds_of_random_lists() {
 
 #[test]
 fn a_comparison_of_printouts_tells_every_wrong_variant_apart() {
-    let cases: Vec<(Vec<u8>, Vec<Call>)> = (0..200).filter_map(case).collect();
-    let right: Vec<String> = cases
-        .iter()
-        .map(|(script, calls)| printout::answers(engine(), script, calls))
-        .collect();
+    let cases = cases(200);
+    let right: Vec<String> = cases.iter().map(|case| case.answers(engine())).collect();
     for variant in Variant::WRONG {
-        let differs = |index: &usize| {
-            let (script, calls) = &cases[*index];
-            printout::answers(Engine::new(variant), script, calls) != right[*index]
-        };
+        let differs = |index: &usize| cases[*index].answers(Engine::new(variant)) != right[*index];
         let found = (0..cases.len()).find(differs);
         assert!(found.is_some(), "{variant:?} is not told apart");
         println!("{variant:?} differs first on list {}", found.unwrap_or(0));
     }
 }
 
-/// A step may choose any input, so the highest one is within the rules.
+/// A step may choose any input and fire any move, and a refusal counts for
+/// nothing: the highest input and a move forced too early are within the rules.
 #[test]
 fn the_claim_is_broken_by_every_variant_that_the_rules_exclude() {
-    let cases: Vec<(Vec<u8>, Vec<Call>)> = (0..200).filter_map(case).collect();
+    let cases = cases(200);
     for variant in Variant::WRONG {
-        let breaks = |(script, calls): &(Vec<u8>, Vec<Call>)| {
-            let network = engine().read(script).expect("a readable script");
-            printout::verdict(Engine::new(variant), network, calls)
+        let breaks = |case: &Case| {
+            printout::verdict(Engine::new(variant), case.network(), &case.calls)
                 .0
                 .is_err()
         };
         let broken = cases.iter().any(breaks);
-        assert_eq!(broken, variant != Variant::FiresHighestInput, "{variant:?}");
+        let within = matches!(variant, Variant::FiresHighestInput | Variant::ForcesGoAtOne);
+        assert_eq!(broken, !within, "{variant:?}");
     }
+}
+
+/// Both editions have lists on which they answer alike until a communication
+/// timer is 1 at a tick, and differently from there on.
+#[test]
+fn a_list_under_the_other_edition_is_answered_differently_and_the_claim_holds() {
+    let mut differ = 0;
+    for case in cases(120) {
+        let other = Case {
+            edition: 3 - case.edition,
+            ..case
+        };
+        let (run, _) = printout::verdict(engine(), other.network(), &other.calls);
+        assert_eq!(run, Ok(()), "{}", String::from_utf8_lossy(&other.script));
+        let own = printout::answers(engine(), &other.script, 3 - other.edition, &other.calls);
+        differ += usize::from(other.answers(engine()) != own);
+    }
+    assert!(differ > 20, "{differ}");
 }
 
 #[test]
@@ -114,7 +152,7 @@ fn a_run_notices_what_the_rules_do_not_allow() {
 
 #[test]
 fn a_printed_list_is_read_back() {
-    for (_, calls) in (0..40).filter_map(case) {
+    for Case { calls, .. } in cases(40) {
         assert_eq!(lists::parse(&lists::print(&calls)), Ok(calls));
     }
     assert!(lists::parse("tick\n").is_err());
@@ -126,10 +164,12 @@ fn the_same_seed_gives_the_same_texts_and_lists() {
     for seed in 0..50 {
         let script = generate::script_to_run(seed);
         assert_eq!(script, generate::script_to_run(seed));
-        assert_eq!(
-            generate::calls(seed, &script),
-            generate::calls(seed, &script)
-        );
+        for edition in Edition::BOTH {
+            assert_eq!(
+                generate::calls(seed, &script, edition),
+                generate::calls(seed, &script, edition)
+            );
+        }
     }
 }
 
@@ -146,8 +186,8 @@ fn random_texts_reach_every_reading_question() {
 #[test]
 fn random_lists_reach_every_refusal() {
     let mut seen: HashMap<String, usize> = HashMap::new();
-    for (script, calls) in (0..100).filter_map(case) {
-        let text = printout::answers(engine(), &script, &calls);
+    for case in cases(100) {
+        let text = case.answers(engine());
         for line in text.lines().filter(|line| !line.starts_with("component")) {
             *seen.entry(line.to_string()).or_default() += 1;
         }
@@ -165,9 +205,9 @@ fn random_lists_reach_every_refusal() {
 /// 13 only; and no call ever makes the components fewer.
 #[test]
 fn a_step_never_meets_12_and_components_never_become_fewer() {
-    for (script, calls) in (0..60).filter_map(case) {
-        let mut network = engine().read(&script).expect("a readable script");
-        for call in &calls {
+    for case in cases(60) {
+        let mut network = case.network();
+        for call in &case.calls {
             for location in 0..network.script.locations.len() as u32 {
                 let answer = number(engine().step(&network, location, &mut records()));
                 assert!(matches!(answer, 0 | 13), "a step gave {answer}");
@@ -193,13 +233,13 @@ fn next(network: &Network, call: &Call) -> Option<Network> {
     }
 }
 
-/// Reading what was written gives the same network, wherever the text meets
-/// the limits.
+/// Reading what was written under the network's own edition gives the same
+/// network, wherever the text meets the limits; under the other it does not.
 #[test]
 fn written_networks_are_read_back() {
-    for (script, calls) in (0..100).filter_map(case) {
-        let mut network = engine().read(&script).expect("a readable script");
-        for call in calls.iter().take(120) {
+    for case in cases(100) {
+        let mut network = case.network();
+        for call in case.calls.iter().take(120) {
             if let Call::Step { location, .. } | Call::Tick(location) = call {
                 let mut lent = vec![Record::new(0, 0, 0); 256];
                 if let Ok(stepped) = engine().step(&network, *location, &mut lent) {
@@ -208,9 +248,18 @@ fn written_networks_are_read_back() {
             }
         }
         let text = written(&network);
-        match engine().read(text.as_bytes()) {
-            Ok(again) => assert!(engine().same(&again, &network)),
-            Err(refusal) => assert!(matches!(refusal.number(), 1 | 4), "{refusal}"),
+        let own = engine().read(text.as_bytes(), case.edition);
+        let other = engine().read(text.as_bytes(), 3 - case.edition);
+        match (own, other) {
+            (Ok(own), Ok(other)) => {
+                assert!(engine().same(&own, &network));
+                assert!(!engine().same(&other, &network));
+            }
+            (own, other) => {
+                let refused = number(own);
+                assert!(matches!(refused, 1 | 4), "{refused}");
+                assert_eq!(number(other), refused);
+            }
         }
     }
 }

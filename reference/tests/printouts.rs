@@ -57,16 +57,20 @@ fn every_example_prints_what_stands_beside_it() {
     }
 }
 
+/// A list is answered under the edition that stands beside it, or under 1. Where
+/// the answers under 1 are others, these stand beside it too.
 #[test]
 fn every_example_list_gets_the_answers_that_stand_beside_it() {
     for list in with_extension("calls") {
         let script = fs::read(list.with_extension("timo")).expect("its script");
         let calls = lists::parse(&fs::read_to_string(&list).expect("a list")).expect("calls");
-        let expected = fs::read_to_string(list.with_extension("answers")).expect("its answers");
-        assert_eq!(
-            printout::answers(Engine::default(), &script, &calls),
-            expected
-        );
+        let answers = |edition| printout::answers(Engine::default(), &script, edition, &calls);
+        let stored = |extension| fs::read_to_string(list.with_extension(extension)).ok();
+        let edition = stored("edition").map_or(1, |text| text.trim().parse().expect("a number"));
+        assert_eq!(Some(answers(edition)), stored("answers"));
+        let under_1 = stored("edition_1.answers");
+        let expected = (answers(1) != answers(edition)).then(|| answers(1));
+        assert_eq!(under_1, expected, "{}", list.display());
     }
 }
 

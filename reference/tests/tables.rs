@@ -5,14 +5,16 @@ mod common;
 
 use std::collections::HashSet;
 
-use common::{act, engine, read, stepped};
+use common::{act, engine, read, read_under, stepped};
 use timo_reference::deep::on_big_stack;
 use timo_reference::generate;
 use timo_reference::layout::{lay, Laid};
 use timo_reference::random::Random;
 use timo_reference::table::{
-    Table, Test, CHANNELS, COMPONENT, DEFINITIONS, LOCATIONS, PARTS, ROW, SCRIPT, SLOTS, STATE,
+    Table, Test, CHANNELS, COMPONENT, DEFINITIONS, EDITION, LOCATIONS, PARTS, ROW, SCRIPT, SLOTS,
+    STATE,
 };
+use timo_reference::term::Edition;
 use timo_reference::writing;
 
 /// From the highest place down: D's body `go` 9, its two parts `stop` 8 and the
@@ -140,6 +142,28 @@ fn counts_and_names() {
     }
     let full = |laid: &mut Laid| laid.script[CHANNELS..CHANNELS + 4].fill(spelt(b"abcd"));
     assert_eq!(failed(full), None);
+}
+
+#[test]
+fn the_edition() {
+    assert_eq!(good().script[EDITION], 1);
+    for word in [
+        0,
+        3,
+        256 + 1,
+        65_536 + 2,
+        0x8000_0001,
+        u32::MAX - 1,
+        u32::MAX,
+    ] {
+        assert_eq!(word_made(EDITION, word), Some(Test::Edition));
+    }
+    let mut laid = good();
+    laid.script[EDITION] = 2;
+    let network = laid.table().network().expect("a network");
+    assert_eq!(network, read_under(Edition::Two, TEXT));
+    assert_ne!(network, read(TEXT));
+    assert_eq!(lay(&network), Some(laid));
 }
 
 #[test]
@@ -312,7 +336,8 @@ fn words_that_nothing_looks_at() {
         .chain([1, 5].map(|word| at(GO, word)))
         .chain((11..ROW).map(|word| at(GO, word)))
         .chain([2, 4, 5, 19, 20, 23].map(|word| at(CALL, word)))
-        .chain(at(parts, 0)..SCRIPT);
+        .chain(at(parts, 0)..EDITION)
+        .chain(EDITION + 1..SCRIPT);
     let filled = |laid: &mut Laid| {
         for word in unused {
             laid.script[word] = 0xdead_beef;
@@ -366,7 +391,8 @@ fn networks_of_every_sort_are_laid_out_and_found_again() {
     let mut laid_out = 0;
     for index in 0..400 {
         let script = generate::script_to_run(generate::seed(17, index));
-        let Ok(network) = engine().read(&script) else {
+        let edition = Edition::BOTH[index as usize % 2].number();
+        let Ok(network) = engine().read(&script, edition) else {
             continue;
         };
         let later = stepped(&network, 0);

@@ -1,7 +1,9 @@
-//! Document 01, *Twelve examples for the proofs*.
+//! Document 01, *Twelve examples for the proofs*, under edition 1, and those that
+//! are different under edition 2: 4, 7, 8 and 10.
 
 mod common;
 use common::*;
+use timo_reference::term::{Edition, Network};
 
 const SEVEN: &str = "A[go(0,B,out(c,1,B,stop,stop))] | B[in(c,1,x,stop,stop)] .";
 
@@ -92,4 +94,59 @@ fn example_11_a_split_past_256_is_refused_13() {
 #[test]
 fn example_12_the_empty_text_is_refused_2() {
     assert_eq!(question(""), 2);
+}
+
+// --- under edition 2 -----------------------------------------------------------
+
+fn read_2(text: &str) -> Network {
+    read_under(Edition::Two, text)
+}
+
+#[test]
+fn examples_1_2_3_5_6_9_11_and_12_hold_under_edition_2_too() {
+    let pair = read_2("A[out(c,0,B,stop,stop) | in(c,0,x,go(3,x,stop),stop)] .");
+    assert_eq!(tick_number(&pair, 0), 12);
+    let met = tick(&act(&pair, 3, 0, 1), 0);
+    assert_eq!(written(&met), "A[stop] | A[go(3,B,stop)] .\n");
+    let at_zero = tick(&read_2("A[out(c,0,B,stop,go(1,B,stop))] ."), 0);
+    assert_eq!(written(&at_zero), "A[go(1,B,stop)] .\n");
+    let lowered = tick(&at_zero, 0);
+    assert_eq!(written(&lowered), "A[go(0,B,stop)] .\n");
+    assert_eq!(tick_number(&lowered, 0), 12);
+    let inf = read_2("A[go(inf,B,stop)] .");
+    assert_eq!(tick(&inf, 0), inf);
+    let text = "A[out(c,0,B,stop,stop) | in(c,0,x,in(c,0,x,go(0,x,stop),go(0,x,stop)),stop)] .";
+    assert_eq!(
+        shown(&act(&read_2(text), 3, 0, 1)),
+        "A[A] stop; A[A] in(c,0,x,go(0,x,stop),go(0,B,stop))"
+    );
+    let stops = vec!["stop"; 255].join(" | ");
+    let full = read_2(&format!("D = stop | stop . A[D | {stops}] ."));
+    assert_eq!(tick_number(&act(&full, 1, 0, 0), 0), 13);
+    assert_eq!(question_under(2, ""), 2);
+}
+
+#[test]
+fn example_4_under_edition_2_takes_its_q() {
+    let network = read_2("A[out(c,1,B,stop,stop)] .");
+    assert_eq!(written(&tick(&network, 0)), "A[stop] .\n");
+}
+
+#[test]
+fn examples_7_and_8_under_edition_2_the_input_has_gone() {
+    let seven = read_2(SEVEN);
+    let marked = tick(&act(&seven, 2, 0, 0), 1);
+    assert_eq!(shown(&marked), "B[A] out(c,1,B,stop,stop); B[] stop");
+    assert_eq!(act_number(&marked, 3, 0, 1), 9);
+    let m = tick(&marked, 0);
+    assert_eq!(act_number(&m, 3, 0, 1), 10);
+    assert!(engine().same(&stepped(&stepped(&seven, 1), 0), &m));
+    assert!(!engine().same(&stepped(&stepped(&seven, 0), 1), &m));
+}
+
+#[test]
+fn example_10_under_edition_2_the_output_left_takes_its_q() {
+    let text = "A[out(c,1,B,stop,stop) | out(c,1,A,stop,stop) | in(c,1,x,go(0,x,stop),stop)] .";
+    let expected = "A[stop] | A[stop] | A[go(0,B,stop)] .\n";
+    assert_eq!(written(&stepped(&read_2(text), 0)), expected);
 }

@@ -1,6 +1,7 @@
 //! `bench [SCRIPT..]`: steps, writing, reading and `same` by the proved engine's
 //! library and by the reference engine, side by side in one run, on built-in
-//! workloads that grow and on the scripts named. Nothing is tested here.
+//! workloads that grow and on the scripts named, under edition 1. Nothing is
+//! tested here.
 //!
 //! `bench --step SCRIPT`: only the time of a step of the proved engine, in µs.
 
@@ -8,7 +9,7 @@ use std::env;
 use std::fs;
 
 use compare::load::{facing, grid, micros, nested, Ratio};
-use compare::timo::{read_into, words_of, State, Table};
+use compare::timo::{read_into, words_of, Settings, State, Table};
 use timo_reference::calls::{Engine, Record};
 use timo_reference::term::Network;
 
@@ -66,7 +67,7 @@ fn name_of(path: &str) -> &str {
 
 fn step_only(path: &str) {
     let script = fs::read(path).unwrap_or_default();
-    match Table::read(&script) {
+    match Table::read(&script, Settings::EDITION_1) {
         Ok(mut table) => {
             let steps = steps_of(table.words[1] as usize);
             let start = table.state;
@@ -83,7 +84,9 @@ fn steps_of(locations: usize) -> f64 {
 fn line(workload: &str, script: &str) {
     let engine = Engine::default();
     let text = script.as_bytes();
-    let (mut table, network) = match (Table::read(text), engine.read(text)) {
+    let settings = Settings::EDITION_1;
+    let ours = Table::read(text, settings);
+    let (mut table, network) = match (ours, engine.read(text, settings.edition)) {
         (Ok(table), Ok(network)) => (table, network),
         (ours, theirs) => {
             let numbers = (ours.err(), theirs.err().map(|refusal| refusal.number()));
@@ -105,8 +108,11 @@ fn line(workload: &str, script: &str) {
             micros(|| engine.write(&network, &mut lent).unwrap_or(0)),
         ),
         (
-            micros(|| read_into(text, &mut words).state.n),
-            micros(|| engine.read(text).map_or(0, |read| read.components.len())),
+            micros(|| read_into(text, settings, &mut words).state.n),
+            micros(|| {
+                let read = engine.read(text, settings.edition);
+                read.map_or(0, |read| read.components.len())
+            }),
         ),
         (
             micros(|| table.same(&table).map_or(0, usize::from)),

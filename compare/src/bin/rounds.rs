@@ -1,5 +1,5 @@
 //! `rounds < SCRIPT`: what `timorun` prints, with reading, steps and writing
-//! done by the proved engine's library. The records of a step are put to the
+//! done by the proved engine's library under edition 1. The records of a step are put to the
 //! library again as single actions, for their labels, and the tick after them
 //! has to give the step's state.
 //!
@@ -11,7 +11,7 @@ use std::io::{self, Read, Write};
 use std::process::ExitCode;
 
 use compare::table;
-use compare::timo::Table;
+use compare::timo::{Settings, Table};
 use timo_reference::generate::vectors::END;
 
 fn main() -> ExitCode {
@@ -42,7 +42,8 @@ fn answer(many: bool) -> io::Result<()> {
 /// What `timorun` prints on a script.
 fn printout(script: &[u8]) -> Vec<u8> {
     let mut text = Vec::new();
-    let ended = Table::read(script).and_then(|table| rounds(table, &mut text));
+    let read = Table::read(script, Settings::EDITION_1);
+    let ended = read.and_then(|table| rounds(table, &mut text));
     if let Err(number) = ended {
         text.extend(format!("refused {number}\n").bytes());
     }

@@ -8,7 +8,7 @@ use mathlib.Core.Bool.{true}
 use mathlib.Core.Path.{_≡_, refl, sym, ap, subst, _∙_}
 use lib.Dec.{T}
 use lib.ListN.{length}
-use Rattle.terms.specs.Terms.{Component, Network, contextIn}
+use Rattle.terms.specs.Terms.{Component, Network}
 use Rattle.terms.specs.Rules.{Answer, unmarked}
 use Rattle.terms.specs.Rules.Answer.{refused, accepted}
 use Rattle.terms.specs.Same.{every}
@@ -18,14 +18,15 @@ use Rattle.terms.proofs.Sums.{Each}
 use Rattle.terms.proofs.Sums.Each.{each-nil, each-cons}
 use Rattle.terms.proofs.Mixed.{mixed-runs}
 use Rattle.table.specs.declared.State.{State}
-use Rattle.table.specs.Meaning.{contextOf, netOf, networkOf}
-use Rattle.text.specs.Questions.{read}
-use Rattle.text.proofs.Gives.{read-unmarked}
-use Rattle.text_read.proofs.Numbers.{Among, among}
+use Rattle.table.specs.Meaning.{defsOf, contextOf, netOf, networkOf}
+use Rattle.text.specs.Questions.{readUnder}
+use Rattle.text.proofs.Gives.{under-gives, read-unmarked}
+use Rattle.text_read.proofs.Numbers.{AmongAll, among-all}
+use Rattle.text_answer.specs.declared.Settings.{Settings}
 use Rattle.text_answer.specs.declared.Reading.{Reading}
 use Rattle.text_answer.specs.Answer.{readsAs, ReadsAs}
 use Rattle.calls.specs.Run.{Given, Run, Mixed, RunsAs}
-use Rattle.calls.specs.Demand3.{Demand3, textRuns}
+use Rattle.calls.specs.Demand3.{Demand3, readContext, textRuns}
 use Rattle.calls.proofs.Straight.{straight-run}
 
 each-unmarked : (cs : List Component) → every unmarked cs ≡ true → Each (λ c. T (unmarked c)) cs
@@ -34,41 +35,50 @@ each-unmarked [] e = each-nil
 each-unmarked (c ∷ cs) e = let r = and-inv (unmarked c) (every unmarked cs) e in each-cons (subst T (sym (r .0)) tt) (each-unmarked cs (r .1))
 
 -- from an unmarked network
-pub mixed-calls : (w : List ℕ) {st last : State} {gs : List Given} {ks : List ℕ} {fs : List Fed} → Run w st gs ks fs last → every unmarked (netOf w st) ≡ true → Mixed (networkOf w st) fs (netOf w last)
-unfolding networkOf contextOf
+pub mixed-calls : (w : List ℕ) {st last : State} {gs : List Given} {ks : List ℕ} {fs : List Fed} → Run w st gs ks fs last → every unmarked (netOf w st) ≡ true → Mixed (contextOf w) (netOf w st) fs (netOf w last)
 mixed-calls w {st} {last} {gs} {ks} {fs} r u =
     let m = mixed-runs (contextOf w) fs (netOf w st) (netOf w last) (each-unmarked (netOf w st) u) (straight-run w r) in
     record { grouped = m .0; runs = m .1; same = m .2 }
 
 -- what is read has no mark
-pub read-plain : (s w v : List ℕ) (r : Reading) (m : Network) → ReadsAs s w v r → read s ≡ accepted m → (networkOf v (r .state) ≡ m) × (every unmarked (netOf v (r .state)) ≡ true)
-unfolding networkOf
-read-plain s w v r m a e =
-    let t = subst (λ x. readsAs s x w w v r) e a in
-    (t .network, ap (every unmarked) (ap (λ n. n .comps) (t .network)) ∙ read-unmarked s m e)
+pub record Plain (g : Settings) (v : List ℕ) (r : Reading) (m : Network) : Type 0 where
+  pub context : contextOf v ≡ readContext g m
+  pub comps : netOf v (r .state) ≡ m .comps
+  pub unmarked-all : every unmarked (netOf v (r .state)) ≡ true
+
+pub read-plain : (s : List ℕ) (g : Settings) (w v : List ℕ) (r : Reading) (m : Network) → ReadsAs s g w v r → readUnder (g .edition) s ≡ accepted m → Plain g v r m
+unfolding networkOf contextOf
+read-plain s g w v r m a e =
+    let t = subst (λ x. readsAs s g x w w v r) e a in
+    let c : netOf v (r .state) ≡ m .comps = ap (λ n. n .comps) (t .network) in
+    let d : defsOf v ≡ m .defs = ap (λ n. n .defs) (t .network) in
+    record { context = rw (d, t .edition); comps = c; unmarked-all = ap (every unmarked) c ∙ read-unmarked s m (under-gives (g .edition) s m e .1) }
+
+-- the claim from what is read is the claim from the text's network
+from-text : {g : Settings} {v : List ℕ} {r : Reading} {m : Network} {fs : List Fed} {last : List Component} → Plain g v r m → Mixed (contextOf v) (netOf v (r .state)) fs last → Mixed (readContext g m) (m .comps) fs last
+from-text {v = v} {m = m} {fs = fs} {last = last} p x = subst (λ d. Mixed d (m .comps) fs last) (p .context) (subst (λ cs. Mixed (contextOf v) cs fs last) (p .comps) x)
 
 -- from a text
 pub demand-3 : Demand3
-unfolding networkOf contextOf
-demand-3 s w v r m a e gs ks fs last g =
-    let p = read-plain s w v r m a e in
-    (ap contextIn (p .0), subst (λ n. Mixed n fs (netOf v last)) (p .0) (mixed-calls v g (p .1)))
+demand-3 s g w v r m a e gs ks fs last x =
+    let p = read-plain s g w v r m a e in
+    (p .context, from-text p (mixed-calls v x (p .unmarked-all)))
 
 -- ── reading a text and running a list ──
-module _ (s w v : List ℕ) (r : Reading) (a : ReadsAs s w v r) (cs₀ : List ℕ) (es : List (List ℕ)) (before : List ℕ) where
-  pub text-refused : (r .code ≡ 0 → ⊥) → textRuns s (read s) w v cs₀ cs₀ es before before (record { code = r .code; done = 0; n = 0 })
-  text-refused n = go (read s) a
+module _ (s : List ℕ) (g : Settings) (w v : List ℕ) (r : Reading) (a : ReadsAs s g w v r) (cs₀ : List ℕ) (es : List (List ℕ)) (before : List ℕ) where
+  pub text-refused : (r .code ≡ 0 → ⊥) → textRuns s g (readUnder (g .edition) s) w v cs₀ cs₀ es before before (record { code = r .code; done = 0; n = 0 })
+  text-refused n = go (readUnder (g .edition) s) a
     where
-      go : (x : Answer Network) → readsAs s x w w v r → textRuns s x w v cs₀ cs₀ es before before (record { code = r .code; done = 0; n = 0 })
+      go : (x : Answer Network) → readsAs s g x w w v r → textRuns s g x w v cs₀ cs₀ es before before (record { code = r .code; done = 0; n = 0 })
       go (refused m) t = (ap (λ z. record { code = z .code; done = 0; n = 0 }) (t .0), t .1, refl, refl)
       go (accepted m) t = absurd (n (t .code))
 
   pub text-ran : (cs after : List ℕ) (done n : ℕ) → r .code ≡ 0 → RunsAs v (r .state) es before after done (record { c = cs; n = n }) → done ≡ min (length es) (length before)
-      → textRuns s (read s) w v cs₀ cs es before after (record { code = 0; done = done; n = n })
-  text-ran cs after done n z x d = go (read s) refl
+      → textRuns s g (readUnder (g .edition) s) w v cs₀ cs es before after (record { code = 0; done = done; n = n })
+  text-ran cs after done n z x d = go (readUnder (g .edition) s) refl
     where
-      go : (y : Answer Network) → read s ≡ y → textRuns s y w v cs₀ cs es before after (record { code = 0; done = done; n = n })
-      go (refused m) e = let b : Among (refused m) = subst Among e (among s) in let t = subst (λ y. readsAs s y w w v r) e a in absurd (omega (arith, b .0, ap (λ q. q .code) (t .0)))
+      go : (y : Answer Network) → readUnder (g .edition) s ≡ y → textRuns s g y w v cs₀ cs es before after (record { code = 0; done = done; n = n })
+      go (refused m) e = let b : AmongAll (refused m) = subst AmongAll e (among-all (g .edition) s) in let t = subst (λ y. readsAs s g y w w v r) e a in absurd (omega (arith, b .0, ap (λ q. q .code) (t .0)))
       go (accepted m) e =
-          let p = read-plain s w v r m a e in
-          record { code = refl; done = d; reading = r; took = subst (λ y. readsAs s y w w v r) e a; ran = x; mixed = subst (λ y. Mixed y (x .fs) (netOf v (record { c = cs; n = n }))) (p .0) (x .mixed (p .1)) }
+          let p = read-plain s g w v r m a e in
+          record { code = refl; done = d; reading = r; took = subst (λ y. readsAs s g y w w v r) e a; ran = x; mixed = from-text p (x .mixed (p .unmarked-all)) }

@@ -1,28 +1,34 @@
 -- Demand 3, from the text on: document 01, *Mixed runs*. Whatever bytes reading accepts, and whatever calls of any content are given one after another
 -- from what it returned, actions, ticks, steps and proposals at all locations mixed: the engine's last network is that of the grouped run, which begins
--- at the text's own network. The proof is `demand-3` in proofs/Demand3.
+-- at the text's own network, under the edition that was given. The proof is `demand-3` in proofs/Demand3, one for both editions.
 use Prim.Native.Nat.{ℕ, min}
 use mathlib.Core.List.{List}
 use mathlib.Core.Path.{_≡_}
 use lib.ListN.{length}
-use Rattle.terms.specs.Terms.{Network, contextIn}
+use Rattle.terms.specs.Terms.{Network, Context, contextIn}
 use Rattle.terms.specs.Rules.{Answer}
 use Rattle.terms.specs.Rules.Answer.{refused, accepted}
 use Rattle.terms.specs.Runs.{Fed}
+use Rattle.terms.specs.Clock.{editionOf}
 use Rattle.table.specs.declared.State.{State}
 use Rattle.table.specs.Meaning.{contextOf, netOf}
-use Rattle.text.specs.Questions.{read}
+use Rattle.text.specs.Questions.{readUnder}
+use Rattle.text_answer.specs.declared.Settings.{Settings}
 use Rattle.text_answer.specs.declared.Reading.{Reading}
 use Rattle.text_answer.specs.Answer.{Took, ReadsAs}
 use Rattle.calls.specs.declared.RanText.{RanText}
 use Rattle.calls.specs.Run.{Given, Run, Mixed, RunsAs}
 
--- s the text, w and v the lent script before and after reading it, r what reading returned
+-- what the rules take of a network read with g
+abbrev pub readContext : Settings → Network → Context
+readContext g m = contextIn (editionOf (g .edition)) m
+
+-- s the text, g what is given with it, w and v the lent script before and after reading it, r what reading returned
 abbrev pub Demand3 : Type 0
 Demand3 =
-    (s w v : List ℕ) (r : Reading) (m : Network) → ReadsAs s w v r → read s ≡ accepted m
+    (s : List ℕ) (g : Settings) (w v : List ℕ) (r : Reading) (m : Network) → ReadsAs s g w v r → readUnder (g .edition) s ≡ accepted m
     → (gs : List Given) (ks : List ℕ) (fs : List Fed) (last : State) → Run v (r .state) gs ks fs last
-    → (contextOf v ≡ contextIn m) × Mixed m fs (netOf v last)
+    → (contextOf v ≡ readContext g m) × Mixed (readContext g m) (m .comps) fs (netOf v last)
 
 -- ── the function that reads a text and runs a list ──
 abbrev pub textRefused : ℕ → RanText
@@ -33,15 +39,15 @@ abbrev pub left : RanText → List ℕ → State
 left r cs = record { c = cs; n = r .n }
 
 -- an accepted text: it is read as the read call does it, the list is run from what was read, and demand 3 holds of it
-pub record TextRan (s w v cs : List ℕ) (m : Network) (es : List (List ℕ)) (before after : List ℕ) (r : RanText) : Type 0 where
+pub record TextRan (s : List ℕ) (g : Settings) (w v cs : List ℕ) (m : Network) (es : List (List ℕ)) (before after : List ℕ) (r : RanText) : Type 0 where
   pub code : r .code ≡ 0
   pub done : r .done ≡ min (length es) (length before)
   pub reading : Reading
-  pub took : Took s w v m reading
+  pub took : Took s g w v m reading
   pub ran : RunsAs v (reading .state) es before after (r .done) (left r cs)
-  pub mixed : Mixed m (ran .fs) (netOf v (left r cs))
+  pub mixed : Mixed (readContext g m) (m .comps) (ran .fs) (netOf v (left r cs))
 
--- the text s was read into the lent script, w before and v after, and into the lent components, cs₀ before, and then the list es was run, which left cs
-abbrev pub textRuns : List ℕ → Answer Network → List ℕ → List ℕ → List ℕ → List ℕ → List (List ℕ) → List ℕ → List ℕ → RanText → Type 0
-textRuns s (refused n) w v cs₀ cs es before after r = (r ≡ textRefused n) × (v ≡ w) × (cs ≡ cs₀) × (after ≡ before)
-textRuns s (accepted m) w v cs₀ cs es before after r = TextRan s w v cs m es before after r
+-- the text s was read with g into the lent script, w before and v after, and into the lent components, cs₀ before, and then the list es was run, which left cs
+abbrev pub textRuns : List ℕ → Settings → Answer Network → List ℕ → List ℕ → List ℕ → List ℕ → List (List ℕ) → List ℕ → List ℕ → RanText → Type 0
+textRuns s g (refused n) w v cs₀ cs es before after r = (r ≡ textRefused n) × (v ≡ w) × (cs ≡ cs₀) × (after ≡ before)
+textRuns s g (accepted m) w v cs₀ cs es before after r = TextRan s g w v cs m es before after r

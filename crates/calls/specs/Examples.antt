@@ -1,4 +1,5 @@
--- Document 01's twelve examples together, each from its own text by reading, rules and limits, by computation. (`terms` has 1 to 10 as terms, with others.)
+-- Document 01's twelve examples together, each from its own text by reading, rules and limits, by computation, under edition 1; and edition 2 beside it.
+-- (`terms` has 1 to 10 as terms, with others.)
 use Prim.Native.Nat.{ℕ}
 use mathlib.Core.List.{List, [], _∷_, map}
 use mathlib.Core.Bool.{true}
@@ -7,6 +8,8 @@ use lib.ListN.{replicate}
 use Rattle.terms.specs.Names.{Name, bytes}
 use Rattle.terms.specs.Terms.{Component, contextIn}
 use Rattle.terms.specs.Terms.Part.{stop}
+use Rattle.terms.specs.Terms.Edition.{edition1}
+use Rattle.terms.specs.Clock.{editionOf}
 use Rattle.terms.specs.Terms.Process.{one, _∥_}
 use Rattle.terms.specs.Terms.Mark.{none, by}
 use Rattle.terms.specs.Terms.Component.{comp}
@@ -18,7 +21,7 @@ use Rattle.terms.specs.Step.{step}
 use Rattle.terms.specs.Runs.{Fed, straightRun, rules}
 use Rattle.terms.specs.Runs.Call.{acting, ticking}
 use Rattle.terms.specs.Runs.Fed.{fed}
-use Rattle.text.specs.Questions.{read}
+use Rattle.text.specs.Questions.{read, readUnder}
 use Rattle.text.specs.Questions as Q
 use Rattle.text.specs.Tokens as T
 use Rattle.text.specs.Grammar as G
@@ -42,12 +45,15 @@ unfoldable of : List ℕ → Answer (List Component)
 of s = read s >>= λ m. accepted (m .comps)
 
 -- and after calls: the first that the rules refuse gives its number
+unfoldable afterUnder : ℕ → List ℕ → List Fed → Answer (List Component)
+afterUnder e s fs = readUnder e s >>= λ m. straightRun (contextIn (editionOf e) m) fs (m .comps)
+
 unfoldable after : List ℕ → List Fed → Answer (List Component)
-after s fs = read s >>= λ m. straightRun (contextIn m) fs (m .comps)
+after s fs = afterUnder 1 s fs
 
 -- after a step at k, then one at l
-unfoldable stepped : List ℕ → Name → Name → Answer (List Component)
-stepped s k l = read s >>= λ m. step (contextIn m) k (m .comps) >>= λ r. step (contextIn m) l (r .comps) >>= λ t. accepted (t .comps)
+unfoldable stepped : ℕ → List ℕ → Name → Name → Answer (List Component)
+stepped e s k l = readUnder e s >>= λ m. step (contextIn (editionOf e) m) k (m .comps) >>= λ r. step (contextIn (editionOf e) m) l (r .comps) >>= λ t. accepted (t .comps)
 
 -- the same components marked by l
 abbrev markedBy : Name → Component → Component
@@ -57,7 +63,7 @@ abbrev allMarkedBy : Name → Answer (List Component) → Answer (List Component
 allMarkedBy l x = x >>= λ cs. accepted (map (markedBy l) cs)
 
 unfoldable reading : Unit {0}
-unfolding rules Q.questions T.tokenwise G.grammar of after stepped
+unfolding rules Q.questions T.tokenwise G.grammar editionOf of afterUnder after stepped
 reading = tt
 
 -- ── 1 and 2: a pair at timer 0 stops the tick, and can meet ──
@@ -121,11 +127,11 @@ example8-meets : ok (after text7 (acts (single moves 0) ∷ ticked B ∷ ticked 
 unfolding reading
 example8-meets = refl
 
-example8-B-A : stepped text7 B A ≡ of textM
+example8-B-A : stepped 1 text7 B A ≡ of textM
 unfolding reading
 example8-B-A = refl
 
-example8-A-B : stepped text7 A B ≡ of (bytes "B[stop] | B[stop] .")
+example8-A-B : stepped 1 text7 A B ≡ of (bytes "B[stop] | B[stop] .")
 unfolding reading
 example8-A-B = refl
 
@@ -136,13 +142,13 @@ unfolding reading
 example9 = refl
 
 -- ── 10: the step takes the lowest output ──
-example10 : (read (bytes "A[out(c,1,B,stop,stop) | out(c,1,A,stop,stop) | in(c,1,x,go(0,x,stop),stop)] .") >>= λ m. step (contextIn m) A (m .comps) >>= λ r. accepted (r .comps))
+example10 : (read (bytes "A[out(c,1,B,stop,stop) | out(c,1,A,stop,stop) | in(c,1,x,go(0,x,stop),stop)] .") >>= λ m. step (contextIn edition1 m) A (m .comps) >>= λ r. accepted (r .comps))
     ≡ of (bytes "A[stop] | A[out(c,0,A,stop,stop)] | A[go(0,B,stop)] .")
 unfolding reading
 example10 = refl
 
 -- ── 11: 256 components, one marked by A and holding two parts, the others `stop`: the tick at A is turned down for want of space ──
-example11 : (tick (record { defs = [] }) A (comp A (by A) (stop ∥ one stop) ∷ replicate 255 (comp A none (one stop))) >>= room) ≡ refused 13
+example11 : (tick (record { defs = []; edition = edition1 }) A (comp A (by A) (stop ∥ one stop) ∷ replicate 255 (comp A none (one stop))) >>= room) ≡ refused 13
 unfolding rules room
 example11 = refl
 
@@ -150,3 +156,49 @@ example11 = refl
 example12 : read [] ≡ refused 2
 unfolding reading
 example12 = refl
+
+-- ── editions: document 02, R-8 ──
+-- 21 is asked of a good text, before 1 of one that is too long, and before 2 of the empty one
+edition-3 : readUnder 3 text1 ≡ refused 21
+unfolding reading
+edition-3 = refl
+
+edition-before-1 : (readUnder 1 (replicate 65_536 32) ≡ refused 1) × (readUnder 0 (replicate 65_536 32) ≡ refused 21)
+unfolding reading
+edition-before-1 = (refl, refl)
+
+edition-before-2 : readUnder 0 [] ≡ refused 21
+unfolding reading
+edition-before-2 = refl
+
+-- the pair of example 1 stops the tick under edition 2, and so does one at timer 1
+edition-2-pair : afterUnder 2 text1 (ticked A ∷ []) ≡ refused 12
+unfolding reading
+edition-2-pair = refl
+
+edition-2-at-1 : afterUnder 2 (bytes "A[out(c,1,B,stop,stop) | in(c,1,x,stop,stop)] .") (ticked A ∷ []) ≡ refused 12
+unfolding reading
+edition-2-at-1 = refl
+
+-- example 4 under edition 2: the output takes its Q, and a Q at 1 is as it is written
+edition-2-takes : afterUnder 2 (bytes "A[out(c,1,B,stop,out(c,1,B,stop,go(1,B,stop)))] .") (ticked A ∷ []) ≡ of (bytes "A[out(c,1,B,stop,go(1,B,stop))] .")
+unfolding reading
+edition-2-takes = refl
+
+edition-2-again : afterUnder 2 (bytes "A[out(c,1,B,stop,out(c,1,B,stop,go(1,B,stop)))] .") (ticked A ∷ ticked A ∷ []) ≡ of (bytes "A[go(1,B,stop)] .")
+unfolding reading
+edition-2-again = refl
+
+-- a `go` is as it was: example 5
+edition-2-go : afterUnder 2 (bytes "A[go(1,B,stop)] .") (ticked A ∷ []) ≡ of (bytes "A[go(0,B,stop)] .")
+unfolding reading
+edition-2-go = refl
+
+-- example 8 under edition 2: the step at B first takes the input's Q, the step at A first lets it meet
+edition-2-B-A : stepped 2 text7 B A ≡ of (bytes "B[out(c,1,B,stop,stop)] | B[stop] .")
+unfolding reading
+edition-2-B-A = refl
+
+edition-2-A-B : stepped 2 text7 A B ≡ of (bytes "B[stop] | B[stop] .")
+unfolding reading
+edition-2-A-B = refl

@@ -7,7 +7,7 @@ use mathlib.Core.Path.{_≡_}
 use lib.Dec.{eqb}
 use lib.ListN.{getD, take, drop}
 use Rattle.terms.specs.Names.{Name}
-use Rattle.terms.specs.Terms.{Component, Network, contextIn}
+use Rattle.terms.specs.Terms.{Component, Context}
 use Rattle.terms.specs.Rules.{Answer, Action, _>>=_, ok, unmarked}
 use Rattle.terms.specs.Rules.Answer.{refused, accepted}
 use Rattle.terms.specs.Rules.Action.{pair}
@@ -17,7 +17,7 @@ use Rattle.terms.specs.Runs.Call.{acting, ticking}
 use Rattle.terms.specs.Runs.Fed.{fed}
 use Rattle.table.specs.declared.State.{State}
 use Rattle.table.specs.Words.{locName}
-use Rattle.table.specs.Meaning.{PastKept, netOf, networkOf}
+use Rattle.table.specs.Meaning.{PastKept, contextOf, netOf}
 use Rattle.table.specs.Valid.{valid}
 use Rattle.calls_act.specs.Acted.{actionOf, actionAnswer}
 use Rattle.calls_tick.specs.Ticked.{tickAnswer}
@@ -89,11 +89,12 @@ pub data Run (w : List ℕ) : State → List Given → List ℕ → List Fed →
   then : {st next last : State} {g : Given} {gs : List Given} {k : ℕ} {ks : List ℕ} {fs : List Fed}
       → does w st (answerTo w st g) k next → Run w next gs ks fs last → Run w st (g ∷ gs) (k ∷ ks) (feeds w st g ++ fs) last
 
--- the claim of demand 3 for the network m: its grouped run is one that the rules allow, with each note's label that of its action; the straight network is
--- the engine's last, position by position; and the grouped one has its components, each as often. (The definitions are those of m throughout.)
-pub record Mixed (m : Network) (fs : List Fed) (last : List Component) : Type 0 where
+-- the claim of demand 3 from the components cs, where the rules' context d is that of their network throughout: the grouped run is one that the rules allow,
+-- with each note's label that of its action; the straight network is the engine's last, position by position; and the grouped one has its components, each
+-- as often.
+pub record Mixed (d : Context) (cs : List Component) (fs : List Fed) (last : List Component) : Type 0 where
   pub grouped : List Component
-  pub runs : groupedRun (contextIn m) fs (m .comps) ≡ accepted (record { straight = last; grouped = grouped })
+  pub runs : groupedRun d fs cs ≡ accepted (record { straight = last; grouped = grouped })
   pub same : List·Permᴰ grouped last
 
 -- ── a list in numbers, as the function `run` takes it ──
@@ -107,4 +108,4 @@ pub record RunsAs (w : List ℕ) (st : State) (es : List (List ℕ)) (before aft
   pub fs : List Fed
   pub runs : Run w st (map givenBy (take m es)) (take m after) fs last
   pub rest : drop m after ≡ drop m before
-  pub mixed : every unmarked (netOf w st) ≡ true → Mixed (networkOf w st) fs (netOf w last)
+  pub mixed : every unmarked (netOf w st) ≡ true → Mixed (contextOf w) (netOf w st) fs (netOf w last)

@@ -4,7 +4,7 @@ ghost use mathlib.Core.List.{[], _∷_};
 ghost use lib.ListN.{length};
 ghost use Prim.Native.Nat.{min};
 ghost use Rattle.table.specs.Valid.{valid};
-ghost use Rattle.text.specs.Questions.{read};
+ghost use Rattle.text.specs.Questions.{readUnder};
 ghost use Rattle.calls_tick.specs.Ticked.{left};
 ghost use Rattle.calls.specs.Run.{givenBy, answerTo, does, RunsAs};
 ghost use Rattle.calls.specs.Demand3.{textRuns};
@@ -17,6 +17,7 @@ use table::Script;
 use table::Words;
 use table::words;
 use table_valid::is_valid;
+use text_answer::Settings;
 
 // One call of a list: 4 and a location for a tick, else the kind and the positions of an action. Question 17 was answered before.
 fn call(w: &Script, good: bool, c: &mut Words, n: usize, kind: u32, p: u32, q: u32) -> Ticked
@@ -60,14 +61,15 @@ pub fn run(w: &Script, c: &mut Words, n: usize, calls: &[[u32; 3]], codes: &mut 
 // A text, and then the calls of a list one after another from its network, in the lent components: the reading's refusal, or what `run` gives, with demand 3.
 pub fn run_text(
     text: &[u8],
+    given: Settings,
     w: &mut Script,
     c: &mut Words,
     calls: &[[u32; 3]],
     codes: &mut [u32],
 ) -> RanText
-    ensures { λ r. ⌜ textRuns (now (text .entry)) (read (now (text .entry))) (now (w .entry)) (now (w .exit)) (now (c .entry)) (now (c .exit)) (now (calls .entry)) (now (codes .entry)) (now (codes .exit)) r ⌝ }
+    ensures { λ r. ⌜ textRuns (now (text .entry)) given (readUnder (given .edition) (now (text .entry))) (now (w .entry)) (now (w .exit)) (now (c .entry)) (now (c .exit)) (now (calls .entry)) (now (codes .entry)) (now (codes .exit)) r ⌝ }
 {
-    let r = text_read::read(text, w);
+    let r = text_read::read(text, given, w);
     if r.code != 0 {
         return RanText {
             code: r.code,

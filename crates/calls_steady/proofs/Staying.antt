@@ -74,7 +74,7 @@ split-one w l vs i e = rw (eqb-true (nextAt w i) 0 e)
 
 else-one : (w : List ℕ) (c : Comp) (q : ℕ) → onePart w q ≡ true → length (orElse w c q) ≡ 1
 unfolding orElse
-else-one w c q e = go (expiredAt c)
+else-one w c q e = go (expiredAt w c)
   where
     go : (b : Bool) → length (cond b (splitAt w (c .loc) (c .vals) q) (timed c (lessRaw (c .timer)) ∷ [])) ≡ 1
     go true = split-one w (c .loc) (c .vals) q e

@@ -68,7 +68,7 @@ module _ (w : List ℕ) (good : scriptOk w ≡ true) (l : ℕ) (c : Comp) where
 
   else-writes : (q : ℕ) → q < partsIn w → Writes w l c (orElse w c q) (elseTurn w c q)
   unfolding orElse elseTurn
-  else-writes q h = go (expiredAt c)
+  else-writes q h = go (expiredAt w c)
     where
       go : (b : Bool) → Writes w l c (cond b (splitAt w (c .loc) (c .vals) q) (timed c (lessRaw (c .timer)) ∷ [])) (cond b (partOf w c q) (whole (timed c (lessRaw (c .timer)))))
       go true = part-writes q h
@@ -119,8 +119,8 @@ turn-next w good l c next f h = (small next h, turn-writes w good l c next f h .
     wait-small : (g : Head) → headOk w (c .place) g ≡ true → waitTurn w c g .next ≤ partsIn w
     wait-small Stop e = unfold waitTurn in omega arith
     wait-small (Go t v p) e = unfold waitTurn in omega arith
-    wait-small (Out d t v p q) e = unfold waitTurn elseTurn in else-small q (omega (arith, out-fine w (c .place) d t v p q e .second .lesser, b)) (expiredAt c)
-    wait-small (In d t k p q) e = unfold waitTurn elseTurn in else-small q (omega (arith, in-fine w (c .place) d t k p q e .second .lesser, b)) (expiredAt c)
+    wait-small (Out d t v p q) e = unfold waitTurn elseTurn in else-small q (omega (arith, out-fine w (c .place) d t v p q e .second .lesser, b)) (expiredAt w c)
+    wait-small (In d t k p q) e = unfold waitTurn elseTurn in else-small q (omega (arith, in-fine w (c .place) d t k p q e .second .lesser, b)) (expiredAt w c)
     wait-small (Call d n) e = unfold waitTurn in omega arith
 
     first-small : (m x y : Bool) → cond m (cond x (partOf w c (c .place)) (whole c)) (cond y (waitTurn w c (headAt w (c .place))) (whole c)) .next ≤ partsIn w
@@ -186,8 +186,8 @@ turn-vals w l c zero = first (ltb (c .mark) 64) (eqb (c .mark) l) (eqb (c .loc) 
     wait : (h : Head) → length (waitTurn w c h .comp .vals) ≡ length (c .vals)
     wait Stop = refl
     wait (Go t v p) = refl
-    wait (Out d t v p q) = other (expiredAt c) q
-    wait (In d t k p q) = other (expiredAt c) q
+    wait (Out d t v p q) = other (expiredAt w c) q
+    wait (In d t k p q) = other (expiredAt w c) q
     wait (Call d n) = refl
 
     first : (m x y : Bool) (h : Head) → length (cond m (cond x (partOf w c (c .place)) (whole c)) (cond y (waitTurn w c h) (whole c)) .comp .vals) ≡ length (c .vals)

@@ -28,7 +28,7 @@ partOf w c j = record { comp = fresh w (c .loc) (c .vals) j; next = nextAt w j; 
 
 -- an `in` or `out` with its Q at q
 unfoldable pub elseTurn : List ℕ → Comp → ℕ → Turn
-elseTurn w c q = cond (expiredAt c) (partOf w c q) (whole (timed c (lessRaw (c .timer))))
+elseTurn w c q = cond (expiredAt w c) (partOf w c q) (whole (timed c (lessRaw (c .timer))))
 
 -- a component that is ready where the tick is, with the head h
 unfoldable pub waitTurn : List ℕ → Comp → Head → Turn

@@ -4,17 +4,18 @@ ghost use mathlib.Core.Path.{_≡_};
 ghost use mathlib.Core.Bool.{true};
 ghost use Prim.Native.Nat.{_<_, _≤_};
 ghost use lib.ListN.{length};
-ghost use Rattle.table.specs.Words.{stateWords, partsIn};
+ghost use Rattle.table.specs.Words.{stateWords, partsIn, editionIn};
 ghost use Rattle.table.specs.Meaning.{compsOf};
 ghost use Rattle.table.specs.Valid.{scriptOk, compOk, valid, headOk};
 ghost use Rattle.table.specs.Split.{timerIn, fresh, timed};
 ghost use Rattle.table.specs.Fire.{passedAll};
-ghost use Rattle.terms.specs.Clock.{lessRaw};
+ghost use Rattle.terms.specs.Clock.{lessRaw, isEdition};
 ghost use Rattle.calls_tick.specs.Turn.{whole, partOf, elseTurn, waitTurn, firstTurn, turnOf};
 ghost use Rattle.calls_tick.specs.Ticked.{passes, passedFrom, PassedHere};
 use super::Turn;
 use calls_steady::touched;
 use table::Comp;
+use table::EDITION;
 use table::Head;
 use table::Script;
 use table::Words;
@@ -98,18 +99,18 @@ fn part_turn(w: &Script, c: Comp, place: u32) -> Turn
 }
 
 fn else_turn(w: &Script, c: Comp, q: u32) -> Turn
-    requires { ⌜ q < 4096 ⌝ }
+    requires { ⌜ (q < 4096) × (isEdition (editionIn (now w)) ≡ true) ⌝ }
     ensures { λ r. ⌜ r ≡ elseTurn (now (w .entry)) c q ⌝ }
 {
     let t = Timer { raw: c.timer };
-    if t.is_expired() {
+    if t.is_expired(words::word(w, EDITION)) {
         return part_turn(w, c, q);
     }
     timed_turn(c)
 }
 
 fn wait_turn(w: &Script, c: Comp, h: Head) -> Turn
-    requires { ⌜ (headOk (now w) (c .place) h ≡ true) × (c .place < 4096) ⌝ }
+    requires { ⌜ (headOk (now w) (c .place) h ≡ true) × (c .place < 4096) × (isEdition (editionIn (now w)) ≡ true) ⌝ }
     ensures { λ r. ⌜ r ≡ waitTurn (now (w .entry)) c h ⌝ }
 {
     match h {

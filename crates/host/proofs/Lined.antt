@@ -48,7 +48,7 @@ module _ (w : List ℕ) (st : State) (l n : ℕ) (r : Stepped) (ds : List ℕ) (
   by-step : stepsAs w st (stepAnswer w st l 256) r ds before after → lineAnswer w st l n ≡ Told
   unfolding stepAnswer stepRule lineAnswer room
   by-step s =
-      let cs = flatMap (pass (λ m. sameName m (locName w l)) (locName w l)) (fires (contextOf w) (locName w l) (netOf w st) .comps) in
+      let cs = flatMap (pass (contextOf w) (λ m. sameName m (locName w l)) (locName w l)) (fires (contextOf w) (locName w l) (netOf w st) .comps) in
       rw (step-accepted (contextOf w) (locName w l) (netOf w st)) (by-questions (valid w st) (ltb l (locsIn w)) (leb (length xs) 256) (leb (length cs) 256) cs room-for (rw (step-accepted (contextOf w) (locName w l) (netOf w st)) at s))
     where
       room-for : valid w st ≡ true → leb (length xs) 256 ≡ true

@@ -150,5 +150,5 @@ module _ (w : List ℕ) (st : State) (l size : ℕ) (r : Stepped) (ds : List ℕ
   pub step-holds : stepsAs w st (stepAnswer w st l size) r ds before after → r .code ≡ 0 → Holds w st l after (r .count)
   unfolding stepAnswer stepRule room
   step-holds s z =
-      let cs = flatMap (pass (λ m. sameName m (locName w l)) (locName w l)) (fires (contextOf w) (locName w l) (netOf w st) .comps) in
+      let cs = flatMap (pass (contextOf w) (λ m. sameName m (locName w l)) (locName w l)) (fires (contextOf w) (locName w l) (netOf w st) .comps) in
       by-questions (valid w st) (ltb l (locsIn w)) (leb (length xs) size) (leb (length cs) 256) cs refl (rw (step-accepted (contextOf w) (locName w l) (netOf w st)) at s) z

@@ -9,10 +9,11 @@ use lib.ListN.{length, take, drop}
 use lib.Seq.{take-at, drop-at}
 use borrow.Author.Tests.{leb-true, leb-false}
 use Rattle.terms.specs.Names.{Name}
-use Rattle.terms.specs.Terms.{Component, Context, Network, contextIn}
+use Rattle.terms.specs.Terms.{Component, Context, Network}
 use Rattle.terms.specs.Rules.{Answer}
 use Rattle.terms.specs.Rules.Answer.{refused, accepted}
-use Rattle.text.specs.Questions.{form, read}
+use Rattle.terms.specs.Clock.{editionOf}
+use Rattle.text.specs.Questions.{form, read, readUnder}
 use Rattle.table.specs.declared.State.{State}
 use Rattle.table.specs.Words.{locsIn, locName}
 use Rattle.table.specs.Meaning.{contextOf, netOf, networkOf as tableNetwork}
@@ -26,9 +27,9 @@ use Rattle.run_turn.specs.declared.Turned.{Turned}
 use Rattle.run_turn.specs.Turn.{refusedText, Turn, turnOf}
 use Rattle.run_turn.specs.Turned.{TurnIs}
 use Rattle.run_turn.proofs.Fits.{refused-ends, turn-ends}
-use Rattle.run_print.specs.Print.{ending, followed, playing, four, printed, printout}
+use Rattle.run_print.specs.Print.{ending, followed, playing, four, printSettings, printContext, printed, printout}
 use Rattle.run_print.specs.Rounds.{remaining}
-use Rattle.run_print.proofs.Playing.{locs-some, all-rounds, remaining-next, remaining-over, locs-length, loc-at, whole-number, whole-good, not-refused}
+use Rattle.run_print.proofs.Playing.{locs-some, all-rounds, remaining-next, remaining-over, locs-length, loc-at, first-read, whole-number, whole-good, not-refused}
 use Rattle.run_print.proofs.Fits.{ending-ends}
 use Rattle.run_pieces.specs.Pieces.{followedPieces, playingPieces, piecesOf, pieces, piecesLeftBy, piecesLeft, ProgressOk, PieceIs}
 use Rattle.run_pieces.specs.declared.Progress.{Progress}
@@ -50,7 +51,7 @@ joined s = go (read s)
   where
     go : (x : Answer Network) → printed (locationsIn (form s)) x ≡ flatten (piecesOf (locationsIn (form s)) x)
     go (refused n) = sym (append-nil (refusedText n))
-    go (accepted m) = playing-joined (contextIn m) (four (locationsIn (form s))) (m .comps)
+    go (accepted m) = playing-joined (printContext m) (four (locationsIn (form s))) (m .comps)
 
 -- ── a text that fits stands at the front of the buffer, and the bytes past it are as they were ──
 pub fronted : {d s e : List ℕ} {r : ℕ} → Wrote d 0 s e r → r ≤ 65_536 → length d ≡ 65_536 → (take r e ≡ s) × (drop r e ≡ drop r d)
@@ -171,22 +172,22 @@ module _ (w : List ℕ) (c : Progress) (live : c .over ≡ false) (ok : Progress
               (omega arith, λ q. (went .1, omega (arith, inl), omega arith)))
 
 -- ── the whole ──
-module _ (s u w v : List ℕ) (r : Reading) (x : readsAs s (read s) u w v r) where
+module _ (s u w v : List ℕ) (r : Reading) (x : readsAs s printSettings (readUnder 1 s) u w v r) where
   whole-stopped : (r .code ≡ 0 → ⊥) → refusedText (r .code) ∷ [] ≡ pieces s
   unfolding pieces
-  whole-stopped n = go (read s) x
+  whole-stopped n = go (read s) (first-read s u w v r x)
     where
-      go : (y : Answer Network) → readsAs s y u w v r → refusedText (r .code) ∷ [] ≡ piecesOf (locationsIn (form s)) y
+      go : (y : Answer Network) → readsAs s printSettings y u w v r → refusedText (r .code) ∷ [] ≡ piecesOf (locationsIn (form s)) y
       go (refused m) k = ap (λ n. refusedText n ∷ []) (ap (λ q. q .code) (k .0))
       go (accepted m) k = absurd (n (k .code))
 
   whole-playingPieces : r .code ≡ 0 → playingPieces (contextOf v) (four (locsOf v)) (netOf v (r .state)) ≡ pieces s
-  unfolding pieces tableNetwork contextOf
-  whole-playingPieces z = go (read s) refl x
+  unfolding pieces tableNetwork contextOf editionOf
+  whole-playingPieces z = go (read s) refl (first-read s u w v r x)
     where
-      go : (y : Answer Network) → read s ≡ y → readsAs s y u w v r → playingPieces (contextOf v) (four (locsOf v)) (netOf v (r .state)) ≡ piecesOf (locationsIn (form s)) y
+      go : (y : Answer Network) → read s ≡ y → readsAs s printSettings y u w v r → playingPieces (contextOf v) (four (locsOf v)) (netOf v (r .state)) ≡ piecesOf (locationsIn (form s)) y
       go (refused m) e k = absurd (not-refused s u w v r x z m e (k .0))
-      go (accepted m) e k = rw (k .locs, ← k .network)
+      go (accepted m) e k = rw (k .locs, ← k .network, k .edition)
 
   abbrev Start : Progress
   Start = record { over = false; code = r .code; round = 0; l = 0; state = r .state }

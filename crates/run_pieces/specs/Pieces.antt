@@ -5,7 +5,7 @@ use mathlib.Core.Bool.{true, cond}
 use mathlib.Core.Path.{_≡_}
 use lib.ListN.{take, drop}
 use Rattle.terms.specs.Names.{Name}
-use Rattle.terms.specs.Terms.{Component, Context, Network, contextIn}
+use Rattle.terms.specs.Terms.{Component, Context, Network}
 use Rattle.terms.specs.Rules.{Answer}
 use Rattle.terms.specs.Rules.Answer.{refused, accepted}
 use Rattle.text.specs.Questions.{form, read}
@@ -17,7 +17,7 @@ use Rattle.text_answer.specs.Answer.{locationsIn}
 use Rattle.run_pieces.specs.declared.Progress.{Progress}
 use Rattle.run_pieces.specs.declared.Piece.{Piece}
 use Rattle.run_turn.specs.Turn.{Turn, refusedText, turnOf}
-use Rattle.run_print.specs.Print.{ending, four}
+use Rattle.run_print.specs.Print.{ending, four, printContext}
 use Rattle.run_print.specs.Rounds.{remaining}
 
 -- after a step: its line and the pieces that follow, or the refusal
@@ -32,7 +32,7 @@ playingPieces d (l ∷ ls) cs = followedPieces (turnOf d l cs) (playingPieces d 
 
 abbrev pub piecesOf : List Name → Answer Network → List (List ℕ)
 piecesOf ls (refused n) = refusedText n ∷ []
-piecesOf ls (accepted m) = playingPieces (contextIn m) (four ls) (m .comps)
+piecesOf ls (accepted m) = playingPieces (printContext m) (four ls) (m .comps)
 
 unfoldable pub pieces : List ℕ → List (List ℕ)
 pieces s = piecesOf (locationsIn (form s)) (read s)

@@ -13,7 +13,9 @@ use Rattle.terms.specs.Names.{Name}
 use Rattle.terms.specs.Terms.{Network}
 use Rattle.terms.specs.Rules.{Answer}
 use Rattle.terms.specs.Rules.Answer.{refused, accepted}
-use Rattle.text.specs.Questions.{form, read}
+use Rattle.terms.specs.Clock.{editionOf}
+use Rattle.text.specs.Questions.{form, read, readUnder}
+use Rattle.text.proofs.Gives.{first-edition}
 use Rattle.table.specs.declared.State.{State}
 use Rattle.table.specs.Words.{locsIn, locName}
 use Rattle.table.specs.Meaning.{compIn, contextOf, netOf, networkOf as tableNetwork}
@@ -32,7 +34,7 @@ use Rattle.text_read.proofs.Numbers.{Among, among}
 use Rattle.run_turn.specs.declared.Turned.{Turned}
 use Rattle.run_turn.specs.Turn.{refusedText, Turn, turnOf}
 use Rattle.run_turn.specs.Turned.{TurnIs}
-use Rattle.run_print.specs.Print.{ending, followed, playing, four, printed, printout}
+use Rattle.run_print.specs.Print.{ending, followed, playing, four, printSettings, printContext, printed, printout}
 use Rattle.run_print.specs.Rounds.{copies, remaining}
 use Rattle.text_letters.proofs.Puts.{step as put-step}
 
@@ -171,19 +173,22 @@ module _ (w : List ℕ) where
   play-end st round l h p b = let m : 4 - round ≡ 0 = omega arith in last (left-as (ap (λ n. playing (contextOf w) (remaining n l (locsOf w)) (netOf w st)) m) p) b
 
 -- ── the whole ──
-module _ (s u w v : List ℕ) (r : Reading) (x : readsAs s (read s) u w v r) where
+module _ (s u w v : List ℕ) (r : Reading) (under-first : readsAs s printSettings (readUnder 1 s) u w v r) where
+  pub first-read : readsAs s printSettings (read s) u w v r
+  first-read = rw (first-edition s) at under-first
+
   pub whole-refused : (r .code ≡ 0 → ⊥) → refusedText (r .code) ≡ printout s
   unfolding printout
-  whole-refused n = go (read s) x
+  whole-refused n = go (read s) first-read
     where
-      go : (y : Answer Network) → readsAs s y u w v r → refusedText (r .code) ≡ printed (locationsIn (form s)) y
+      go : (y : Answer Network) → readsAs s printSettings y u w v r → refusedText (r .code) ≡ printed (locationsIn (form s)) y
       go (refused m) k = ap refusedText (ap (λ q. q .code) (k .0))
       go (accepted m) k = absurd (n (k .code))
 
   pub whole-number : (r .code ≡ 0 → ⊥) → r .code < 8
-  whole-number n = go (read s) (among s) x
+  whole-number n = go (read s) (among s) first-read
     where
-      go : (y : Answer Network) → Among y → readsAs s y u w v r → r .code < 8
+      go : (y : Answer Network) → Among y → readsAs s printSettings y u w v r → r .code < 8
       go (refused m) a k = let h : r .code ≡ m = ap (λ q. q .code) (k .0) in omega arith
       go (accepted m) a k = absurd (n (k .code))
 
@@ -192,16 +197,16 @@ module _ (s u w v : List ℕ) (r : Reading) (x : readsAs s (read s) u w v r) whe
     not-refused m e k = let h : r .code ≡ m = ap (λ q. q .code) k in let a : Among (refused m) = rw e at (among s) in omega arith
 
     pub whole-good : valid v (r .state) ≡ true
-    whole-good = go (read s) refl x
+    whole-good = go (read s) refl first-read
       where
-        go : (y : Answer Network) → read s ≡ y → readsAs s y u w v r → valid v (r .state) ≡ true
+        go : (y : Answer Network) → read s ≡ y → readsAs s printSettings y u w v r → valid v (r .state) ≡ true
         go (refused m) e k = absurd (not-refused m e (k .0))
         go (accepted m) e k = k .good
 
     pub whole-printed : playing (contextOf v) (four (locsOf v)) (netOf v (r .state)) ≡ printout s
-    unfolding printout tableNetwork contextOf
-    whole-printed = go (read s) refl x
+    unfolding printout tableNetwork contextOf editionOf
+    whole-printed = go (read s) refl first-read
       where
-        go : (y : Answer Network) → read s ≡ y → readsAs s y u w v r → playing (contextOf v) (four (locsOf v)) (netOf v (r .state)) ≡ printed (locationsIn (form s)) y
+        go : (y : Answer Network) → read s ≡ y → readsAs s printSettings y u w v r → playing (contextOf v) (four (locsOf v)) (netOf v (r .state)) ≡ printed (locationsIn (form s)) y
         go (refused m) e k = absurd (not-refused m e (k .0))
-        go (accepted m) e k = rw (k .locs, ← k .network)
+        go (accepted m) e k = rw (k .locs, ← k .network, k .edition)

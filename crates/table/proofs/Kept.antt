@@ -245,7 +245,7 @@ module _ (w : List ℕ) (good : scriptOk w ≡ true) where
 
   else-kept : (c : Comp) (q : ℕ) → CompFine w c → q < c .place → every (compOk w) (orElse w c q) ≡ true
   unfolding orElse
-  else-kept c q f h = go (expiredAt c)
+  else-kept c q f h = go (expiredAt w c)
     where
       go : (b : Bool) → every (compOk w) (cond b (splitAt w (c .loc) (c .vals) q) (timed c (lessRaw (c .timer)) ∷ [])) ≡ true
       go true = split-kept (c .loc) (c .vals) (f .loc) (f .slots) (f .vals) q (omega (arith, f .place))
@@ -286,7 +286,7 @@ split-some w l vs i = omega arith
 
 else-some : (w : List ℕ) (c : Comp) (q : ℕ) → 0 < length (orElse w c q)
 unfolding orElse
-else-some w c q = cond-some (expiredAt c) _ _ (split-some w (c .loc) (c .vals) q) (omega arith)
+else-some w c q = cond-some (expiredAt w c) _ _ (split-some w (c .loc) (c .vals) q) (omega arith)
 
 wait-some : (w : List ℕ) (c : Comp) (h : Head) → 0 < length (waited w c h)
 unfolding waited

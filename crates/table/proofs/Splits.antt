@@ -15,14 +15,14 @@ use Rattle.terms.specs.Terms.Mark.{none, by}
 use Rattle.terms.specs.Terms.Component.{comp}
 use Rattle.terms.specs.Substitution.{Env, sub, subP}
 use Rattle.terms.specs.Rules.{wait, split, pass}
-use Rattle.terms.specs.Clock.{ticksOf, lessRaw}
+use Rattle.terms.specs.Clock.{ticksOf, lessRaw, editionOf}
 use Rattle.terms.proofs.Clock.{less-raw}
 use Rattle.terms.specs.Letters.{isLocation}
 use Rattle.table.specs.declared.Head.{Head}
 use Rattle.table.specs.declared.Head.the-variants.{Stop, Go, Out, In, Call}
 use Rattle.table.specs.declared.Comp.{Comp}
-use Rattle.table.specs.Words.{partsIn, locsIn, locName, headAt, nextAt, boundAt, scopeAt, namesAt}
-use Rattle.table.specs.Meaning.{partOf, joined, processAt, partAt, withTimer, envAt, markOf, processOf, means}
+use Rattle.table.specs.Words.{partsIn, locsIn, editionIn, locName, headAt, nextAt, boundAt, scopeAt, namesAt}
+use Rattle.table.specs.Meaning.{partOf, joined, processAt, partAt, contextOf, withTimer, envAt, markOf, processOf, means}
 use Rattle.table.specs.Valid.{headOk, nextOk, scriptOk, markOk}
 use Rattle.table.specs.Split.{timerIn, fresh, andThen, partsFrom, splitAt, timed, orElse, waited, passed, expiredAt}
 use Rattle.table.proofs.Tests.{Inner, inner, part-fine, script-fine, CompFine, held-once}
@@ -109,9 +109,9 @@ module _ (w : List ℕ) (good : scriptOk w ≡ true) where
   else-means : (c : Comp) (q : ℕ) (a : Timer → Part) → c .place < partsIn w → ltb (c .mark) 64 ≡ false → Inner w (c .place) q (scopeAt w (c .place))
       → ((u : Timer) → withTimer u (sub (partAt w (c .place)) (envAt w (c .place) (c .vals))) ≡ a u)
       → map (means w) (orElse w c q)
-      ≡ split (locName w (c .loc)) (cond (expired (ticksOf (c .timer))) (subP (processAt w q) (envAt w (c .place) (c .vals))) (one (a (less (ticksOf (c .timer))))))
+      ≡ split (locName w (c .loc)) (cond (expired (editionOf (editionIn w)) (ticksOf (c .timer))) (subP (processAt w q) (envAt w (c .place) (c .vals))) (one (a (less (ticksOf (c .timer))))))
   unfolding orElse expiredAt
-  else-means c q a b u r h = go (expiredAt c)
+  else-means c q a b u r h = go (expiredAt w c)
     where
       go : (z : Bool) → map (means w) (cond z (splitAt w (c .loc) (c .vals) q) (timed c (lessRaw (c .timer)) ∷ []))
           ≡ split (locName w (c .loc)) (cond z (subP (processAt w q) (envAt w (c .place) (c .vals))) (one (a (less (ticksOf (c .timer))))))
@@ -120,7 +120,7 @@ module _ (w : List ℕ) (good : scriptOk w ≡ true) where
 
   wait-means : (c : Comp) (h : Head) → headAt w (c .place) ≡ h → headOk w (c .place) h ≡ true → c .place < partsIn w → ltb (c .mark) 64 ≡ false
       → map (means w) (waited w c h)
-      ≡ split (locName w (c .loc)) (wait (withTimer (ticksOf (c .timer)) (sub (partOf w (processAt w) (c .place) h) (envAt w (c .place) (c .vals)))))
+      ≡ split (locName w (c .loc)) (wait (editionOf (editionIn w)) (withTimer (ticksOf (c .timer)) (sub (partOf w (processAt w) (c .place) h) (envAt w (c .place) (c .vals)))))
   unfolding waited wait withTimer sub partOf split partAt
   wait-means c Stop e o b u = rw (unmarked-is w c u, e)
   wait-means c (Go t v p) e o b u = rw (timed-means c (lessRaw (c .timer)) u, less-raw (c .timer), e)
@@ -129,7 +129,7 @@ module _ (w : List ℕ) (good : scriptOk w ≡ true) where
   wait-means c (Call d n) e o b u = rw (unmarked-is w c u, e)
 
   -- ── the tick, of one component ──
-  pub passed-means : (l : ℕ) (c : Comp) → l < locsIn w → CompFine w c → map (means w) (passed w l c) ≡ pass (λ m. sameName m (locName w l)) (locName w l) (means w c)
+  pub passed-means : (l : ℕ) (c : Comp) → l < locsIn w → CompFine w c → map (means w) (passed w l c) ≡ pass (contextOf w) (λ m. sameName m (locName w l)) (locName w l) (means w c)
   unfolding passed
   passed-means l c h f = go (ltb (c .mark) 64) refl
     where
@@ -141,12 +141,12 @@ module _ (w : List ℕ) (good : scriptOk w ≡ true) where
 
       here : ltb (c .mark) 64 ≡ false → (b : Bool)
           → map (means w) (cond b (waited w c (headAt w (c .place))) (c ∷ []))
-          ≡ cond b (split (locName w (c .loc)) (wait (withTimer (ticksOf (c .timer)) (sub (partAt w (c .place)) (envAt w (c .place) (c .vals)))))) (comp (locName w (c .loc)) none (one (withTimer (ticksOf (c .timer)) (sub (partAt w (c .place)) (envAt w (c .place) (c .vals))))) ∷ [])
+          ≡ cond b (split (locName w (c .loc)) (wait (editionOf (editionIn w)) (withTimer (ticksOf (c .timer)) (sub (partAt w (c .place)) (envAt w (c .place) (c .vals)))))) (comp (locName w (c .loc)) none (one (withTimer (ticksOf (c .timer)) (sub (partAt w (c .place)) (envAt w (c .place) (c .vals))))) ∷ [])
       here e true = unfold partAt in wait-means c (headAt w (c .place)) refl (part-fine w good (c .place) (f .place) .head) (f .place) e
       here e false = rw (unmarked-is w c e)
 
       go : (b : Bool) → ltb (c .mark) 64 ≡ b
           → map (means w) (cond b (cond (eqb (c .mark) l) (splitAt w (c .loc) (c .vals) (c .place)) (c ∷ [])) (cond (eqb (c .loc) l) (waited w c (headAt w (c .place))) (c ∷ [])))
-          ≡ pass (λ m. sameName m (locName w l)) (locName w l) (means w c)
-      go true e = unfold pass in rw (marked-is w c e, loc-eqb (c .mark) l (mark-loc w (c .mark) (f .mark) e) h) (mine e (eqb (c .mark) l))
-      go false e = unfold pass in rw (unmarked-is w c e, loc-eqb (c .loc) l (f .loc) h) (here e (eqb (c .loc) l))
+          ≡ pass (contextOf w) (λ m. sameName m (locName w l)) (locName w l) (means w c)
+      go true e = unfold pass contextOf in rw (marked-is w c e, loc-eqb (c .mark) l (mark-loc w (c .mark) (f .mark) e) h) (mine e (eqb (c .mark) l))
+      go false e = unfold pass contextOf in rw (unmarked-is w c e, loc-eqb (c .loc) l (f .loc) h) (here e (eqb (c .loc) l))

@@ -12,10 +12,11 @@ use Rattle.terms.specs.Names.{Name, sameName}
 use Rattle.terms.specs.Rules.{some}
 use Rattle.terms.specs.Same.{every}
 use Rattle.terms.proofs.Names.{and-inv, and-in, name-eq, name-refl}
+use Rattle.terms.specs.Clock.{isEdition}
 use Rattle.terms.specs.Letters.{isLocation, isSmall, isIdentifier, member, distinct}
 use Rattle.table.specs.declared.Comp.{Comp}
 use Rattle.table.specs.declared.State.{State}
-use Rattle.table.specs.Words.{partsIn, locsIn, chansIn, defsIn, locName, chanName, arityOf, bodyOf, defName, paramsAt, paramsOf, field, headAt, nextAt, scopeAt, kindField}
+use Rattle.table.specs.Words.{partsIn, locsIn, chansIn, defsIn, editionIn, locName, chanName, arityOf, bodyOf, defName, paramsAt, paramsOf, field, headAt, nextAt, scopeAt, kindField}
 use Rattle.table.specs.Meaning.{listFrom, compsOf}
 use Rattle.table.specs.Valid.{below, alike, timerOk, innerOk, headOk, nextOk, scopeOk, treeOk, partOk, defOk, sortOk, scriptOk, markOk, compOk, stateOk}
 
@@ -78,6 +79,7 @@ pub record ScriptFine (w : List ℕ) : Type 0 where
   pub locs : locsIn w ≤ 64
   pub chans : chansIn w ≤ 64
   pub defs : defsIn w ≤ 32
+  pub edition : isEdition (editionIn w) ≡ true
   pub loc-names : sortOk isLocation (listFrom 0 (locsIn w) (locName w)) ≡ true
   pub chan-names : sortOk isSmall (listFrom 0 (chansIn w) (chanName w)) ≡ true
   pub def-names : sortOk isIdentifier (listFrom 0 (defsIn w) (defName w)) ≡ true
@@ -87,10 +89,11 @@ pub record ScriptFine (w : List ℕ) : Type 0 where
 pub script-fine : (w : List ℕ) → scriptOk w ≡ true → ScriptFine w
 unfolding scriptOk
 script-fine w e =
-    let a = and-inv (leb (partsIn w) 4_096 && (leb (locsIn w) 64 && (leb (chansIn w) 64 && leb (defsIn w) 32))) _ e in
+    let a = and-inv (leb (partsIn w) 4_096 && (leb (locsIn w) 64 && (leb (chansIn w) 64 && (leb (defsIn w) 32 && isEdition (editionIn w))))) _ e in
     let n = and-inv (leb (partsIn w) 4_096) _ (a .0) in
     let l = and-inv (leb (locsIn w) 64) _ (n .1) in
     let c = and-inv (leb (chansIn w) 64) _ (l .1) in
+    let f = and-inv (leb (defsIn w) 32) _ (c .1) in
     let x = and-inv (sortOk isLocation (listFrom 0 (locsIn w) (locName w))) _ (a .1) in
     let y = and-inv (sortOk isSmall (listFrom 0 (chansIn w) (chanName w))) _ (x .1) in
     let z = and-inv (sortOk isIdentifier (listFrom 0 (defsIn w) (defName w))) _ (y .1) in
@@ -99,7 +102,8 @@ script-fine w e =
       parts = leb-true _ 4_096 (n .0);
       locs = leb-true _ 64 (l .0);
       chans = leb-true _ 64 (c .0);
-      defs = leb-true _ 32 (c .1);
+      defs = leb-true _ 32 (f .0);
+      edition = f .1;
       loc-names = x .0;
       chan-names = y .0;
       def-names = z .0;

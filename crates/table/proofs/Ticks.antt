@@ -190,9 +190,9 @@ module _ (w : List ℕ) (good : scriptOk w ≡ true) where
         ∙ some-map (presses (contextOf w) (locName w l) (map (means w) cs)) (means w) cs
         ∙ some-same _ _ (compOk w) cs fine (λ c f. press-means c (comp-fine w c f))
 
-    pub passed-all : map (means w) (passedAll w l cs) ≡ flatMap (pass (λ m. sameName m (locName w l)) (locName w l)) (map (means w) cs)
+    pub passed-all : map (means w) (passedAll w l cs) ≡ flatMap (pass (contextOf w) (λ m. sameName m (locName w l)) (locName w l)) (map (means w) cs)
     unfolding passedAll
-    passed-all = map-flatMap (means w) (passed w l) (pass (λ m. sameName m (locName w l)) (locName w l)) (compOk w) cs fine (λ c f. passed-means w good l c h (comp-fine w c f))
+    passed-all = map-flatMap (means w) (passed w l) (pass (contextOf w) (λ m. sameName m (locName w l)) (locName w l)) (compOk w) cs fine (λ c f. passed-means w good l c h (comp-fine w c f))
 
     -- the tick at l on what the components stand for
     pub tick-means : tick (contextOf w) (locName w l) (map (means w) cs) ≡ cond (forcedAt w l cs) (refused 12) (accepted (map (means w) (passedAll w l cs)))

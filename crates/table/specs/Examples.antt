@@ -6,13 +6,14 @@ use mathlib.Core.Path.{_≡_, refl}
 use lib.ListN.{replicate, length}
 use Rattle.terms.specs.Names.{bytes}
 use Rattle.terms.specs.Terms.Timer.{ticks}
+use Rattle.terms.specs.Terms.Edition.{edition2}
 use Rattle.terms.specs.Terms.Value.{loc, var}
 use Rattle.terms.specs.Terms.Part.{stop, go, call}
 use Rattle.terms.specs.Terms.Process.{one, _∥_}
 use Rattle.terms.specs.Terms.Mark.{none, by}
 use Rattle.terms.specs.Terms.Component.{comp}
 use Rattle.terms.specs.Terms.Def.{define}
-use Rattle.terms.specs.Clock.{ticksOf}
+use Rattle.terms.specs.Clock.{ticksOf, isEdition, editionOf}
 use Rattle.terms.specs.Runs.{rules}
 use Rattle.terms.specs.Characters.{classOf}
 use Rattle.terms.specs.Letters.{member, isName, isLocation, isSmall, isIdentifier, distinct}
@@ -20,7 +21,7 @@ use Rattle.terms.specs.Rules.{some}
 use Rattle.table.specs.declared.Comp.{Comp}
 use Rattle.table.specs.declared.State.{State}
 use Rattle.table.specs.Words.{strip, letters, nameAt, locName, chanName, arityOf, bodyOf, defName, paramsAt, paramsOf, headAt, nextAt, lowAt, ownAt, boundAt, scopeAt, namesAt}
-use Rattle.table.specs.Meaning.{valueOf, valuesOf, partOf, joined, deep, processAt, partAt, listFrom, defOf, defsOf, withTimer, envAt, markOf, processOf, means, compIn, wordsIn, compsOf, netOf, networkOf}
+use Rattle.table.specs.Meaning.{valueOf, valuesOf, partOf, joined, deep, processAt, partAt, listFrom, defOf, defsOf, contextOf, withTimer, envAt, markOf, processOf, means, compIn, wordsIn, compsOf, netOf, networkOf}
 use Rattle.table.specs.Valid.{below, alike, index, timerOk, slotOk, refOk, innerOk, entered, headOk, nextOk, scopeOk, stacked, floor, lowOk, treeOk, partOk, defOk, sortOk, scriptOk, markOk, compOk, stateOk, valid}
 
 unfoldable pub words : Unit {0}
@@ -32,7 +33,7 @@ unfolding rules ticksOf valueOf valuesOf partOf joined deep processAt partAt lis
 meaning = tt
 
 unfoldable pub tables : Unit {0}
-unfolding words meaning classOf member some isName isLocation isSmall isIdentifier below alike distinct index timerOk slotOk refOk innerOk entered headOk nextOk scopeOk stacked floor lowOk treeOk partOk defOk sortOk scriptOk markOk compOk stateOk valid
+unfolding words meaning classOf member some isName isLocation isSmall isIdentifier below alike distinct index timerOk slotOk refOk innerOk entered headOk nextOk scopeOk isEdition stacked floor lowOk treeOk partOk defOk sortOk scriptOk markOk compOk stateOk valid
 tables = tt
 
 abbrev zeros : ℕ → List ℕ
@@ -52,8 +53,9 @@ four a b c d = a ∷ b ∷ c ∷ d ∷ []
 -- Page(x) = go(0,x,stop) . with A and B, one channel c; its components stand at the parts 2 and 0:
 --   3  go(0,x,stop)   2  stop      the body
 --   1  Page(B)        0  stop      a located process, Page(B) | stop
-abbrev script : List ℕ
-script =
+-- behind the rows the edition
+abbrev scriptUnder : ℕ → List ℕ
+scriptUnder e =
     (4 ∷ 2 ∷ 1 ∷ 1 ∷ zeros 4)
     ++ (((1 ∷ 3 ∷ []) ++ (four 1_701_273_936 0 0 0 ++ (letter 120 ++ zeros 14))) ++ (zeros 744
     ++ (letter 65 ++ (letter 66 ++ (zeros 248
@@ -61,7 +63,11 @@ script =
     ++ (row (0 ∷ 0 ∷ 0 ∷ 0 ∷ 0 ∷ 0 ∷ 0 ∷ 0 ∷ []) [] (zeros 4)
     ++ (row (4 ∷ 0 ∷ 0 ∷ 1 ∷ 0 ∷ 0 ∷ 1 ∷ 0 ∷ []) [] (four 1 0 0 0)
     ++ (row (0 ∷ 0 ∷ 0 ∷ 0 ∷ 0 ∷ 0 ∷ 0 ∷ 2 ∷ []) (14 ∷ []) (zeros 4)
-    ++ row (1 ∷ 0 ∷ 0 ∷ 64 ∷ 2 ∷ 0 ∷ 0 ∷ 2 ∷ []) (14 ∷ []) (zeros 4)))))))))))
+    ++ (row (1 ∷ 0 ∷ 0 ∷ 64 ∷ 2 ∷ 0 ∷ 0 ∷ 2 ∷ []) (14 ∷ []) (zeros 4)
+    ++ (zeros 98_208 ++ (e ∷ [])))))))))))))
+
+abbrev script : List ℕ
+script = scriptUnder 1
 
 abbrev at : ℕ → ℕ → ℕ → ℕ → Comp
 at l m i t = record { loc = l; mark = m; place = i; timer = t; vals = zeros 8 }
@@ -105,3 +111,12 @@ timer-out = refl
 no-component : valid script (state []) ≡ false
 unfolding tables
 no-component = refl
+
+-- edition 2 passes and is what the rules take; 0 and 3 do not pass
+edition-second : (valid (scriptUnder 2) (state (at 0 64 1 0 ∷ [])) ≡ true) × (contextOf (scriptUnder 2) .edition ≡ edition2)
+unfolding tables editionOf contextOf
+edition-second = (refl, refl)
+
+edition-out : (valid (scriptUnder 0) (state (at 0 64 1 0 ∷ [])) ≡ false) × (valid (scriptUnder 3) (state (at 0 64 1 0 ∷ [])) ≡ false)
+unfolding tables
+edition-out = (refl, refl)

@@ -14,12 +14,12 @@ use Rattle.terms.specs.Terms.Mark.{none, by}
 use Rattle.terms.specs.Terms.Component.{comp}
 use Rattle.terms.specs.Terms.Def.{define}
 use Rattle.terms.specs.Substitution.{Env, env, sub, subP}
-use Rattle.terms.specs.Clock.{ticksOf}
+use Rattle.terms.specs.Clock.{ticksOf, editionOf}
 use Rattle.table.specs.declared.Head.{Head}
 use Rattle.table.specs.declared.Head.the-variants.{Stop, Go, Out, In, Call}
 use Rattle.table.specs.declared.Comp.{Comp}
 use Rattle.table.specs.declared.State.{State}
-use Rattle.table.specs.Words.{compSize, compUsed, word, defsIn, locName, chanName, defName, bodyOf, paramsOf, headAt, nextAt, boundAt, namesAt, argsAt}
+use Rattle.table.specs.Words.{compSize, compUsed, word, defsIn, editionIn, locName, chanName, defName, bodyOf, paramsOf, headAt, nextAt, boundAt, namesAt, argsAt}
 
 -- ── terms ──
 -- what a value's word stands for where the names ys are in scope
@@ -68,7 +68,7 @@ defsOf w = listFrom 0 (defsIn w) (defOf w)
 
 -- what the rules take of a script
 unfoldable pub contextOf : List ℕ → Context
-contextOf w = record { defs = defsOf w }
+contextOf w = record { defs = defsOf w; edition = editionOf (editionIn w) }
 
 -- ── components ──
 -- A component has a location, a mark (64 for none), a place, its own timer, and a location for each slot.

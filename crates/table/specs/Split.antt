@@ -5,11 +5,11 @@ use mathlib.Core.List.{List, [], _∷_}
 use mathlib.Core.Bool.{Bool, cond}
 use lib.Dec.{eqb, ltb}
 use Rattle.terms.specs.Terms.{expired, due}
-use Rattle.terms.specs.Clock.{ticksOf, lessRaw}
+use Rattle.terms.specs.Clock.{ticksOf, lessRaw, editionOf}
 use Rattle.table.specs.declared.Head.{Head}
 use Rattle.table.specs.declared.Head.the-variants.{Stop, Go, Out, In, Call}
 use Rattle.table.specs.declared.Comp.{Comp}
-use Rattle.table.specs.Words.{headAt, nextAt}
+use Rattle.table.specs.Words.{editionIn, headAt, nextAt}
 
 -- a part's own timer; 0 where it has none
 unfoldable pub timerIn : Head → ℕ
@@ -38,16 +38,16 @@ splitAt w l vs i = partsFrom w l vs (suc i) i
 unfoldable pub timed : Comp → ℕ → Comp
 timed c t = record { loc = c .loc; mark = c .mark; place = c .place; timer = t; vals = c .vals }
 
--- The tests of a component's timer are those of the timer that it stands for: a ready `in` or `out` that takes its Q, a ready `go` that must move.
-unfoldable pub expiredAt : Comp → Bool
-expiredAt c = expired (ticksOf (c .timer))
+-- The tests of a component's timer are those of the timer that it stands for: a ready `in` or `out` that takes its Q under the script's edition, a ready `go` that must move.
+unfoldable pub expiredAt : List ℕ → Comp → Bool
+expiredAt w c = expired (editionOf (editionIn w)) (ticksOf (c .timer))
 
 unfoldable pub dueAt : Comp → Bool
 dueAt c = due (ticksOf (c .timer))
 
 -- an `in` or `out` with its Q at q
 unfoldable pub orElse : List ℕ → Comp → ℕ → List Comp
-orElse w c q = cond (expiredAt c) (splitAt w (c .loc) (c .vals) q) (timed c (lessRaw (c .timer)) ∷ [])
+orElse w c q = cond (expiredAt w c) (splitAt w (c .loc) (c .vals) q) (timed c (lessRaw (c .timer)) ∷ [])
 
 -- a component that is ready where the tick is
 unfoldable pub waited : List ℕ → Comp → Head → List Comp

@@ -7,12 +7,13 @@ use lib.Dec.{eqb, leb, ltb}
 use lib.ListN.{length, getD, take}
 use Rattle.terms.specs.Names.{Name, sameName}
 use Rattle.terms.specs.Same.{every}
+use Rattle.terms.specs.Clock.{isEdition}
 use Rattle.terms.specs.Letters.{isLocation, isSmall, isIdentifier, distinct}
 use Rattle.table.specs.declared.Head.{Head}
 use Rattle.table.specs.declared.Head.the-variants.{Stop, Go, Out, In, Call}
 use Rattle.table.specs.declared.Comp.{Comp}
 use Rattle.table.specs.declared.State.{State}
-use Rattle.table.specs.Words.{lastName, partsIn, locsIn, chansIn, defsIn, locName, chanName, arityOf, bodyOf, defName, paramsAt, paramsOf, field, headAt, argsAt, nextAt, lowAt, ownAt, boundAt, scopeAt, namesAt, countField, kindField}
+use Rattle.table.specs.Words.{lastName, partsIn, locsIn, chansIn, defsIn, editionIn, locName, chanName, arityOf, bodyOf, defName, paramsAt, paramsOf, field, headAt, argsAt, nextAt, lowAt, ownAt, boundAt, scopeAt, namesAt, countField, kindField}
 use Rattle.table.specs.Meaning.{listFrom, compsOf}
 
 -- of each number below n
@@ -108,9 +109,10 @@ defOk w d =
     leb (arityOf w d) 4 && (ltb (bodyOf w d) (partsIn w)
     && (alike (scopeAt w (bodyOf w d)) (paramsAt w d) && (every isSmall (paramsOf w d) && distinct (paramsOf w d))))
 
+-- as many of each as there is room for, and a known edition; then all of them
 unfoldable pub scriptOk : List ℕ → Bool
 scriptOk w =
-    (leb (partsIn w) 4_096 && (leb (locsIn w) 64 && (leb (chansIn w) 64 && leb (defsIn w) 32)))
+    (leb (partsIn w) 4_096 && (leb (locsIn w) 64 && (leb (chansIn w) 64 && (leb (defsIn w) 32 && isEdition (editionIn w)))))
     && (sortOk isLocation (listFrom 0 (locsIn w) (locName w))
     && (sortOk isSmall (listFrom 0 (chansIn w) (chanName w))
     && (sortOk isIdentifier (listFrom 0 (defsIn w) (defName w))

@@ -1,4 +1,4 @@
--- The words of a script. A script has 99,592 words, written once by reading and then only lent; no content is without a meaning.
+-- The words of a script. A script has 99,984 words, written once by reading and then only lent; no content is without a meaning.
 --
 --   0 .. 7         how many parts, locations, channels and definitions it holds; a word in which reading notes that a name or a variable did not fit, 0 in
 --                  what it accepts, and which nothing else looks at; three words not used
@@ -6,6 +6,8 @@
 --   776 .. 1031    64 locations' names of 4 words
 --   1032 .. 1287   64 channels' names of 4 words
 --   1288 .. 99591  4,096 parts of 24 words
+--   99592          the edition
+--   99593 .. 99983 not used
 --
 -- A part: 0 kind; 1 channel or definition; 2 timer; 3 value, an input's slot, or a call's number of arguments; 4 place of P; 5 place of Q;
 -- 6 place of the next part of its process and one, or 0; 7 the least place of the process from here on; 8 how many variables are in scope;
@@ -21,7 +23,7 @@ use Rattle.table.specs.declared.Head.{Head}
 use Rattle.table.specs.declared.Head.the-variants.{Stop, Go, Out, In, Call}
 
 -- ── the layout's numbers ──
--- how many words a script has, those behind the last row of a part being spare, and a state: 256 components and 16 spare words
+-- how many words a script has, those behind the edition being spare, and a state: 256 components and 16 spare words
 abbrev pub scriptWords : ℕ
 scriptWords = 99_984
 
@@ -41,6 +43,10 @@ partsAt = 1_288
 -- where the rows of parts end
 abbrev pub partsEnd : ℕ
 partsEnd = 99_592
+
+-- where the edition stands, directly behind them
+abbrev pub editionAt : ℕ
+editionAt = partsEnd
 
 -- where the name that the input at place 0 binds stands
 abbrev pub ownsAt : ℕ
@@ -123,7 +129,7 @@ lastName = partsEnd - 3
 abbrev pub word : List ℕ → ℕ → ℕ
 word w i = getD w i 0
 
--- ── how many of each ──
+-- ── how many of each, and the edition as a number ──
 abbrev pub partsIn : List ℕ → ℕ
 partsIn w = word w 0
 
@@ -135,6 +141,9 @@ chansIn w = word w 2
 
 abbrev pub defsIn : List ℕ → ℕ
 defsIn w = word w 3
+
+abbrev pub editionIn : List ℕ → ℕ
+editionIn w = word w editionAt
 
 -- ── names: four words of four bytes, the first letter lowest; zeros after the last letter are no letters ──
 abbrev pub fourBytes : ℕ → List ℕ → List ℕ

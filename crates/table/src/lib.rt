@@ -43,8 +43,11 @@ pub const CHANNELS: usize = 1032;
 
 pub const PARTS: usize = 1288;
 
-// Where the rows of parts end. The words behind are spare.
+// Where the rows of parts end.
 pub const PARTS_END: usize = 99592;
+
+// The edition stands directly behind them. The words behind it are spare.
+pub const EDITION: usize = PARTS_END;
 
 pub const OWNS: usize = 1305;
 

@@ -39,11 +39,12 @@ counts-hold w e =
     let p = and-inv (leb (partsIn w) 4_096) _ e in
     let q = and-inv (leb (locsIn w) 64) _ (p .1) in
     let r = and-inv (leb (chansIn w) 64) _ (q .1) in
+    let s = and-inv (leb (defsIn w) 32) _ (r .1) in
     record {
       parts = leb-true (partsIn w) 4_096 (p .0);
       locs = leb-true (locsIn w) 64 (q .0);
       chans = leb-true (chansIn w) 64 (r .0);
-      defs = leb-true (defsIn w) 32 (r .1);
+      defs = leb-true (defsIn w) 32 (s .0);
     }
 
 -- ── names ──

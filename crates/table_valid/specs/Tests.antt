@@ -6,14 +6,15 @@ use mathlib.Core.Bool.{Bool, _&&_}
 use mathlib.Core.Path.{_≡_}
 use lib.Dec.{eqb, leb, ltb}
 use Rattle.terms.specs.Same.{every}
+use Rattle.terms.specs.Clock.{isEdition}
 use Rattle.table.specs.declared.Comp.{Comp}
-use Rattle.table.specs.Words.{partsIn, locsIn, chansIn, defsIn}
+use Rattle.table.specs.Words.{partsIn, locsIn, chansIn, defsIn, editionIn}
 use Rattle.table.specs.Valid.{timerOk, markOk}
 use Rattle.table_valid.specs.declared.Sums.{Sums}
 
--- as many parts, locations, channels and definitions as there is room for
+-- as many parts, locations, channels and definitions as there is room for, and a known edition
 unfoldable pub countsOk : List ℕ → Bool
-countsOk w = leb (partsIn w) 4_096 && (leb (locsIn w) 64 && (leb (chansIn w) 64 && leb (defsIn w) 32))
+countsOk w = leb (partsIn w) 4_096 && (leb (locsIn w) 64 && (leb (chansIn w) 64 && (leb (defsIn w) 32 && isEdition (editionIn w))))
 
 -- the words of a component but for its values
 unfoldable pub headFine : List ℕ → Comp → Bool

@@ -16,6 +16,7 @@ ghost use Rattle.table_valid.specs.Tests.{countsOk, headFine, Few, Count
 use table::CHANNELS;
 use table::COMP_SIZE;
 use table::COUNT_FIELD;
+use table::EDITION;
 use table::FIRST_PARAM;
 use table::IDENTIFIERS;
 use table::LOCATIONS;
@@ -34,6 +35,7 @@ use table_names::sort_ok;
 use table_parts::parts_ok;
 use table_parts::timer_ok;
 use table_scopes::at_most_8;
+use terms::is_edition;
 
 // ── definitions ──
 
@@ -92,6 +94,7 @@ fn defs_ok(w: &Script) -> bool
 
 // ── the whole ──
 
+// The counts and the edition.
 fn counts_ok(w: &Script) -> bool
     ensures { λ r. ⌜ r ≡ countsOk (now (w .entry)) ⌝ }
 {
@@ -104,7 +107,10 @@ fn counts_ok(w: &Script) -> bool
     if 64 < word(w, 2) {
         return false;
     }
-    word(w, 3) <= 32
+    if 32 < word(w, 3) {
+        return false;
+    }
+    is_edition(word(w, EDITION))
 }
 
 // A script by itself.

@@ -8,5 +8,6 @@ pub mod Forced
 pub mod Steps
 pub mod Same
 pub mod Clock
+pub mod Editions
 pub mod Numbered
 pub mod Substitution

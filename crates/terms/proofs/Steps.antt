@@ -387,13 +387,13 @@ step-free d l net = forced-is d l n ∙ go (true-or-false (some (presses d l n) 
 
 -- the step never meets question 12
 pub step-accepted : (d : Context) (l : Name) (net : List Component)
-    → step d l net ≡ accepted (record { actions = fires d l net .actions; labels = fires d l net .labels; comps = flatMap (pass (λ m. sameName m l) l) (fires d l net .comps) })
+    → step d l net ≡ accepted (record { actions = fires d l net .actions; labels = fires d l net .labels; comps = flatMap (pass d (λ m. sameName m l) l) (fires d l net .comps) })
 unfolding step tick tickWith
 step-accepted d l net = rw (step-free d l net)
 
 -- and it is a whole step: its actions, each firing at l, then the tick at l
 fires-whole : (d : Context) (l : Name) (net : List Component)
-    → wholeStep d l (fires d l net .actions) net ≡ accepted (record { labels = fires d l net .labels; comps = flatMap (pass (λ m. sameName m l) l) (fires d l net .comps) })
+    → wholeStep d l (fires d l net .actions) net ≡ accepted (record { labels = fires d l net .labels; comps = flatMap (pass d (λ m. sameName m l) l) (fires d l net .comps) })
 unfolding wholeStep tick tickWith
 fires-whole d l net = rw (swept d l net .acts, step-free d l net)
 

@@ -6,8 +6,9 @@ use mathlib.Core.Bool.{true, false}
 use mathlib.Core.Path.{_≡_, refl}
 use lib.ListN.{length, replicate}
 use Rattle.terms.specs.Names.{Name, bytes}
-use Rattle.terms.specs.Terms.{Value, Part, Process, Component, Context, Label}
+use Rattle.terms.specs.Terms.{Timer, Value, Part, Process, Component, Context, Label}
 use Rattle.terms.specs.Terms.Timer.{ticks, inf}
+use Rattle.terms.specs.Terms.Edition.{edition1, edition2}
 use Rattle.terms.specs.Terms.Value.{loc, var}
 use Rattle.terms.specs.Terms.Part.{stop, go, out, inp, call}
 use Rattle.terms.specs.Terms.Process.{one, _∥_}
@@ -46,9 +47,12 @@ infix 10 _$_
 abbrev _$_ : Name → Part → Component
 l $ a = comp l none (one a)
 
--- no definitions
+-- no definitions, under edition 1 and under edition 2
 abbrev bare : Context
-bare = record { defs = [] }
+bare = record { defs = []; edition = edition1 }
+
+abbrev bare2 : Context
+bare2 = record { defs = []; edition = edition2 }
 
 -- an accepted action, an accepted tick
 abbrev acts : Action → Fed
@@ -174,7 +178,7 @@ y = bytes "y"
 abbrev D : Name
 D = bytes "D"
 
-exchange : act (record { defs = define D (x ∷ y ∷ []) (one (call D (var y ∷ var x ∷ []))) ∷ [] }) (single calls 0) ((A $ call D (loc A ∷ loc B ∷ [])) ∷ [])
+exchange : act (record { defs = define D (x ∷ y ∷ []) (one (call D (var y ∷ var x ∷ []))) ∷ []; edition = edition1 }) (single calls 0) ((A $ call D (loc A ∷ loc B ∷ [])) ∷ [])
     ≡ accepted (record { label = called D A; comps = comp A (by A) (one (call D (loc B ∷ loc A ∷ []))) ∷ [] })
 unfolding rules
 exchange = refl
@@ -184,7 +188,7 @@ abbrev Page : Name
 Page = bytes "Page"
 
 abbrev pages : Context
-pages = record { defs = define Page (x ∷ []) (one (go (ticks 0) (var x) (one (out c (ticks 1) (var x) halt halt)))) ∷ [] }
+pages = record { defs = define Page (x ∷ []) (one (go (ticks 0) (var x) (one (out c (ticks 1) (var x) halt halt)))) ∷ []; edition = edition1 }
 
 abbrev net0 : List Component
 net0 = (A $ call Page (loc B ∷ [])) ∷ (B $ inp c (ticks 2) y (one (go (ticks 0) (var y) halt)) halt) ∷ []
@@ -217,3 +221,67 @@ same-order = refl
 same-often : same (record { defs = []; comps = (A $ stop) ∷ (B $ stop) ∷ [] }) (record { defs = []; comps = (A $ stop) ∷ (A $ stop) ∷ (B $ stop) ∷ [] }) ≡ false
 unfolding rules
 same-often = refl
+
+-- ── editions: document 02, R-8 ──
+-- an `in` with this timer whose Q is a `go` with timer 1, and what a tick makes of it alone
+abbrev reader : Timer → Part
+reader t = inp c t x halt (one (go (ticks 1) (loc B) halt))
+
+abbrev alone-in : Context → Timer → Answer (List Component)
+alone-in d t = tick d A ((A $ reader t) ∷ [])
+
+-- its Q as written: what was taken in this tick is not lowered in it
+abbrev tookQ : Answer (List Component)
+tookQ = accepted ((A $ go (ticks 1) (loc B) halt) ∷ [])
+
+-- 0 takes its Q in both editions
+edition-0 : (alone-in bare (ticks 0) ≡ tookQ) × (alone-in bare2 (ticks 0) ≡ tookQ)
+unfolding rules
+edition-0 = (refl, refl)
+
+-- 1 becomes 0 under edition 1 and takes its Q under edition 2
+edition-1 : (alone-in bare (ticks 1) ≡ accepted ((A $ reader (ticks 0)) ∷ [])) × (alone-in bare2 (ticks 1) ≡ tookQ)
+unfolding rules
+edition-1 = (refl, refl)
+
+-- 2 becomes 1 in both, and inf stays
+edition-2 : (alone-in bare (ticks 2) ≡ accepted ((A $ reader (ticks 1)) ∷ [])) × (alone-in bare2 (ticks 2) ≡ accepted ((A $ reader (ticks 1)) ∷ []))
+unfolding rules
+edition-2 = (refl, refl)
+
+edition-inf : (alone-in bare inf ≡ accepted ((A $ reader inf) ∷ [])) × (alone-in bare2 inf ≡ accepted ((A $ reader inf) ∷ []))
+unfolding rules
+edition-inf = (refl, refl)
+
+-- an `out` alike
+edition-out : tick bare2 A ((A $ out c (ticks 1) (loc B) halt halt) ∷ (A $ out c (ticks 2) (loc B) halt halt) ∷ []) ≡ accepted ((A $ stop) ∷ (A $ out c (ticks 1) (loc B) halt halt) ∷ [])
+unfolding rules
+edition-out = refl
+
+-- a fresh Q that is an `in` with timer 1 is still there after the tick that gave it
+edition-fresh : tick bare2 A ((A $ inp c (ticks 1) x halt (one (reader (ticks 1)))) ∷ []) ≡ accepted ((A $ reader (ticks 1)) ∷ [])
+unfolding rules
+edition-fresh = refl
+
+-- `go` is as it was: 1 is lowered and only 0 must move
+edition-go : (tick bare2 A ((A $ go (ticks 1) (loc B) halt) ∷ []) ≡ accepted ((A $ go (ticks 0) (loc B) halt) ∷ [])) × (tick bare2 A ((A $ go (ticks 0) (loc B) halt) ∷ []) ≡ refused 12)
+unfolding rules
+edition-go = (refl, refl)
+
+-- a ready pair stops the tick under edition 2, at 1 and at 0, and the step lets it meet
+abbrev pairAt : Timer → List Component
+pairAt t = (A $ out c t (loc B) halt (one (go inf (loc B) halt))) ∷ (A $ reader t) ∷ []
+
+edition-pair : (tick bare2 A (pairAt (ticks 1)) ≡ refused 12) × (tick bare2 A (pairAt (ticks 0)) ≡ refused 12)
+unfolding rules
+edition-pair = (refl, refl)
+
+edition-meets : (step bare2 A (pairAt (ticks 1)) >>= λ s. accepted (s .comps)) ≡ accepted ((A $ stop) ∷ (A $ stop) ∷ [])
+unfolding rules
+edition-meets = refl
+
+-- example 7 under edition 2: the input's last chance at B passes before the move arrives, and the grouped run is the straight one
+edition-grouped : groupedRun bare2 (acts (single moves 0) ∷ ticked B ∷ ticked A ∷ []) net7
+    ≡ accepted (record { straight = (B $ sender) ∷ (B $ stop) ∷ []; grouped = (B $ sender) ∷ (B $ stop) ∷ [] })
+unfolding rules
+edition-grouped = refl

@@ -6,7 +6,7 @@ use mathlib.Core.Bool.{Bool, true, false, cond, _&&_, _||_}
 use lib.Dec.{eqb}
 use lib.ListN.{length}
 use Rattle.terms.specs.Names.{Name, sameName}
-use Rattle.terms.specs.Terms.{Value, Part, Process, Component, Def, Label, less, expired, due, firesAt, Context}
+use Rattle.terms.specs.Terms.{Value, Part, Process, Component, Def, Edition, Label, less, expired, due, firesAt, Context}
 use Rattle.terms.specs.Terms.Value.{loc, var}
 use Rattle.terms.specs.Terms.Part.{stop, go, out, inp, call}
 use Rattle.terms.specs.Terms.Process.{one, _∥_}
@@ -203,13 +203,13 @@ unfoldable pub forced : Context → Name → List Component → Bool
 forced d l net = pressing d (flatMap (only (ready l)) net)
 
 -- ── the tick at l ──
--- what becomes of a part that is ready where the tick is. (A tick that is allowed meets no call.)
-unfoldable pub wait : Part → Process
-wait stop = one stop
-wait (go t v p) = one (go (less t) v p)
-wait (out c t v p q) = cond (expired t) q (one (out c (less t) v p q))
-wait (inp c t y p q) = cond (expired t) q (one (inp c (less t) y p q))
-wait (call i vs) = one (call i vs)
+-- what becomes of a part that is ready where the tick is. (A tick that is allowed meets no call.) Nothing else looks at the edition.
+unfoldable pub wait : Edition → Part → Process
+wait e stop = one stop
+wait e (go t v p) = one (go (less t) v p)
+wait e (out c t v p q) = cond (expired e t) q (one (out c (less t) v p q))
+wait e (inp c t y p q) = cond (expired e t) q (one (inp c (less t) y p q))
+wait e (call i vs) = one (call i vs)
 
 -- each part a component of its own, from left to right
 unfoldable pub split : Name → Process → List Component
@@ -218,13 +218,13 @@ split l (a ∥ p) = comp l none (one a) ∷ split l p
 
 -- what becomes of a component in the tick at l, where the marks vanish whose owner passes the test.
 -- What was ready at l waits, what loses its mark keeps its timers; both are split. All others are untouched.
-unfoldable pub pass : (Name → Bool) → Name → Component → List Component
-pass own l (comp h none (one a)) = cond (sameName h l) (split h (wait a)) (comp h none (one a) ∷ [])
-pass own l (comp h none (a ∥ p)) = comp h none (a ∥ p) ∷ []
-pass own l (comp h (by m) p) = cond (own m) (split h p) (comp h (by m) p ∷ [])
+unfoldable pub pass : Context → (Name → Bool) → Name → Component → List Component
+pass d own l (comp h none (one a)) = cond (sameName h l) (split h (wait (d .edition) a)) (comp h none (one a) ∷ [])
+pass d own l (comp h none (a ∥ p)) = comp h none (a ∥ p) ∷ []
+pass d own l (comp h (by m) p) = cond (own m) (split h p) (comp h (by m) p ∷ [])
 
 unfoldable pub tickWith : (Name → Bool) → Context → Name → List Component → Answer (List Component)
-tickWith own d l net = cond (forced d l net) (refused 12) (accepted (flatMap (pass own l) net))
+tickWith own d l net = cond (forced d l net) (refused 12) (accepted (flatMap (pass d own l) net))
 
 -- the engine's tick at l: marks owned by l vanish, at any location
 unfoldable pub tick : Context → Name → List Component → Answer (List Component)

@@ -2,7 +2,7 @@
 use Prim.Native.Nat.{ℕ, _-_}
 use mathlib.Core.List.{List}
 use mathlib.Core.Bool.{Bool, false}
-use lib.Dec.{eqb}
+use lib.Dec.{eqb, leb}
 use Rattle.terms.specs.Names.{Name}
 
 -- A timer is a number of ticks or inf. Nothing looks into a timer but the three functions below.
@@ -16,12 +16,18 @@ unfoldable pub less : Timer → Timer
 less (ticks n) = ticks (n - 1)
 less inf = inf
 
--- a ready `in` or `out` with this timer takes its Q at a tick
-unfoldable pub expired : Timer → Bool
-expired (ticks n) = eqb n 0
-expired inf = false
+-- The edition under which a text was read: document 02, R-8. Under the second a communication's timer counts chances to meet, and 1 is the last.
+pub data Edition : Type 0 where
+  edition1 edition2 : Edition
 
--- a ready `go` with this timer must move before a tick
+-- a ready `in` or `out` with this timer takes its Q at a tick
+unfoldable pub expired : Edition → Timer → Bool
+expired edition1 (ticks n) = eqb n 0
+expired edition2 (ticks n) = leb n 1
+expired edition1 inf = false
+expired edition2 inf = false
+
+-- a ready `go` with this timer must move before a tick, in either edition
 unfoldable pub due : Timer → Bool
 due (ticks n) = eqb n 0
 due inf = false
@@ -69,12 +75,14 @@ pub record Network : Type 0 where
   pub defs : List Def
   pub comps : List Component
 
--- what the rules take beside the components: the definitions
+-- what the rules take beside the components: the definitions and the edition
 pub record Context : Type 0 where
   pub defs : List Def
+  pub edition : Edition
 
-abbrev pub contextIn : Network → Context
-contextIn m = record { defs = m .defs }
+-- that of a network that was read under an edition
+abbrev pub contextIn : Edition → Network → Context
+contextIn e m = record { defs = m .defs; edition = e }
 
 -- `id@l`, `v@l`, `c<v>@l`
 pub data Label : Type 0 where

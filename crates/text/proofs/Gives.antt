@@ -14,13 +14,14 @@ use Rattle.terms.specs.Terms.Component.{comp}
 use Rattle.terms.specs.Rules.{Answer, _>>=_, split, unmarked}
 use Rattle.terms.specs.Rules.Answer.{refused, accepted}
 use Rattle.terms.specs.Same.{every}
+use Rattle.terms.specs.Clock.{isEdition}
 use Rattle.terms.specs.Letters.{isLocation}
 use Rattle.text.specs.Syntax.{Text}
 use Rattle.text.specs.Tree.{Located, Tree, settled, components, networkOf}
 use Rattle.text.specs.Tree.Located.{at}
 use Rattle.text.specs.Write.{write}
 use Rattle.text.specs.WellFormed.{Is, Each, WellProcess, WellLocated, NonEmpty, WellTree, WellComponent, Writable}
-use Rattle.text.specs.Questions.{ask, form, asked, read, short, shallow, fits, definedOnce, callsMet, bound, places, partPlaces, processPlaces, locatedPlaces, componentPlaces, networkPlaces, Sound}
+use Rattle.text.specs.Questions.{ask, form, asked, read, readUnder, short, shallow, fits, definedOnce, callsMet, bound, places, partPlaces, processPlaces, locatedPlaces, componentPlaces, networkPlaces, Sound}
 use Rattle.text.proofs.Exact.{form-tokens}
 use Rattle.text.proofs.RoundTrip.{limited, only-limits}
 
@@ -106,6 +107,24 @@ read-gives s n e = ask-inv 1 (short s) _ e λ a e. go (form s) refl e
         ask-inv 7 (bound t) _ e λ q7 e.
         let i : networkOf t ≡ n = cc in
         record { text = x; formed = h; is = i; writable = subst Writable i (tree-writable t (form-tokens s x h .1)); sound = subst Sound i (tree-sound t q5 q6 q7) }
+
+-- ── under an edition ──
+pub unknown-edition : (e : ℕ) (s : List ℕ) → isEdition e ≡ false → readUnder e s ≡ refused 21
+unfolding readUnder
+unknown-edition e s h = rw h
+
+pub known-edition : (e : ℕ) (s : List ℕ) → isEdition e ≡ true → readUnder e s ≡ read s
+unfolding readUnder
+known-edition e s h = rw h
+
+pub first-edition : (s : List ℕ) → readUnder 1 s ≡ read s
+unfolding isEdition
+first-edition s = known-edition 1 s refl
+
+-- what is accepted was read under a known edition, and the text by itself
+pub under-gives : (e : ℕ) (s : List ℕ) (n : Network) → readUnder e s ≡ accepted n → (isEdition e ≡ true) × (read s ≡ accepted n)
+unfolding readUnder
+under-gives e s n h = ask-inv 21 (isEdition e) _ h λ k g. (k, g)
 
 -- what was read can be written and read again, unless a limit is passed
 pub read-again : (s : List ℕ) (n : Network) → read s ≡ accepted n → read (write n) ≡ limited n

@@ -1,4 +1,4 @@
--- Reading: document 01, *Questions, asked downward* (1 to 7) and the numbering of *Reading*.
+-- Reading: document 01, *Questions, asked downward* (1 to 7) and the numbering of *Reading*; document 02, R-8 (21).
 -- Each question is asked of the whole text, one after the other, and the first no gives the answer.
 use Prim.Native.Nat.{ℕ, suc, max}
 use mathlib.Core.List.{List, [], _∷_, _++_, map, flatMap}
@@ -16,6 +16,7 @@ use Rattle.terms.specs.Terms.Def.{define}
 use Rattle.terms.specs.Rules.{Answer, _>>=_, some, split}
 use Rattle.terms.specs.Rules.Answer.{refused, accepted}
 use Rattle.terms.specs.Same.{every}
+use Rattle.terms.specs.Clock.{isEdition}
 use Rattle.terms.specs.Letters.{member, distinct}
 use Rattle.text.specs.Tokens.{lex}
 use Rattle.text.specs.Syntax.{Text}
@@ -202,6 +203,12 @@ read s = do
   x ← form s
   asked (settled x)
 
+-- ── 21: is the edition 1 or 2? It is given with the text, and asked first ──
+unfoldable pub readUnder : ℕ → List ℕ → Answer Network
+readUnder e s = do
+  ask 21 (isEdition e)
+  read s
+
 -- ── 5, 6 and 7 of a network ──
 unfoldable pub componentPlaces : Component → List Place
 componentPlaces (comp l m p) = processPlaces p 1 []
@@ -216,5 +223,5 @@ pub record Sound (n : Network) : Type 0 where
 
 -- all of the above, for `unfolding questions`
 unfoldable pub questions : Unit {0}
-unfolding short form firsts partPlaces processPlaces defPlaces locatedPlaces places channelsAt locOf locationsAt locatedNames channels locations split components networkOf most nesting definitionCount parameterCount partCount componentCount scopeSize shallow fits distinct definedOnce some callMet callsMet boundAt bound asked read flatMap every
+unfolding short form firsts partPlaces processPlaces defPlaces locatedPlaces places channelsAt locOf locationsAt locatedNames channels locations split components networkOf most nesting definitionCount parameterCount partCount componentCount scopeSize shallow fits distinct definedOnce some callMet callsMet boundAt bound asked read isEdition readUnder flatMap every
 questions = tt

@@ -1,9 +1,10 @@
-// The first words of a script: kept aside, set to zero, put back; and a script of zeros.
+// The first words of a script: kept aside, set to zero, put back; a script of zeros; and a script's edition.
 ghost use mathlib.Core.Path.{_≡_};
 ghost use Prim.Native.Nat.{_≤_};
-ghost use lib.ListN.{length, replicate};
-ghost use Rattle.table.specs.Words.{scriptWords, word};
+ghost use lib.ListN.{length, set, replicate};
+ghost use Rattle.table.specs.Words.{editionAt, scriptWords, word};
 ghost use Rattle.text_answer.specs.Front.{Front};
+use table::EDITION;
 use table::SCRIPT_WORDS;
 use table::Script;
 
@@ -54,4 +55,11 @@ pub fn wipe(w: &mut Script)
 {
     script_sized(*w);
     clear(w, SCRIPT_WORDS);
+}
+
+// The edition e, or another number that stood there.
+pub fn put_edition(w: &mut Script, e: u32)
+    ensures { λ _. ⌜ now (w .exit) ≡ set (now (w .entry)) editionAt e ⌝ }
+{
+    w[EDITION] = e;
 }

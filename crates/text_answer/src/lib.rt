@@ -5,7 +5,7 @@
 // specs/Front   the first words of a list, written
 //
 // state  the components of the network
-// front  the first words of a script, kept aside, set to zero, put back
+// front  the first words of a script, kept aside, set to zero, put back; its edition
 //
 // proofs/States  components made from their places
 // proofs/Kept    a script set to zero, and one put back
@@ -15,6 +15,12 @@ use state::no_state;
 
 pub mod front;
 pub mod state;
+
+// What is given with a text and then stays with its network: the edition, 1 or 2.
+#[repr(C)]
+pub struct Settings {
+    pub edition: u32,
+}
 
 // The answer: 0 and the components, or the number of the question answered by no and no components.
 #[repr(C)]

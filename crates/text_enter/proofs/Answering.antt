@@ -7,10 +7,12 @@ use mathlib.Core.List.{List, [], _∷_, map}
 use mathlib.Core.Path.{_≡_, refl, sym, ap, _∙_}
 use borrow.Author.Tests.{leb-true, eqb-true}
 use lib.Dec.{leb}
-use lib.ListN.{length, take, set, replicate}
+use lib.ListN.{length, take, set, replicate, length-set}
+use lib.Seq.{getD-set-same}
 use Rattle.terms.specs.Rules.{Answer, _>>=_}
 use Rattle.terms.specs.Rules.Answer.{refused, accepted}
 use Rattle.terms.specs.Same.{every}
+use Rattle.terms.specs.Clock.{isEdition}
 use Rattle.terms.proofs.Names.{and-inv}
 use Rattle.text.specs.Tokens.{lex}
 use Rattle.text.specs.Syntax.{Text}
@@ -19,14 +21,15 @@ use Rattle.text.specs.Tree.Located.{at}
 use Rattle.text.specs.Grammar.{Rest, text}
 use Rattle.text.specs.Grammar.Rest.{ok, bad}
 use Rattle.text.specs.WellFormed.{NonEmpty, WellTree}
-use Rattle.text.specs.Questions.{ask, _>>_, places, short, whole, form, shallow, fits, definedOnce, callsMet, bound, asked as askedOf, read, nesting, definitionCount, parameterCount, partCount, componentCount, channels, locations, scopeSize}
+use Rattle.text.specs.Questions.{ask, _>>_, places, short, whole, form, shallow, fits, definedOnce, callsMet, bound, asked as askedOf, read, readUnder, nesting, definitionCount, parameterCount, partCount, componentCount, channels, locations, scopeSize}
 use Rattle.text.proofs.Exact.{form-tokens}
+use Rattle.text.proofs.Gives.{known-edition, unknown-edition}
 use Rattle.text_scan.specs.declared.Scanned.{Scanned}
 use Rattle.text_scan.specs.Answers.{unreadScan, scanned, scanOf}
 use Rattle.text_scan.specs.Limits.{limits}
 use Rattle.text_scan.proofs.Scanning.{capped-within}
 use Rattle.table.specs.declared.State.{State}
-use Rattle.table.specs.Words.{rowSize, partsAt, scriptWords, stateWords, word}
+use Rattle.table.specs.Words.{rowSize, partsAt, editionAt, scriptWords, stateWords, word, editionIn}
 use Rattle.table.specs.Meaning.{PastKept, compsOf}
 use Rattle.text_build.specs.Rows.{placeKnown}
 use Rattle.text_build.proofs.Places.{sizeP-some}
@@ -44,10 +47,11 @@ use Rattle.text_tree.proofs.AskedCalls.{calls-is}
 use Rattle.text_tree.proofs.AskedBound.{bound-is}
 use Rattle.text_tree.proofs.AskedKnown.{known}
 use Rattle.text_enter.specs.declared.Entry.{Entry}
+use Rattle.text_answer.specs.declared.Settings.{Settings}
 use Rattle.text_answer.specs.declared.Reading.{Reading}
 use Rattle.text_fill.specs.Ready.{Ready, treeIn, bodiesBy, Filled, defined as definedBy}
 use Rattle.text_fill.specs.Spread.{Spread}
-use Rattle.text_answer.specs.Answer.{StateIs, refusal, locationsIn, channelsIn, Took, readsAs, partsOf}
+use Rattle.text_answer.specs.Answer.{StateIs, refusal, locationsIn, channelsIn, under, Took, readsAs, partsOf}
 use Rattle.text_enter.specs.Entered.{Answered, Entered}
 use Rattle.text_fill.proofs.Spreading.{spread-all}
 use Rattle.text_fill.proofs.Quiet.{Quiet, quiet-then, bodies-quiet, brackets-quiet, bodies-same}
@@ -197,10 +201,12 @@ module _ {s : List ℕ} (x : Passing s) (base : List ℕ) (blank : Blank base (p
   S = scriptOf base T
 
   -- what an accepted text leaves: the words of the script w behind the last row, and zeros beside the components
-  pub record Around (w : List ℕ) (st : State) : Type 0 where
+  pub record Around (g : Settings) (w : List ℕ) (st : State) : Type 0 where
     pub size : length S ≡ scriptWords
-    pub behind : (o : ℕ) → partsAt + partCount T * rowSize ≤ o → word S o ≡ word w o
+    pub behind : (o : ℕ) → partsAt + partCount T * rowSize ≤ o → word S o ≡ word (under g w) o
     pub past : PastKept (st .n) (replicate stateWords 0) (st .c)
+    pub edition : editionIn S ≡ g .edition
+    pub known-one : isEdition (g .edition) ≡ true
 
   read-is : read s ≡ (ask 4 (fits T) >> (ask 5 (definedOnce (T .defs)) >> (ask 6 (callsMet T) >> (ask 7 (bound T) >> accepted (networkOf T)))))
   unfolding read askedOf
@@ -244,11 +250,12 @@ module _ {s : List ℕ} (x : Passing s) (base : List ℕ) (blank : Blank base (p
           known-yes : every (placeKnown S) (places T) ≡ true
           known-yes = known T S W (x .ready .within .parameters) distinct-yes (x .ready .well) calls-yes bound-yes
 
-          took : (q : Reading) → q .code ≡ 0 → q .state .n ≡ length (spotsOf base T) → compsOf (q .state) ≡ map (compOf S) (spotsOf base T) → (w : List ℕ) → Around w (q .state) → Took s w S (networkOf T) q
-          took q z n c w a = record {
+          took : (q : Reading) → q .code ≡ 0 → q .state .n ≡ length (spotsOf base T) → compsOf (q .state) ≡ map (compOf S) (spotsOf base T) → (g : Settings) (w : List ℕ) → Around g w (q .state) → Took s g w S (networkOf T) q
+          took q z n c g w a = record {
             code = z;
-            network = network-is base T blank (x .ready .within) (x .ready .well) flag distinct-yes known-yes (q .state) n c;
-            good = valid-is base T blank (x .ready .within) (x .ready .well) flag distinct-yes known-yes (q .state) n c;
+            network = network-is base T blank (x .ready .within) (x .ready .well) flag distinct-yes known-yes (ap isEdition (a .edition) ∙ a .known-one) (q .state) n c;
+            edition = a .edition;
+            good = valid-is base T blank (x .ready .within) (x .ready .well) flag distinct-yes known-yes (ap isEdition (a .edition) ∙ a .known-one) (q .state) n c;
             locs = W .locs ∙ sym (ap locationsIn (x .form-is));
             chans = W .chans ∙ sym (ap channelsIn (x .form-is));
             parts = parts-kept base T blank ∙ sym (ap partsOf (x .form-is));
@@ -267,15 +274,15 @@ module _ {s : List ℕ} (x : Passing s) (base : List ℕ) (blank : Blank base (p
       go₁ true true true false e f g h n = read-6 e f g ∙ rw h
       go₁ true true true true e f g h n = absurd (n refl)
 
-  pub asked-yes : asked S ≡ 0 → (q : Reading) → q .code ≡ 0 → q .state .n ≡ length (spotsOf base T) → compsOf (q .state) ≡ map (compOf S) (spotsOf base T) → (u w : List ℕ) → Around w (q .state) → readsAs s (read s) u w S q
-  asked-yes z q y n c u w l = go₁ (roomy S) (apart S) (callsHeld S) (allBound S) refl refl refl refl z
+  pub asked-yes : asked S ≡ 0 → (q : Reading) → q .code ≡ 0 → q .state .n ≡ length (spotsOf base T) → compsOf (q .state) ≡ map (compOf S) (spotsOf base T) → (u : List ℕ) (g : Settings) (w : List ℕ) → Around g w (q .state) → readsAs s g (read s) u w S q
+  asked-yes z q y n c u k w l = go₁ (roomy S) (apart S) (callsHeld S) (allBound S) refl refl refl refl z
     where
-      go₁ : (a b c d : Bool) → roomy S ≡ a → apart S ≡ b → callsHeld S ≡ c → allBound S ≡ d → _≡_ {A = ℕ} (cond a (cond b (cond c (cond d 0 7) 6) 5) 4) 0 → readsAs s (read s) u w S q
+      go₁ : (a b c d : Bool) → roomy S ≡ a → apart S ≡ b → callsHeld S ≡ c → allBound S ≡ d → _≡_ {A = ℕ} (cond a (cond b (cond c (cond d 0 7) 6) 5) 4) 0 → readsAs s k (read s) u w S q
       go₁ false b c d e f g h z = absurd (omega arith)
       go₁ true false c d e f g h z = absurd (omega arith)
       go₁ true true false d e f g h z = absurd (omega arith)
       go₁ true true true false e f g h z = absurd (omega arith)
-      go₁ true true true true e f g h z = rw (read-7 e f g h) (took e f g h q y n c w l)
+      go₁ true true true true e f g h z = rw (read-7 e f g h) (took e f g h q y n c k w l)
 
 -- ── the code's ways to its answer ──
 -- a text has a part
@@ -288,15 +295,15 @@ some-parts : (t : Tree) → WellTree t → 1 ≤ partCount t
 some-parts t f = omega (arith, parts-are t, located-some (t .located) (f .some-located))
 
 module _ (s : List ℕ) (c : Scanned) (e : c ≡ scanOf s) (q : ℕ) (l : q ≡ limits c) where
-  refused-is : (n : ℕ) (u w v : List ℕ) (r : Reading) → read s ≡ refused n → r ≡ refusal n → v ≡ u → readsAs s (read s) u w v r
-  refused-is n u w v r f g k = rw f (g, k)
+  refused-is : (n : ℕ) (h : Settings) (u w v : List ℕ) (r : Reading) → read s ≡ refused n → r ≡ refusal n → v ≡ u → readsAs s h (read s) u w v r
+  refused-is n h u w v r f g k = rw f (g, k)
 
   limits-is : q ≡ limits (scanOf s)
   limits-is = l ∙ ap limits e
 
   -- the scan's refusal
-  pub way-1 : (q ≡ 0 → ⊥) → (u w v : List ℕ) (r : Reading) → r ≡ refusal q → v ≡ u → readsAs s (read s) u w v r
-  way-1 n u w v r g k = refused-is (limits (scanOf s)) u w v r (limited s (λ z. n (limits-is ∙ z))) (g ∙ ap refusal limits-is) k
+  pub way-1 : (q ≡ 0 → ⊥) → (h : Settings) (u w v : List ℕ) (r : Reading) → r ≡ refusal q → v ≡ u → readsAs s h (read s) u w v r
+  way-1 n h u w v r g k = refused-is (limits (scanOf s)) h u w v r (limited s (λ z. n (limits-is ∙ z))) (g ∙ ap refusal limits-is) k
 
   module _ (z : q ≡ 0) where
     pub pass : Passing s
@@ -356,19 +363,28 @@ module _ (s : List ℕ) (c : Scanned) (e : c ≡ scanOf s) (q : ℕ) (l : q ≡ 
             answer = record {
               few = places-few (pass .ready) blank parts-now defs-now (h (pass .ready)) wide;
               no = λ x. asked-no pass w₀ blank (λ y. x (asked-is ∙ y)) ∙ ap refused (sym asked-is);
-              yes = λ y u q z k.
+              yes = λ y g w₁ i known-one u q z k.
                   let p = state-is (pass .ready) blank parts-now defs-now (h (pass .ready)) wide (q .state) k in
-                  let around : Around pass w₀ blank w (q .state) = record { size = rw now-script at (long-now ∙ size); behind = rw (parts-now, now-script) at (rest-now fewest); past = k .past } in
-                  rw now-script (asked-yes pass w₀ blank (sym asked-is ∙ y) q z (p .0) (p .1) u w around);
+                  let behind-now : (o : ℕ) → partsAt + c .parts * rowSize ≤ o → word v o ≡ word (under g w₁) o = λ o b. rest-now fewest o b ∙ ap (λ x. word x o) i in
+                  let edition-now : editionIn v ≡ g .edition = behind-now editionAt (omega (arith, may-fill .0)) ∙ getD-set-same w₁ editionAt (g .edition) 0 (omega (arith, size, ap length i, length-set w₁ editionAt (g .edition))) in
+                  let around : Around pass w₀ blank g w₁ (q .state) = record { size = rw now-script at (long-now ∙ size); behind = rw (parts-now, now-script) at behind-now; past = k .past; edition = rw now-script at edition-now; known-one = known-one } in
+                  rw now-script (asked-yes pass w₀ blank (sym asked-is ∙ y) q z (p .0) (p .1) u g w₁ around);
             };
             rest = rest-now fewest;
             size = long-now;
           }
 
 -- ── after the questions ──
-pub answer-no : {s w v : List ℕ} {after : List (List ℕ)} {e : Entry} → Answered s w v after e → (e .code ≡ 0 → ⊥) → (u x : List ℕ) (r : Reading) → r ≡ refusal (e .code) → x ≡ u → readsAs s (read s) u w x r
-answer-no a m u x r g k = rw (a .no m) (g, k)
+pub answer-no : {s w v : List ℕ} {after : List (List ℕ)} {e : Entry} → Answered s w v after e → (e .code ≡ 0 → ⊥) → (h : Settings) (u w₀ x : List ℕ) (r : Reading) → r ≡ refusal (e .code) → x ≡ u → readsAs s h (read s) u w₀ x r
+answer-no a m h u w₀ x r g k = rw (a .no m) (g, k)
 
 -- after a refusal the script may be another
 pub answer-back : {s w v : List ℕ} {after : List (List ℕ)} {e : Entry} → Answered s w v after e → (e .code ≡ 0 → ⊥) → (x : List ℕ) → Answered s w x after e
 answer-back a m x = record { few = a .few; no = a .no; yes = λ z. absurd (m z) }
+
+-- ── question 21 ──
+pub edition-no : (s : List ℕ) (h : Settings) → isEdition (h .edition) ≡ false → (u w x : List ℕ) (r : Reading) → r ≡ refusal 21 → x ≡ u → readsAs s h (readUnder (h .edition) s) u w x r
+edition-no s h e u w x r g k = rw (unknown-edition (h .edition) s e) (g, k)
+
+pub edition-yes : (s : List ℕ) (h : Settings) → isEdition (h .edition) ≡ true → (u w x : List ℕ) (r : Reading) → readsAs s h (read s) u w x r → readsAs s h (readUnder (h .edition) s) u w x r
+edition-yes s h e u w x r a = rw (known-edition (h .edition) s e) a

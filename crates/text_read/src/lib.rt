@@ -1,6 +1,6 @@
-// Layer 2, reading and writing: the call `read`. A text is scanned (questions 1 to 4), then written into the lent script in three passes, which is asked
-// questions 4 to 7. A text that is refused leaves the script as it was: the words that the passes write are kept aside before. An accepted one leaves the
-// words behind its last row as they were. What the call answers: specs/Answer of text_answer.
+// Layer 2, reading and writing: the call `read`. The edition is asked (question 21), a text is scanned (questions 1 to 4), then written into the lent script in
+// three passes, which is asked questions 4 to 7. A text that is refused leaves the script as it was: the words that the passes write are kept aside before, and
+// so is the edition. An accepted one leaves the other words behind its last row as they were. What the call answers: specs/Answer of text_answer.
 //
 // proofs/Numbers  the numbers that a refusal of `read` has
 ghost use mathlib.Core.Path.{_≡_};
@@ -10,9 +10,14 @@ ghost use Rattle.text_scan.specs.Answers.{scanOf};
 ghost use Rattle.text_scan.specs.Limits.{limits};
 ghost use Rattle.text_answer.specs.Answer.{ReadsAs, ReadsOver};
 ghost use Rattle.text_enter.specs.Entered.{Tried};
+use table::EDITION;
 use table::PARTS_END;
 use table::Script;
+use table::words::word;
+use terms::is_edition;
 use text_answer::Reading;
+use text_answer::Settings;
+use text_answer::front::put_edition;
 use text_answer::front::wipe;
 use text_answer::refuse;
 use text_answer::state::accept;
@@ -62,27 +67,37 @@ fn try_enter(text: &[u8], c: text_scan::Scanned, w: &mut Script, out: &mut [[u32
     enter_many(text, c, w, out)
 }
 
-// The call `read`: questions 1 to 7, and the network in the lent script and the answer's components.
-pub fn read(text: &[u8], w: &mut Script) -> Reading
-    ensures { λ r. ⌜ ReadsAs (now (text .entry)) (now (w .entry)) (now (w .exit)) r ⌝ }
+// The call `read`: questions 21 and 1 to 7, and the network in the lent script and the answer's components.
+pub fn read(text: &[u8], given: Settings, w: &mut Script) -> Reading
+    ensures { λ r. ⌜ ReadsAs (now (text .entry)) given (now (w .entry)) (now (w .exit)) r ⌝ }
 {
+    if !is_edition(given.edition) {
+        return refuse(21);
+    }
     let c = text_scan::scan(text);
     let q = limits(c);
     if q != 0 {
         return refuse(q);
     }
     let mut out = [[0; 2]; 256];
+    let before = word(w, EDITION);
+    put_edition(w, given.edition);
     let e = try_enter(text, c, w, &mut out);
     if e.code != 0 {
+        put_edition(w, before);
         return refuse(e.code);
     }
     accept(w, &out, e.n)
 }
 
 // The call `read` for a caller that does not need the script's words after a refusal, which sets them all to zero: nothing is kept aside.
-pub fn read_over(text: &[u8], w: &mut Script) -> Reading
-    ensures { λ r. ⌜ ReadsOver (now (text .entry)) (now (w .entry)) (now (w .exit)) r ⌝ }
+pub fn read_over(text: &[u8], given: Settings, w: &mut Script) -> Reading
+    ensures { λ r. ⌜ ReadsOver (now (text .entry)) given (now (w .entry)) (now (w .exit)) r ⌝ }
 {
+    if !is_edition(given.edition) {
+        wipe(w);
+        return refuse(21);
+    }
     let c = text_scan::scan(text);
     let q = limits(c);
     if q != 0 {
@@ -90,6 +105,7 @@ pub fn read_over(text: &[u8], w: &mut Script) -> Reading
         return refuse(q);
     }
     let mut out = [[0; 2]; 256];
+    put_edition(w, given.edition);
     let e = enter(text, c, w, &mut out);
     if e.code != 0 {
         wipe(w);

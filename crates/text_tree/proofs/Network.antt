@@ -16,7 +16,7 @@ use Rattle.terms.specs.Terms.Mark.{none}
 use Rattle.terms.specs.Terms.Component.{comp}
 use Rattle.terms.specs.Rules.{split}
 use Rattle.terms.specs.Same.{every}
-use Rattle.terms.specs.Clock.{ticksOf}
+use Rattle.terms.specs.Clock.{ticksOf, isEdition}
 use Rattle.terms.proofs.Names.{and-inv, and-in}
 use Rattle.terms.proofs.Substitution.{none-in, env-none}
 use Rattle.text.specs.Tree as T
@@ -29,7 +29,7 @@ use Rattle.text.proofs.Gives.{some-comps, filled}
 use Rattle.table.specs.declared.Head.{Head}
 use Rattle.table.specs.declared.Head.the-variants.{Stop, Go, Out, In, Call}
 use Rattle.table.specs.declared.State.{State}
-use Rattle.table.specs.Words.{word, partsIn, locsIn, locName, field, headAt, nextAt, namesAt, firstField, kindField, nameField, secondField, timerField, valueField}
+use Rattle.table.specs.Words.{word, partsIn, locsIn, editionIn, locName, field, headAt, nextAt, namesAt, firstField, kindField, nameField, secondField, timerField, valueField}
 use Rattle.table.specs.Meaning.{joined, processAt, partAt, withTimer, envAt, markOf, processOf, means, compsOf, netOf, networkOf}
 use Rattle.table.specs.Valid.{index, timerOk, markOk, compOk, stateOk, valid, scriptOk}
 use Rattle.table.specs.Size.{size, sizeP}
@@ -177,9 +177,9 @@ count-is base t = spots-count (t .located) (behind t) _
 
 -- ── the network ──
 module _ (base : List ℕ) (t : Tree) (blank : Blank base (partCount t)) (l : Within t) (f : WellTree t) (z : word (scriptOf base t) 4 ≡ 0) (e : Q.definedOnce (t .defs) ≡ true) (k : every (placeKnown (scriptOf base t)) (places t) ≡ true)
-    (st : State) (n : st .n ≡ length (spotsOf base t)) (c : compsOf st ≡ map (compOf (scriptOf base t)) (spotsOf base t)) where
+    (g : isEdition (editionIn (scriptOf base t)) ≡ true) (st : State) (n : st .n ≡ length (spotsOf base t)) (c : compsOf st ≡ map (compOf (scriptOf base t)) (spotsOf base t)) where
   good : scriptOk (scriptOf base t) ≡ true
-  good = script-ok t (scriptOf base t) (whole base t blank l f z) f l e k
+  good = script-ok t (scriptOf base t) (whole base t blank l f z) f l e k g
 
   comps-are : compsOf st ≡ map (compOf (scriptOf base t)) (spotsIn (scriptOf base t) (t .located) (behind t))
   unfolding compsOf

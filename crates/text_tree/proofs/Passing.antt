@@ -12,13 +12,14 @@ use Rattle.terms.specs.Terms.{Process, Def}
 use Rattle.terms.specs.Terms.Def.{define}
 use Rattle.terms.specs.Same.{every}
 use Rattle.terms.proofs.Names.{and-inv, and-in}
+use Rattle.terms.specs.Clock.{isEdition}
 use Rattle.terms.specs.Letters.{isLocation, isSmall, isIdentifier, distinct}
 use Rattle.text.specs.Tree.{Located, Tree}
 use Rattle.text.specs.Tree.Located.{at}
 use Rattle.text.specs.WellFormed.{Is, Each, WellDef, WellTree}
 use Rattle.text.specs.Questions as Q
 use Rattle.text.specs.Questions.{params, identifier, firsts, defPlaces, locatedPlaces, places, partCount, definitionCount}
-use Rattle.table.specs.Words.{word, partsIn, locsIn, chansIn, defsIn, locName, chanName, defName, bodyOf}
+use Rattle.table.specs.Words.{word, partsIn, locsIn, chansIn, defsIn, editionIn, locName, chanName, defName, bodyOf}
 use Rattle.table.specs.Meaning.{listFrom, processAt, defOf, defsOf}
 use Rattle.table.specs.Valid.{below, sortOk, defOk, partOk, scriptOk}
 use Rattle.table.specs.Size.{sizeP}
@@ -185,13 +186,13 @@ module _ (t : Tree) (w : List ℕ) (h : Whole t w) (f : WellTree t) (l : Within 
       (λ a. all-pass w (h .making .locs) (t .located) (behind t) (partCount t - sizeDefs (t .defs)) (behind-is (t .defs) (top t) (partCount t) refl) (omega arith) (omega arith) (h .located) known-located j (omega arith) a)
       (λ a. defs-pass w (h .making .locs) (t .defs) 0 (top t) (partCount t) refl (omega arith) m (f .defs-well) (h .bodies) known-defs j a (omega arith)))
 
-  -- the script passes question 17
-  pub script-ok : scriptOk w ≡ true
+  -- the script passes question 17, if its edition does
+  pub script-ok : isEdition (editionIn w) ≡ true → scriptOk w ≡ true
   unfolding scriptOk
-  script-ok =
+  script-ok g =
       let p = h .parts in
       let m = h .few in
-      and-in _ _ (and-in _ _ (le-leb (partsIn w) 4_096 (omega arith)) (and-in _ _ (le-leb (locsIn w) 64 (h .making .locs)) (and-in _ _ (le-leb (chansIn w) 64 (h .making .chans)) (le-leb (defsIn w) 32 (h .making .defs)))))
+      and-in _ _ (and-in _ _ (le-leb (partsIn w) 4_096 (omega arith)) (and-in _ _ (le-leb (locsIn w) 64 (h .making .locs)) (and-in _ _ (le-leb (chansIn w) 64 (h .making .chans)) (and-in _ _ (le-leb (defsIn w) 32 (h .making .defs)) g))))
       (and-in _ _ locs-ok (and-in _ _ chans-ok (and-in _ _ ids-ok (and-in _ _ each-def each-part))))
 
   -- its definitions are those of the text

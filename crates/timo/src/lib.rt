@@ -35,15 +35,16 @@ use table::Script;
 use table::Words;
 use table_valid::is_valid;
 use text_answer::Reading;
+use text_answer::Settings;
 use text_write::Written;
 use text_write::write;
 
-// Reading: questions 1 to 7. A refusal leaves the lent script as it was.
+// Reading, with what is given beside the text: questions 21 and 1 to 7. A refusal leaves the lent script as it was.
 #[no_mangle]
-pub extern "C" fn timo_read(text: &[u8], w: &mut Script) -> Reading
-    ensures { λ r. ⌜ ReadsAs (now (text .entry)) (now (w .entry)) (now (w .exit)) r ⌝ }
+pub extern "C" fn timo_read(text: &[u8], given: Settings, w: &mut Script) -> Reading
+    ensures { λ r. ⌜ ReadsAs (now (text .entry)) given (now (w .entry)) (now (w .exit)) r ⌝ }
 {
-    text_read::read(text, w)
+    text_read::read(text, given, w)
 }
 
 // Question 17: does the table stand for a network?
@@ -183,7 +184,7 @@ pub extern "C" fn timo_step_line(w: &Script, c: &Words, n: usize, l: u32, buf: &
     step_line(w, c, n, l, buf)
 }
 
-// The whole printout of a text, as `timorun` prints it: its length, which is at most 3,477,760, and as much of it as the buffer holds. What `run_print`
+// The whole printout of a text, as `timorun` prints it, under edition 1: its length, which is at most 3,477,760, and as much of it as the buffer holds. What `run_print`
 // promises of its place and bytes, said without its way of counting.
 #[no_mangle]
 pub extern "C" fn timo_printout(text: &[u8], buf: &mut [u8]) -> usize

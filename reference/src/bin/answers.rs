@@ -1,5 +1,6 @@
-//! `answers SCRIPT CALLS`: prints the answer to every call of a list, in the
-//! format of README.md, and the verdict of the grouped run.
+//! `answers SCRIPT CALLS [EDITION]`: prints the answer to every call of a list,
+//! in the format of README.md, and the verdict of the grouped run. The script is
+//! read under the edition, or under 1.
 
 use std::env;
 use std::error::Error;
@@ -13,8 +14,9 @@ use timo_reference::{lists, printout};
 fn main() -> ExitCode {
     let arguments: Vec<String> = env::args().skip(1).collect();
     let result = match arguments.as_slice() {
-        [script, calls] => print_answers(script, calls),
-        _ => Err("usage: answers SCRIPT CALLS".into()),
+        [script, calls] => print_answers(script, calls, "1"),
+        [script, calls, edition] => print_answers(script, calls, edition),
+        _ => Err("usage: answers SCRIPT CALLS [EDITION]".into()),
     };
     match result {
         Ok(()) => ExitCode::SUCCESS,
@@ -25,10 +27,11 @@ fn main() -> ExitCode {
     }
 }
 
-fn print_answers(script: &str, calls: &str) -> Result<(), Box<dyn Error>> {
+fn print_answers(script: &str, calls: &str, edition: &str) -> Result<(), Box<dyn Error>> {
+    let edition = edition.parse()?;
     let script = fs::read(script)?;
     let calls = lists::parse(&fs::read_to_string(calls)?).map_err(|bad| bad.to_string())?;
-    let text = printout::answers(Engine::default(), &script, &calls);
+    let text = printout::answers(Engine::default(), &script, edition, &calls);
     match io::stdout().lock().write_all(text.as_bytes()) {
         Err(error) if error.kind() == io::ErrorKind::BrokenPipe => Ok(()),
         ended => Ok(ended?),

@@ -222,7 +222,7 @@ fn whole_step(random: &mut Random, network: &Network, location: &str) -> Vec<Rec
     let mut records = Vec::new();
     loop {
         let enabled = enabled(&components, Some(location));
-        let forced = rules.forced(&components, location);
+        let forced = rules.forced(&network.script, &components, location);
         if enabled.is_empty() || (!forced && random.chance(1, 2)) {
             return records;
         }

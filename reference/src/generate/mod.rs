@@ -23,6 +23,7 @@ pub mod vectors;
 use crate::calls::Engine;
 use crate::lists::Call;
 use crate::random::Random;
+use crate::term::Edition;
 
 /// The seed of one script among many, far from those of its neighbours.
 pub fn seed(seed: u64, index: u64) -> u64 {
@@ -50,10 +51,11 @@ pub fn script_to_run(seed: u64) -> Vec<u8> {
     }
 }
 
-/// A list of calls for a text; empty if the text is refused.
-pub fn calls(seed: u64, script: &[u8]) -> Vec<Call> {
+/// A list of calls for a text, made by following its network under an edition;
+/// empty if the text is refused.
+pub fn calls(seed: u64, script: &[u8], edition: Edition) -> Vec<Call> {
     let mut random = Random::new(seed ^ 0x5eed_ca11);
-    match Engine::default().read(script) {
+    match Engine::default().read(script, edition.number()) {
         Ok(network) => {
             let count = random.between(100, 500);
             call_list::calls(&mut random, network, count)

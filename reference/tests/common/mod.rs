@@ -3,22 +3,32 @@
 
 use timo_reference::calls::{Engine, Record};
 use timo_reference::refusal::Refusal;
-use timo_reference::term::Network;
+use timo_reference::term::{Edition, Network};
 use timo_reference::writing;
 
 pub fn engine() -> Engine {
     Engine::default()
 }
 
+/// The network of a text under edition 1.
 pub fn read(text: &str) -> Network {
+    read_under(Edition::One, text)
+}
+
+pub fn read_under(edition: Edition, text: &str) -> Network {
     engine()
-        .read(text.as_bytes())
+        .read(text.as_bytes(), edition.number())
         .unwrap_or_else(|refusal| panic!("{refusal}: {text}"))
 }
 
-/// The number of the question that refuses a text, 0 if it is read.
+/// The number of the question that refuses a text under edition 1, 0 if it is
+/// read.
 pub fn question(text: impl AsRef<[u8]>) -> u8 {
-    number(engine().read(text.as_ref()))
+    question_under(1, text)
+}
+
+pub fn question_under(edition: u32, text: impl AsRef<[u8]>) -> u8 {
+    number(engine().read(text.as_ref(), edition))
 }
 
 pub fn number<T>(answer: Result<T, Refusal>) -> u8 {

@@ -4,7 +4,7 @@ use borrow.Author.Tests.{lt-ltb, le-ltb, eq-eqb, ne-eqb}
 use Rattle.table.specs.Words.{headAt}
 use Rattle.calls_tick.specs.Turn.{waitTurn, firstTurn}
 use Rattle.calls_act.proofs.Heads.{place-fits}
-use Rattle.table.proofs.Tests.{part-fine, comp-fine}
+use Rattle.table.proofs.Tests.{part-fine, comp-fine, script-fine}
 use borrow.Author.Needs.{needs}
 use Rattle.calls_tick.proofs.pass.first_turn.Statement.{statement}
 use Rattle.calls_tick.proofs.pass.first_turn.Tie as tie
@@ -31,7 +31,7 @@ wait-turn-requires : tie.Need-wait-turn-requires
 wait-turn-requires c κs =
     let a = c .before .before .before .before .before .before .args in
     let q = c .before .before .before .before .before .before .pre in
-    (rw (c .head-at .ensures, c .before .wide .ensures) (part-fine (a .w .now) (q .0) (a .c .place) (comp-fine (a .w .now) (a .c) (q .1) .place) .head), place-fits (a .w .now) (a .c) (q .0) (q .1))
+    (rw (c .head-at .ensures, c .before .wide .ensures) (part-fine (a .w .now) (q .0) (a .c .place) (comp-fine (a .w .now) (a .c) (q .1) .place) .head), place-fits (a .w .now) (a .c) (q .0) (q .1), script-fine (a .w .now) (q .0) .edition)
 
 returns-3 : tie.Need-returns-3
 unfolding firstTurn

@@ -16,13 +16,13 @@ else-turn-requires : tie.Need-else-turn-requires
 else-turn-requires c κs =
     let a = c .before .before .before .args in
     let h = c .before .h .given in
-    omega (arith, out-fine (a .w .now) (a .c .place) (h .0 .0) (h .0 .1 .0) (h .0 .1 .1 .0) (h .0 .1 .1 .1 .0) (h .0 .1 .1 .1 .1 .0) (subst (λ z. headOk (a .w .now) (a .c .place) z ≡ true) (h .1) (c .before .before .before .pre .0)) .second .lesser, c .before .before .before .pre .1)
+    (omega (arith, out-fine (a .w .now) (a .c .place) (h .0 .0) (h .0 .1 .0) (h .0 .1 .1 .0) (h .0 .1 .1 .1 .0) (h .0 .1 .1 .1 .1 .0) (subst (λ z. headOk (a .w .now) (a .c .place) z ≡ true) (h .1) (c .before .before .before .pre .0)) .second .lesser, c .before .before .before .pre .1), c .before .before .before .pre .2)
 
 else-turn-requires-2 : tie.Need-else-turn-requires-2
 else-turn-requires-2 c κs =
     let a = c .before .before .before .args in
     let h = c .before .h2 .given in
-    omega (arith, in-fine (a .w .now) (a .c .place) (h .0 .0) (h .0 .1 .0) (h .0 .1 .1 .0) (h .0 .1 .1 .1 .0) (h .0 .1 .1 .1 .1 .0) (subst (λ z. headOk (a .w .now) (a .c .place) z ≡ true) (h .1) (c .before .before .before .pre .0)) .second .lesser, c .before .before .before .pre .1)
+    (omega (arith, in-fine (a .w .now) (a .c .place) (h .0 .0) (h .0 .1 .0) (h .0 .1 .1 .0) (h .0 .1 .1 .1 .0) (h .0 .1 .1 .1 .1 .0) (subst (λ z. headOk (a .w .now) (a .c .place) z ≡ true) (h .1) (c .before .before .before .pre .0)) .second .lesser, c .before .before .before .pre .1), c .before .before .before .pre .2)
 
 returns : tie.Need-returns
 unfolding waitTurn
