@@ -1,6 +1,7 @@
 /* The library from C, and as it stands from C++: document 01's network read,
  * stepped and printed as timorun prints it, then the single calls, what is
- * refused, and a text under both editions. Every function of timo.h is called. */
+ * refused, a text under both editions, and an embargo by rights. Every function of
+ * timo.h is called. */
 #include <stdio.h>
 #include <string.h>
 #include "timo.h"
@@ -14,13 +15,23 @@ static const char page[] =
 static const char chances[] =
     "A[out(c,1,A,stop,stop) | in(c,1,x,stop,stop)] | B[out(c,1,B,stop,in(d,1,y,stop,go(1,B,stop)))] .\n";
 
+/* A page from the scanner and two from the vault that all want to be shelved in
+ * the public index, one of them by way of the desk. */
+static const char pages[] =
+    "Scanner[go(0,Public,out(shelf,1,Public,stop,go(inf,Scanner,stop)))] | "
+    "Vault[go(0,Public,out(shelf,1,Public,stop,stop)) | go(0,Desk,go(0,Public,out(shelf,1,Public,stop,stop)))] | "
+    "Public[in(shelf,inf,x,stop,stop)] .\n";
+
 static uint32_t script[TIMO_WORDS], other[TIMO_WORDS];
+
+static struct timo_reading read_with(const char *text, struct timo_settings settings, uint32_t words[TIMO_WORDS])
+{
+    return timo_read((const uint8_t *)text, strlen(text), settings, words);
+}
 
 static struct timo_reading read_text(const char *text, uint32_t edition, uint32_t words[TIMO_WORDS])
 {
-    struct timo_settings settings;
-    settings.edition = edition;
-    return timo_read((const uint8_t *)text, strlen(text), settings, words);
+    return read_with(text, timo_all_rights(edition), words);
 }
 
 static void refused(const char *what, uint32_t code)
@@ -39,7 +50,7 @@ static void put(struct timo_written written, const uint8_t *bytes)
 
 static void put_network(const struct timo_state *state)
 {
-    uint8_t text[256];
+    uint8_t text[512];
     put(timo_write(script, &state->c, state->n, text, sizeof text), text);
 }
 
@@ -49,19 +60,31 @@ static void put_location(const struct timo_state *state, uint32_t l)
     put(timo_location_name(script, &state->c, state->n, l, name, sizeof name), name);
 }
 
+static void put_channel(const struct timo_state *state, uint32_t h)
+{
+    uint8_t name[TIMO_NAME];
+    put(timo_channel_name(script, &state->c, state->n, h, name, sizeof name), name);
+}
+
 /* What there is, what must happen, and the line of the step to come. */
 static uint32_t look(const struct timo_state *state)
 {
     uint8_t line[TIMO_LINE];
     struct timo_counted locations = timo_locations(script, &state->c, state->n);
+    struct timo_counted channels = timo_channels(script, &state->c, state->n);
     struct timo_report forced = timo_forced(script, &state->c, state->n);
-    uint32_t l;
+    uint32_t l, h;
 
     put_network(state);
     printf("%u locations:", (unsigned)locations.count);
     for (l = 0; l < locations.count; l++) {
         putchar(' ');
         put_location(state, l);
+    }
+    printf("; %u channel:", (unsigned)channels.count);
+    for (h = 0; h < channels.count; h++) {
+        putchar(' ');
+        put_channel(state, h);
     }
     printf("\nforced: %u, the lowest ", (unsigned)forced.count);
     put_location(state, forced.lowest);
@@ -116,9 +139,7 @@ static void single_calls(struct timo_state state)
 
 static void refusals(struct timo_state state, uint32_t locations)
 {
-    struct timo_settings settings = {1};
-
-    refused("no text", timo_read(NULL, 0, settings, other).code);
+    refused("no text", timo_read(NULL, 0, timo_all_rights(1), other).code);
     refused("edition 3", read_text(page, 3, other).code);
     refused("no text, no edition", read_text("", 0, other).code);
     refused("unbound variable", read_text("A[go(1,x,stop)] .", 1, other).code);
@@ -156,6 +177,60 @@ static void editions(void)
     refused("no edition in the table", timo_tick(script, &state.c, state.n, 1).code);
 }
 
+/* The number of a location by its name, which the network must have. */
+static uint32_t number_of(const struct timo_state *state, const char *wanted)
+{
+    uint8_t name[TIMO_NAME];
+    uint32_t l;
+
+    for (l = 0; l < timo_locations(script, &state->c, state->n).count; l++) {
+        struct timo_written written = timo_location_name(script, &state->c, state->n, l, name, sizeof name);
+        if (written.len == strlen(wanted) && memcmp(name, wanted, written.len) == 0)
+            break;
+    }
+    return l;
+}
+
+/* Two rounds of steps over all locations, and what they leave. */
+static void rounds(struct timo_state state)
+{
+    uint32_t l;
+    int round;
+
+    for (round = 0; round < 2; round++)
+        for (l = 0; l < timo_locations(script, &state.c, state.n).count; l++)
+            step(&state, l);
+    put_network(&state);
+}
+
+/* An embargo: no right leads out of the vault and the desk. So neither page from
+ * the vault reaches the public index, the one that may go to the desk included. No
+ * tick waits for them, and their timers stay 0. Then the public index may not
+ * receive: the page that is there takes its time-out. */
+static void rights(void)
+{
+    static const char *const inside[] = {"Vault", "Desk"}, *const outside[] = {"Scanner", "Public"};
+    struct timo_settings settings = timo_all_rights(1);
+    struct timo_state state = read_with(pages, settings, script).state, open = state;
+    uint32_t index = number_of(&state, "Public");
+    int i, o;
+
+    for (i = 0; i < 2; i++)
+        for (o = 0; o < 2; o++)
+            settings.rights[number_of(&state, inside[i])].leave[number_of(&state, outside[o])] = false;
+    printf("embargo:\n");
+    state = read_with(pages, settings, other).state;
+    printf("same text, other rights: same %s\n", timo_same(script, &open.c, open.n, other, &state.c, state.n).yes ? "yes" : "no");
+    read_with(pages, settings, script);
+    refused("from the vault", timo_action(script, &state.c, state.n, TIMO_MOVE, 1, 0).code);
+    rounds(state);
+    settings.rights[index].receive[0] = false;
+    printf("nothing is received on ");
+    put_channel(&state, 0);
+    printf(" there:\n");
+    rounds(read_with(pages, settings, script).state);
+}
+
 int main(void)
 {
     struct timo_reading reading = read_text(page, 1, script);
@@ -177,6 +252,7 @@ int main(void)
     single_calls(reading.state);
     refusals(reading.state, locations);
     editions();
+    rights();
     length = timo_printout((const uint8_t *)page, strlen(page), printed, sizeof printed);
     printf("printout: %zu bytes, %zu where none are lent\n", length, timo_printout((const uint8_t *)page, strlen(page), NULL, 0));
     fwrite(printed, 1, length, stdout);

@@ -1,6 +1,6 @@
 /* The proved step engine for TiMo as a library, for C99 and C++11 on x86-64.
  *
- * A network is a script, 99,984 words that reading writes and no other call
+ * A network is a script, 111,888 words that reading writes and no other call
  * changes, and a state, the components. Every call on a network takes tables of
  * any content and first asks question 17: does the table stand for a network? A
  * call that is refused answers the question's number as its code; what was lent
@@ -21,14 +21,28 @@
  * timo_same depends on it. The script has it in one word, TIMO_EDITION, which
  * reading writes; a text that is written does not show it.
  *
+ * Rights. A text is read with rights, which stay with the network too: for each
+ * location a row with a right to send and a right to receive on each channel, and
+ * a right to leave for each other location, by the numbers of locations and
+ * channels. A communication needs both rights of its location for its channel, a
+ * move the right to leave for its target, a call none; a move to its own location
+ * needs none, and that right is not looked at. An action that lacks its right
+ * cannot fire: as a single action or in a proposal it is refused by 20, a step
+ * passes over it, no tick waits for it, and a `go` with timer 0 keeps timer 0.
+ * So a component stands only where what it came from was read, or where a chain
+ * of rights to leave leads from there. Rows and rights of numbers that the text
+ * does not have are not looked at. Nothing else depends on rights: a text that is
+ * written does not show them, and timo_same passes over them.
+ *
  * Words that are not in use. No call looks at the spare words of a component,
  * at the ledger behind the components or at positions past the components in
  * use. After an accepted action, tick, step or proposal all of them are as they
  * were; reading returns zeros there. Of the words of a script behind the row of
- * its last part the calls look at TIMO_EDITION and, in a table made by hand, at
- * names that a scope has there; reading writes TIMO_EDITION and leaves the others
- * as they were. A later version may give such words a meaning: a host that makes
- * tables itself sets them to 0, but writes 1 or 2 into TIMO_EDITION.
+ * its last part the calls look at TIMO_EDITION, at the rights and, in a table made
+ * by hand, at names that a scope has there; reading writes TIMO_EDITION and the
+ * rights and leaves the others as they were. A later version may give such words
+ * a meaning: a host that makes tables itself sets them to 0, but writes 1 or 2
+ * into TIMO_EDITION, and 1 where a right is given.
  *
  * Threads. The calls share nothing and keep nothing, so that several threads
  * may call at the same time, also with one script.
@@ -51,10 +65,12 @@
 extern "C" {
 #endif
 
-#define TIMO_WORDS 99984      /* words of a script */
+#define TIMO_WORDS 111888     /* words of a script */
 #define TIMO_EDITION 99592    /* the word of a script that holds its edition, 1 or 2 */
+#define TIMO_RIGHTS 99600     /* where in a script the rights begin, in the order of timo_settings: 1 is a right, any other word none */
 #define TIMO_COMPONENTS 256   /* components of a state; no step has more actions */
 #define TIMO_LOCATIONS 64     /* most locations of a network */
+#define TIMO_CHANNELS 64      /* most channels of a network */
 #define TIMO_UNMARKED 64      /* the mark of a component that has none */
 #define TIMO_INF 1000001      /* the timer inf */
 
@@ -64,14 +80,24 @@ extern "C" {
 
 /* So many bytes hold every such text; none of them ends with a zero byte. */
 #define TIMO_TEXT 65535       /* a text that is read */
-#define TIMO_NAME 16          /* the name of a location */
+#define TIMO_NAME 16          /* the name of a location or a channel */
 #define TIMO_LABEL 51         /* a label */
 #define TIMO_LINE 13329       /* the line of a step, with its line feed */
 #define TIMO_PRINTOUT 3477760 /* a printout */
 
-/* What is given with a text at reading; later versions add to it. */
+/* The rights of a location: to send and to receive on a channel, and to leave for
+ * another location, by number. */
+struct timo_row {
+    bool send[TIMO_CHANNELS];
+    bool receive[TIMO_CHANNELS];
+    bool leave[TIMO_LOCATIONS];
+};
+
+/* What is given with a text at reading; later versions add to it.
+ * timo_all_rights has an edition with all rights. */
 struct timo_settings {
     uint32_t edition;         /* 1 or 2 */
+    struct timo_row rights[TIMO_LOCATIONS]; /* a row for each location */
 };
 
 /* A component: the numbers of its location and its owner, the place of its
@@ -153,12 +179,18 @@ struct timo_counted {
     uint32_t count;           /* 0 where code is not 0 */
 };
 
-/* Reading: the network of a text of n bytes under the edition given, its script
- * in the words lent and its components in the state returned. The words may hold
- * anything before. Locations and channels are numbered by first place in the
- * text; components stand in text order, unmarked. A refusal leaves the words
- * unchanged and returns a state of zeros. Refusals: 21 for an edition that is
- * neither 1 nor 2, then 1 to 7. It goes one level deeper for each level of
+/* An edition with all rights, to be read with or to take rights from. It is never
+ * refused: an edition that is neither 1 nor 2 is refused at reading. */
+struct timo_settings timo_all_rights(uint32_t edition);
+
+/* Reading: the network of a text of n bytes under the edition and with the rights
+ * given, its script in the words lent and its components in the state returned.
+ * The words may hold anything before. Locations and channels are numbered by first
+ * place in the text, which timo_location_name and timo_channel_name show of a
+ * network read with all rights; components stand in text order, unmarked. A
+ * refusal leaves the words unchanged and returns a state of zeros. Refusals: 21
+ * for an edition that is neither 1 nor 2, then 1 to 7; none is about rights. It
+ * goes one level deeper for each level of
  * nesting in the text, at most 9,361, and needs up to 1.8 MiB of stack. A text of
  * no bytes is refused by 2. */
 struct timo_reading timo_read(const uint8_t *text, size_t n, struct timo_settings settings, uint32_t script[TIMO_WORDS]);
@@ -168,7 +200,7 @@ bool timo_valid(const uint32_t script[TIMO_WORDS], const struct timo_comps *c, s
 
 /* A single action of kind 1 (call at p), 2 (move at p) or 3 (output at p,
  * input at q). For kinds 1 and 2 q is not looked at. Refusals: 17, 8, 9, 10,
- * 11, in this order. */
+ * 11, 20, in this order. */
 struct timo_acted timo_action(const uint32_t script[TIMO_WORDS], struct timo_comps *c, size_t n, uint32_t kind, size_t p, size_t q);
 
 /* The tick at location l: what is ready there is lowered by one or, if it is an
@@ -184,14 +216,15 @@ struct timo_stepped timo_step(const uint32_t script[TIMO_WORDS], struct timo_com
 
 /* A proposal at location l: the records in order, so many as are given, then
  * the tick, all or none. Refusals: 17, 8 for the location, for each record 8, 9,
- * 10, 11, 16, then 12, 13. */
+ * 10, 11, 20, 16, then 12, 13. */
 struct timo_ticked timo_propose(const uint32_t script[TIMO_WORDS], struct timo_comps *c, size_t n, uint32_t l, const struct timo_record *records, size_t given);
 
 /* The locations where the tick is not allowed. Refusal: 17. */
 struct timo_report timo_forced(const uint32_t script[TIMO_WORDS], const struct timo_comps *c, size_t n);
 
-/* The network as text in the bytes lent; it does not show the edition, and is
- * to be read back under the script's own. Bytes past the length are unchanged.
+/* The network as text in the bytes lent; it shows neither the edition nor the
+ * rights, and is to be read back under the script's own edition and with rights
+ * given again, by the numbers that names have in it. Bytes past the length are unchanged.
  * Refusals: 17, 14, 15. What a text of at most TIMO_TEXT bytes gives can still
  * be longer than that, with values put in. */
 struct timo_written timo_write(const uint32_t script[TIMO_WORDS], const struct timo_comps *c, size_t n, uint8_t *bytes, size_t lent);
@@ -212,8 +245,13 @@ struct timo_counted timo_locations(const uint32_t script[TIMO_WORDS], const stru
 /* The name of location l. Refusals: 17, 8, 15. */
 struct timo_written timo_location_name(const uint32_t script[TIMO_WORDS], const struct timo_comps *c, size_t n, uint32_t l, uint8_t *bytes, size_t lent);
 
+/* How many channels there are, and the name of channel h. Refusals: 17; and 17, 8,
+ * 15. */
+struct timo_counted timo_channels(const uint32_t script[TIMO_WORDS], const struct timo_comps *c, size_t n);
+struct timo_written timo_channel_name(const uint32_t script[TIMO_WORDS], const struct timo_comps *c, size_t n, uint32_t h, uint8_t *bytes, size_t lent);
+
 /* The label of an action, `id@l`, `v@l` or `c<v>@l`. Refusals: 17, then 8, 9,
- * 10, 11 as for timo_action, then 15. For a record of a step it is asked with
+ * 10, 11, 20 as for timo_action, then 15. For a record of a step it is asked with
  * the components as they were before the step, for each of its records alike:
  * an action of a step has the same label there (the law step-before of
  * crates/run_line). */
@@ -224,8 +262,8 @@ struct timo_written timo_action_label(const uint32_t script[TIMO_WORDS], const s
  * Refusals: 17, 8, 13 as for the step, then 15. */
 struct timo_written timo_step_line(const uint32_t script[TIMO_WORDS], const struct timo_comps *c, size_t n, uint32_t l, uint8_t *bytes, size_t lent);
 
-/* The whole printout of a text of n bytes, as timorun prints it, under edition 1,
- * refusals included. It returns the printout's length, at most TIMO_PRINTOUT, whatever
+/* The whole printout of a text of n bytes, as timorun prints it, under edition 1
+ * and with all rights, refusals included. It returns the printout's length, at most TIMO_PRINTOUT, whatever
  * is lent. Fewer bytes get the printout's first ones; with more, those past the
  * length are unchanged. */
 size_t timo_printout(const uint8_t *text, size_t n, uint8_t *bytes, size_t lent);
@@ -239,7 +277,8 @@ size_t timo_printout(const uint8_t *text, size_t n, uint8_t *bytes, size_t lent)
 #define TIMO_ASSERT(test)
 #endif
 TIMO_ASSERT(sizeof(size_t) == 8 && sizeof(bool) == 1)
-TIMO_ASSERT(sizeof(struct timo_settings) == 4)
+TIMO_ASSERT(sizeof(struct timo_row) == 192 && offsetof(struct timo_row, receive) == 64 && offsetof(struct timo_row, leave) == 128)
+TIMO_ASSERT(sizeof(struct timo_settings) == 12292 && offsetof(struct timo_settings, rights) == 4)
 TIMO_ASSERT(sizeof(struct timo_comp) == 64 && offsetof(struct timo_comp, vals) == 16 && offsetof(struct timo_comp, spare) == 48)
 TIMO_ASSERT(sizeof(struct timo_comps) == 16448 && offsetof(struct timo_comps, ledger) == 16384)
 TIMO_ASSERT(sizeof(struct timo_state) == 16456 && offsetof(struct timo_state, n) == 16448)

@@ -273,7 +273,7 @@ def roots_of(page):
     """The nodes of the outward contracts, and all others that the table names."""
     outward, others = set(), set()
     for name, where, crate in ROOT.findall(page):
-        if where.endswith("Examples.antt"):
+        if name == "*":
             others |= from_examples(where)
         elif where.endswith(".antt"):
             others |= from_theorem(where, name)

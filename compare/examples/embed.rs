@@ -1,7 +1,8 @@
 //! The library from Rust: what `examples/embed.c` does, and the same printout.
 
 use compare::timo::{
-    printout, read_into, words_of, Record, Settings, Table, EDITION, LABEL, LINE, NAME, PRINTOUT,
+    all_rights, printout, read_into, words_of, Record, Settings, Table, EDITION, LABEL, LINE, NAME,
+    PRINTOUT,
 };
 
 const PAGE: &[u8] = b"Page(x) = go(0,x,out(c,1,x,stop,stop)) .\n\
@@ -11,6 +12,13 @@ const PAGE: &[u8] = b"Page(x) = go(0,x,out(c,1,x,stop,stop)) .\n\
 /// its Q.
 const CHANCES: &[u8] = b"A[out(c,1,A,stop,stop) | in(c,1,x,stop,stop)] | \
     B[out(c,1,B,stop,in(d,1,y,stop,go(1,B,stop)))] .\n";
+
+/// A page from the scanner and two from the vault that all want to be shelved in
+/// the public index, one of them by way of the desk.
+const PAGES: &[u8] = b"Scanner[go(0,Public,out(shelf,1,Public,stop,go(inf,Scanner,stop)))] | \
+    Vault[go(0,Public,out(shelf,1,Public,stop,stop)) | \
+    go(0,Desk,go(0,Public,out(shelf,1,Public,stop,stop)))] | \
+    Public[in(shelf,inf,x,stop,stop)] .\n";
 
 /// The bytes that a call wrote, or its refusal.
 fn put(answer: Result<usize, u32>, bytes: &[u8]) {
@@ -33,7 +41,7 @@ fn yes_or_no(yes: bool) -> &'static str {
 }
 
 fn put_network(table: &Table) {
-    let mut text = [0; 256];
+    let mut text = [0; 512];
     put(table.write(&mut text), &text);
 }
 
@@ -42,16 +50,27 @@ fn put_location(table: &Table, location: u32) {
     put(table.location_name(location, &mut name), &name);
 }
 
+fn put_channel(table: &Table, channel: u32) {
+    let mut name = [0; NAME];
+    put(table.channel_name(channel, &mut name), &name);
+}
+
 /// What there is, what must happen, and the line of the step to come.
 fn look(table: &Table) -> Result<u32, u32> {
     let mut line = [0; LINE];
     let locations = table.locations()?;
+    let channels = table.channels()?;
     let forced = table.forced()?;
     put_network(table);
     print!("{locations} locations:");
     for location in 0..locations {
         print!(" ");
         put_location(table, location);
+    }
+    print!("; {channels} channel:");
+    for channel in 0..channels {
+        print!(" ");
+        put_channel(table, channel);
     }
     print!("\nforced: {}, the lowest ", forced.count);
     put_location(table, forced.lowest);
@@ -101,13 +120,12 @@ fn single_calls(table: &Table) -> Result<(), u32> {
 }
 
 fn refusals(mut table: Table, locations: u32) {
-    let settings = Settings { edition: 1 };
+    let settings = Settings::EDITION_1;
     let mut words = words_of(0);
     let code = read_into(b"", settings, &mut words).code;
     println!("no text: refused {code}");
-    refused("edition 3", Table::read(PAGE, Settings { edition: 3 }));
-    let none = Table::read(b"", Settings { edition: 0 });
-    refused("no text, no edition", none);
+    refused("edition 3", Table::read(PAGE, all_rights(3)));
+    refused("no text, no edition", Table::read(b"", all_rights(0)));
     let unbound = Table::read(b"A[go(1,x,stop)] .", settings);
     refused("unbound variable", unbound);
     refused("no such location", table.location_name(locations, &mut []));
@@ -126,7 +144,7 @@ fn refusals(mut table: Table, locations: u32) {
 /// lowered in the same tick.
 fn editions() -> Result<(), u32> {
     for edition in [1, 2] {
-        let mut table = Table::read(CHANCES, Settings { edition })?;
+        let mut table = Table::read(CHANCES, all_rights(edition))?;
         println!("edition {}:", table.words[EDITION]);
         refused("tick first", table.tick(0));
         step(&mut table, 0)?;
@@ -135,8 +153,8 @@ fn editions() -> Result<(), u32> {
             put_network(&table);
         }
     }
-    let one = Table::read(CHANCES, Settings { edition: 1 })?;
-    let mut two = Table::read(CHANCES, Settings { edition: 2 })?;
+    let one = Table::read(CHANCES, Settings::EDITION_1)?;
+    let mut two = Table::read(CHANCES, Settings::EDITION_2)?;
     let same = yes_or_no(one.same(&two)?);
     println!("same text, other edition: same {same}");
     two.words[EDITION] = 0;
@@ -144,8 +162,56 @@ fn editions() -> Result<(), u32> {
     Ok(())
 }
 
+/// The number of a location by its name, which the network must have.
+fn number_of(table: &Table, wanted: &str) -> Result<usize, u32> {
+    let mut name = [0; NAME];
+    for location in 0..table.locations()? {
+        let length = table.location_name(location, &mut name)?;
+        if &name[..length] == wanted.as_bytes() {
+            return Ok(location as usize);
+        }
+    }
+    Err(8)
+}
+
+/// Two rounds of steps over all locations, and what they leave.
+fn rounds(mut table: Table) -> Result<(), u32> {
+    for _ in 0..2 {
+        for location in 0..table.locations()? {
+            step(&mut table, location)?;
+        }
+    }
+    put_network(&table);
+    Ok(())
+}
+
+/// An embargo: no right leads out of the vault and the desk. So neither page from
+/// the vault reaches the public index, the one that may go to the desk included.
+/// No tick waits for them, and their timers stay 0. Then the public index may not
+/// receive: the page that is there takes its time-out.
+fn rights() -> Result<(), u32> {
+    let mut settings = all_rights(1);
+    let open = Table::read(PAGES, settings)?;
+    for from in ["Vault", "Desk"] {
+        for to in ["Scanner", "Public"] {
+            settings.rights[number_of(&open, from)?].leave[number_of(&open, to)?] = false;
+        }
+    }
+    println!("embargo:");
+    let mut table = Table::read(PAGES, settings)?;
+    let same = yes_or_no(open.same(&table)?);
+    println!("same text, other rights: same {same}");
+    refused("from the vault", table.action(2, 1, 0));
+    rounds(table)?;
+    settings.rights[number_of(&open, "Public")?].receive[0] = false;
+    print!("nothing is received on ");
+    put_channel(&open, 0);
+    println!(" there:");
+    rounds(Table::read(PAGES, settings)?)
+}
+
 fn main() -> Result<(), u32> {
-    let read = Table::read(PAGE, Settings { edition: 1 })?;
+    let read = Table::read(PAGE, Settings::EDITION_1)?;
     let mut table = read.clone();
     let locations = look(&table)?;
     for _ in 0..4 {
@@ -157,6 +223,7 @@ fn main() -> Result<(), u32> {
     single_calls(&read)?;
     refusals(read, locations);
     editions()?;
+    rights()?;
     let mut printed = vec![0; PRINTOUT];
     let length = printout(PAGE, &mut printed);
     let measured = printout(PAGE, &mut []);

@@ -4,7 +4,9 @@
 
 use timo_reference::calls::Engine;
 use timo_reference::random::Random;
-use timo_reference::table::{Fault, DEFINITIONS, EDITION, LOCATIONS, PARTS, ROW};
+use timo_reference::table::{
+    Fault, DEFINITIONS, EDITION, LOCATIONS, PARTS, RIGHTS, RIGHTS_ROW, ROW,
+};
 use timo_reference::term::Network;
 
 use crate::agree::{equal, Agreed};
@@ -112,8 +114,14 @@ pub fn refused_by_all(table: &Table) -> Agreed {
         after.write(&mut bytes).err(),
         after.write(&mut []).err(),
         after.same(table).err(),
+        after.locations().err(),
+        after.channels().err(),
+        after.location_name(0, &mut bytes).err(),
+        after.channel_name(64, &mut []).err(),
+        after.action_label(1, 0, 0, &mut bytes).err(),
+        after.step_line(0, &mut bytes).err(),
     ];
-    equal("calls on a bad table", &codes, &[Some(17); 12])?;
+    equal("calls on a bad table", &codes, &[Some(17); 18])?;
     let lent = records == [[77; 3]; 2] && bytes == [b'#'; 8];
     let kept = after.state == table.state && after.words == table.words && lent;
     equal("table and buffers kept by 17", &kept, &true)
@@ -185,6 +193,13 @@ fn variations(random: &mut Random, table: &Table) -> Vec<(&'static str, Table)> 
     });
     add("no edition", &mut |other| {
         other.words[EDITION] = *random.pick(&[0, 3, u32::MAX]);
+    });
+    add("other rights", &mut |other| {
+        *other = other.with_other_rights();
+    });
+    add("a right that is none", &mut |other| {
+        let at = RIGHTS + random.below(2 * RIGHTS_ROW);
+        other.words[at] = *random.pick(&[0, 1, 2, 257, u32::MAX]);
     });
     add("a tick", &mut |other| {
         let _ = other.tick(location);

@@ -1,4 +1,5 @@
-//! A script and a list of calls through both engines, under an edition.
+//! A script and a list of calls through both engines, under an edition and with
+//! rights.
 
 use timo_reference::calls::{Engine, Numbers, Record};
 use timo_reference::generate::call_list;
@@ -31,12 +32,13 @@ const LEDGER: [u32; 16] = [79; 16];
 /// Calls on a network made by hand.
 const ANY_CALLS: usize = 12;
 
-/// How many calls were accepted and refused by both, and how many pairs of
-/// networks are the same and not the same by both.
+/// How many calls were accepted and refused by both, how many of these for want of
+/// a right, and how many pairs of networks are the same and not the same by both.
 #[derive(Clone, Copy, Debug, Default)]
 pub struct Tally {
     pub accepted: usize,
     pub refused: usize,
+    pub lacking: usize,
     pub pairs: alike::Tally,
 }
 
@@ -44,6 +46,7 @@ impl Tally {
     pub fn add(&mut self, other: Tally) {
         self.accepted += other.accepted;
         self.refused += other.refused;
+        self.lacking += other.lacking;
         self.pairs.same += other.pairs.same;
         self.pairs.not_same += other.pairs.not_same;
         self.pairs.refused += other.pairs.refused;
@@ -174,6 +177,7 @@ impl Session {
         let label = theirs.as_ref().ok().map(|(_, label)| label);
         let number = theirs.as_ref().err().map_or(0, |refusal| refusal.number());
         equal("action", &code, &u32::from(number))?;
+        self.tally.lacking += usize::from(code == 20);
         let numbers = self.engine.numbers(&self.network.script, label);
         equal("label in numbers", &numbers_of(ours), &numbers)?;
         if let Ok((network, label)) = theirs {
@@ -266,7 +270,8 @@ impl Session {
     }
 
     /// Where the written text meets the limits, reading it under the network's
-    /// own edition gives the network. The words lent still hold the script.
+    /// own edition gives the network, whatever the rights. The words lent still hold
+    /// the script.
     fn read_back(&self, text: &[u8]) -> Agreed {
         let words = self.table.words.clone();
         let Ok(again) = reading::read_over(text, settings_of(&self.network), words)? else {
@@ -309,16 +314,21 @@ impl Session {
     }
 
     /// Compares the network with the one kept, and with itself under the other
-    /// edition.
+    /// edition and with other rights.
     fn same(&self) -> Agreed {
         self.compared_with(&self.kept.table, &self.kept.network)?;
-        let table = self.table.under_other_edition();
-        let network = table::network(&table).map_err(alike::fault)?;
-        self.compared_with(&table, &network)
+        for table in [
+            self.table.under_other_edition(),
+            self.table.with_other_rights(),
+        ] {
+            let network = table::network(&table).map_err(alike::fault)?;
+            self.compared_with(&table, &network)?;
+        }
+        Ok(())
     }
 
-    /// Reads a text under the network's own edition and compares the network with
-    /// it. The words lent still hold this network's script.
+    /// Reads a text under the network's own edition, with its rights by number, and
+    /// compares the network with it. The words lent still hold this network's script.
     fn like(&self, text: &str) -> Agreed {
         let words = self.table.words.clone();
         let settings = settings_of(&self.network);

@@ -6,7 +6,7 @@
 //! | `timo`    | the library's declarations, and a safe interface to them |
 //! | `table`   | the reference engine's view of a table                   |
 //! | `agree`   | whether both say the same                                |
-//! | `reading` | a text through both readers, under an edition            |
+//! | `reading` | a text through both readers, under what is given with it |
 //! | `alike`   | `same` on networks made from one another                 |
 //! | `tables`  | tables of every sort, made by hand, through both engines |
 //! | `differ`  | a script and a list of calls through both engines        |

@@ -1,16 +1,15 @@
-//! `compare SEED N`: N generated scripts with call lists, and ten times as many
-//! texts of any sort, through the proved engine's library and the reference
-//! engine under both editions, and thirty tables made by hand from each script.
-//! Prints the first
-//! difference with its seed, a shrunken script and list, and ends with status 1;
-//! then puts each wrong variant of the rules in the reference's place and says of
-//! any that no list has told apart.
+//! `compare SEED N`: N generated scripts with rights and call lists, and ten times
+//! as many texts of any sort, through the proved engine's library and the
+//! reference engine under both editions, and thirty tables made by hand from each
+//! script. Prints the first difference with its seed, a shrunken script and list,
+//! and ends with status 1; then puts each wrong variant of the rules in the
+//! reference's place and says of any that no list has told apart.
 
 use std::env;
 use std::process::ExitCode;
 
 use compare::differ::{differ, Difference, Place, Tally};
-use compare::reading;
+use compare::reading::{self, ours, theirs, with_rights};
 use compare::shrink::{shrink, Case};
 use compare::tables;
 use compare::timo::{Settings, Table};
@@ -18,8 +17,9 @@ use timo_reference::calls::Engine;
 use timo_reference::generate::{self, edges};
 use timo_reference::lists::{self, Call};
 use timo_reference::random::Random;
+use timo_reference::rights;
 use timo_reference::rules::Variant;
-use timo_reference::term::Edition;
+use timo_reference::term::{self, Edition, Rights};
 
 /// Texts of any sort to one list.
 const TEXTS: u64 = 10;
@@ -46,15 +46,16 @@ fn main() -> ExitCode {
     }
 }
 
-/// Texts at each limit and past it, and texts of any sort, under both editions
-/// and under none.
+/// Texts at each limit and past it, and texts of any sort, each with some rights
+/// under both editions and under none.
 fn texts(seed: u64, count: u64) -> Result<(), String> {
     let mut numbers = [0; 8];
     let mut random = Random::new(seed);
     let mut read = |name: String, text: Vec<u8>| {
-        let none = no_edition(&mut random);
-        let read = reading::read(&text, none).and(reading::read_under_both(&text));
-        let read = read.map_err(|what| report_of_text(&name, none, &text, what))?;
+        let rights = generate::rights(&mut random);
+        let none = with_rights(no_edition(&mut random), &rights);
+        let read = reading::read(&text, none).and(reading::read_under_both(&text, &rights));
+        let read = read.map_err(|what| report_of_text(&name, none, &rights, &text, what))?;
         numbers[read.err().unwrap_or(0) as usize] += 1;
         Ok::<(), String>(())
     };
@@ -79,20 +80,19 @@ fn texts(seed: u64, count: u64) -> Result<(), String> {
     )
 }
 
-/// Settings that reading refuses by 21.
-fn no_edition(random: &mut Random) -> Settings {
+/// An edition that reading refuses by 21.
+fn no_edition(random: &mut Random) -> u32 {
     let number = random.draw() as u32;
-    let edition = match random.below(4) {
+    match random.below(4) {
         0 => 0,
         1 => 3,
         2 => u32::MAX,
         _ => number.max(3),
-    };
-    Settings { edition }
+    }
 }
 
 /// A script that both read, with its list, which was made by following the script
-/// under its own edition.
+/// under its own edition and with its own rights.
 struct List {
     seed: u64,
     own: Settings,
@@ -101,7 +101,15 @@ struct List {
 }
 
 impl List {
-    /// The list through both engines under an edition.
+    /// Its own rights under an edition.
+    fn under(&self, edition: u32) -> Settings {
+        Settings {
+            edition,
+            ..self.own
+        }
+    }
+
+    /// The list through both engines.
     fn differ(&self, engine: Engine, settings: Settings) -> Result<Tally, Difference> {
         differ(engine, settings, &self.script, &self.calls)
     }
@@ -113,17 +121,28 @@ fn all_lists(seed: u64, count: u64) -> Result<Vec<List>, String> {
         .filter(|list| !list.calls.is_empty())
         .collect();
     println!("{} lists", lists.len());
-    for settings in Settings::BOTH {
-        under(settings, &lists)?;
+    for edition in Edition::BOTH.map(Edition::number) {
+        let name = format!("edition {edition}, own rights");
+        let total = together(&name, &lists, |list| list.under(edition))?;
+        enough(total.lacking > 0, "no action lacks its right")?;
     }
+    let total = together("own edition, all rights", &lists, |list| {
+        Settings::all(list.own.edition)
+    })?;
+    enough(total.lacking == 0, "an action lacks its right")?;
     Ok(lists)
 }
 
-/// All lists under an edition.
-fn under(settings: Settings, lists: &[List]) -> Result<(), String> {
+/// All lists, each with settings of its own.
+fn together(
+    name: &str,
+    lists: &[List],
+    settings: impl Fn(&List) -> Settings,
+) -> Result<Tally, String> {
     let engine = Engine::default();
     let mut total = Tally::default();
     for list in lists {
+        let settings = settings(list);
         let Ok(tally) = list.differ(engine, settings) else {
             let name = format!("list of seed {}", list.seed);
             return Err(report(&name, engine, settings, &list.script, &list.calls));
@@ -131,39 +150,42 @@ fn under(settings: Settings, lists: &[List]) -> Result<(), String> {
         total.add(tally);
     }
     println!(
-        "edition {}, calls by both alike: {} accepted, {} refused; the grouped run holds",
-        settings.edition, total.accepted, total.refused
+        "{name}, calls by both alike: {} accepted, {} refused, {} of them by 20; the grouped run and the chain of leave rights hold",
+        total.accepted, total.refused, total.lacking
     );
     println!(
-        "edition {}, pairs of networks by both alike: {} same, {} not the same, {} refused 17",
-        settings.edition, total.pairs.same, total.pairs.not_same, total.pairs.refused
+        "{name}, pairs of networks by both alike: {} same, {} not the same, {} refused 17",
+        total.pairs.same, total.pairs.not_same, total.pairs.refused
     );
-    enough(total.is_everywhere(), "no call of one sort")
+    enough(total.is_everywhere(), "no call of one sort")?;
+    Ok(total)
 }
 
 /// The editions take turns.
 fn list(seed: u64, index: u64) -> List {
-    let edition = Edition::BOTH[index as usize % 2];
+    let edition = Edition::BOTH[index as usize % 2].number();
     let seed = generate::seed(seed, index);
     let script = generate::script_to_run(seed);
-    let calls = generate::calls(seed, &script, edition);
-    let edition = edition.number();
+    let rights = generate::rights(&mut Random::new(!seed));
+    let own = term::Settings { edition, rights };
+    let calls = generate::calls(seed, &script, &own);
     List {
         seed,
-        own: Settings { edition },
+        own: ours(&own),
         script,
         calls,
     }
 }
 
 /// Tables made by hand from what each script is after some steps, under an edition
-/// by its seed.
+/// by its seed and with its own rights.
 fn all_tables(lists: &[List]) -> Result<(), String> {
     let mut tally = tables::Tally::default();
-    for List { seed, script, .. } in lists {
-        let mut random = Random::new(*seed);
-        let settings = *random.pick(&Settings::BOTH);
-        let good = Table::read(script, settings);
+    for list in lists {
+        let seed = list.seed;
+        let mut random = Random::new(seed);
+        let settings = list.under(*random.pick(&[1, 2]));
+        let good = Table::read(&list.script, settings);
         let mut good = good.map_err(|number| format!("refused {number}"))?;
         for _ in 0..TABLES {
             let mut made = tables::make(&mut random, &good);
@@ -183,7 +205,7 @@ fn all_tables(lists: &[List]) -> Result<(), String> {
 }
 
 /// Each wrong variant differs from the proved engine on some list under its own
-/// edition.
+/// edition and with its own rights.
 fn variants(lists: &[List]) -> Result<(), String> {
     let noticed = |variant: Variant| {
         let engine = Engine::new(variant);
@@ -213,13 +235,28 @@ fn enough(holds: bool, else_say: &str) -> Result<(), String> {
 
 /// The difference in reading a text: under one edition or none, or between the
 /// two.
-fn report_of_text(name: &str, none: Settings, text: &[u8], what: String) -> String {
-    let mut given = Settings::BOTH.into_iter().chain([none]);
+fn report_of_text(
+    name: &str,
+    none: Settings,
+    rights: &Rights,
+    text: &[u8],
+    what: String,
+) -> String {
+    let both = [1, 2].map(|edition| with_rights(edition, rights));
+    let mut given = both.into_iter().chain([none]);
     let differs = |settings: &Settings| reading::read(text, *settings).is_err();
     match given.find(differs) {
         Some(settings) => report(name, Engine::default(), settings, text, &[]),
         None => format!("{name}: {what}"),
     }
+}
+
+/// The rights that a case's script is read with, by name.
+fn rights_of(case: &Case) -> String {
+    let settings = theirs(&case.settings);
+    let read = Engine::default().read(&case.script, &settings);
+    let shown = |network: term::Network| rights::print(&settings.rights, &network.script);
+    read.map_or(String::new(), shown)
 }
 
 /// The difference on a script and a list, both shrunken.
@@ -234,8 +271,9 @@ fn report(name: &str, engine: Engine, settings: Settings, script: &[u8], calls: 
         Place::End => "at the end".to_string(),
     };
     format!(
-        "{name}, edition {}, shrunken:\n{}\n{}differs {place}: {}",
+        "{name}, edition {}, shrunken:\n{}{}\n{}differs {place}: {}",
         settings.edition,
+        rights_of(&case),
         case.script.escape_ascii().to_string().replace("\\n", "\n"),
         lists::print(&case.calls),
         case.difference.what

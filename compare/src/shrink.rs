@@ -1,7 +1,7 @@
-//! A smaller script and a shorter list of calls that still show a difference.
-//! Definitions, located processes and parts are taken away, and parts replaced
-//! by what stands inside them or by `stop`, for as long as a difference
-//! remains.
+//! A smaller script and a shorter list of calls that still show a difference, with
+//! all rights where that shows it too. Definitions, located processes and parts are
+//! taken away, and parts replaced by what stands inside them or by `stop`, for as
+//! long as a difference remains.
 
 use std::iter::successors;
 use std::mem;
@@ -12,6 +12,7 @@ use timo_reference::lists::Call;
 use timo_reference::term::Network;
 
 use crate::differ::{differ, Difference, Place};
+use crate::reading::theirs;
 use crate::timo::Settings;
 
 /// How many changes of one script are tried.
@@ -50,17 +51,24 @@ impl Case {
         Case::of(engine, self.settings, script, calls)
     }
 
-    fn size(&self) -> (usize, usize) {
-        (self.script.len(), self.calls.len())
+    fn size(&self) -> (usize, usize, usize) {
+        let records = self.calls.iter().map(|call| match call {
+            Call::Proposal { records, .. } => records.len(),
+            _ => 0,
+        });
+        (self.script.len(), self.calls.len(), records.sum())
     }
 }
 
 /// Shrinks a case until nothing more can be taken away.
 pub fn shrink(engine: Engine, case: Case) -> Case {
-    let mut case = case;
+    let all = Settings::all(case.settings.edition);
+    let with_all = Case::of(engine, all, &case.script, &case.calls);
+    let mut case = with_all.unwrap_or(case);
     loop {
         let before = case.size();
         case = fewer_calls(engine, case);
+        case = fewer_records(engine, case);
         if case.difference.place == Place::Reading {
             case = fewer_bytes(engine, case);
         }
@@ -86,6 +94,33 @@ fn fewer_calls(engine: Engine, mut case: Case) -> Case {
             end = start.min(case.calls.len());
         }
         length /= 2;
+    }
+    case
+}
+
+/// Takes records out of proposals, the last ones first.
+fn fewer_records(engine: Engine, mut case: Case) -> Case {
+    for at in 0..case.calls.len() {
+        let Some(Call::Proposal { location, records }) = case.calls.get(at).cloned() else {
+            continue;
+        };
+        let mut left = records;
+        for taken in (0..left.len()).rev() {
+            let mut records = left.clone();
+            records.remove(taken);
+            let mut calls = case.calls.clone();
+            calls[at] = Call::Proposal {
+                location,
+                records: records.clone(),
+            };
+            if let Some(found) = case.with(engine, &case.script, &calls) {
+                left = records;
+                case = found;
+            }
+            if case.calls.len() <= at {
+                return case;
+            }
+        }
     }
     case
 }
@@ -139,8 +174,8 @@ fn one_piece_less(engine: Engine, case: &Case) -> Option<Case> {
         );
         let as_they_stand = case.with(engine, &script, &case.calls);
         as_they_stand.or_else(|| {
-            let calls = moved(case, &script)?;
-            case.with(engine, &script, &calls)
+            let (settings, calls) = moved(case, &script)?;
+            Case::of(engine, settings, &script, &calls)
         })
     };
     changes.iter().take(MOST_TRIALS).find_map(again)
@@ -255,10 +290,11 @@ fn pieces(text: &[u8]) -> Vec<Piece> {
 
 // --- calls on a smaller network -------------------------------------------------
 
-/// A case's calls with the positions and location numbers that they have where the
-/// new script lacks some of the old one's components or locations.
-fn moved(case: &Case, script: &[u8]) -> Option<Vec<Call>> {
-    let read = |script: &[u8]| Engine::default().read(script, case.settings.edition);
+/// A case's rights and calls with the positions and numbers that they have where
+/// the new script lacks some of the old one's components, locations or channels.
+fn moved(case: &Case, script: &[u8]) -> Option<(Settings, Vec<Call>)> {
+    let settings = theirs(&case.settings);
+    let read = |script: &[u8]| Engine::default().read(script, &settings);
     let old = read(&case.script).ok()?;
     let new = read(script).ok()?;
     let missing = old.components.len().checked_sub(new.components.len())?;
@@ -289,7 +325,30 @@ fn moved(case: &Case, script: &[u8]) -> Option<Vec<Call>> {
         },
         other => other.clone(),
     };
-    Some(case.calls.iter().map(call).collect())
+    let calls = case.calls.iter().map(call).collect();
+    Some((rights_moved(&case.settings, &old, &new), calls))
+}
+
+/// The rights of the new script's names, those that they had in the old one.
+fn rights_moved(settings: &Settings, old: &Network, new: &Network) -> Settings {
+    let [old, new] = [&old.script, &new.script];
+    let locations = new.locations.iter().map(|name| old.location(name));
+    let channels = new.channels.iter().map(|name| old.channel(name));
+    let [locations, channels]: [Vec<Option<usize>>; 2] = [locations.collect(), channels.collect()];
+    let mut moved = Settings::all(settings.edition);
+    for (row, was) in moved.rights.iter_mut().zip(&locations) {
+        let Some(was) = was else { continue };
+        let was = &settings.rights[*was];
+        let leave = |v: &usize| was.leave[*v];
+        for (right, v) in row.leave.iter_mut().zip(&locations) {
+            *right = v.as_ref().is_none_or(leave);
+        }
+        for (number, channel) in channels.iter().enumerate() {
+            row.send[number] = channel.is_none_or(|c| was.send[c]);
+            row.receive[number] = channel.is_none_or(|c| was.receive[c]);
+        }
+    }
+    moved
 }
 
 fn renumbered(old: &Network, new: &Network, location: u32) -> u32 {

@@ -1,6 +1,6 @@
 //! Tables of every sort, made by hand from a valid one: words changed anywhere,
 //! scopes with names of every sort, rows that nothing reaches, editions of every
-//! number, words of any content. Question 17 by both engines; where both say yes the network runs
+//! number, rights of every word, words of any content. Question 17 by both engines; where both say yes the network runs
 //! through both, where both say no every call refuses 17.
 
 use std::collections::{BTreeMap, BTreeSet};
@@ -8,8 +8,8 @@ use std::fmt;
 
 use timo_reference::random::Random;
 use timo_reference::table::{
-    Test, CHANNELS, DEFINITIONS, EDITION, IN_SCOPE, LOCATIONS, NAME, OWN, PARTS, PARTS_END, ROW,
-    SCOPE, SCRIPT,
+    Test, CHANNELS, DEFINITIONS, EDITION, IN_SCOPE, LOCATIONS, NAME, OWN, PARTS, PARTS_END, RIGHTS,
+    RIGHTS_ROW, ROW, SCOPE, SCRIPT,
 };
 
 use crate::agree::{equal, Agreed};
@@ -115,7 +115,7 @@ pub fn make(random: &mut Random, from: &Table) -> Made {
 }
 
 fn change(random: &mut Random, table: &mut Table) -> String {
-    match random.weighted(&[24, 12, 8, 8, 8, 16, 3, 4, 18, 3, 4, 2]) {
+    match random.weighted(&[24, 12, 8, 8, 8, 16, 3, 4, 18, 3, 4, 10, 2]) {
         0 => part_word(random, table),
         1 => scope_word(random, table),
         2 => script_word(random, table, "count", 0, 8),
@@ -127,6 +127,7 @@ fn change(random: &mut Random, table: &mut Table) -> String {
         8 => tree_on_top(random, table),
         9 => script_word(random, table, "any word", 0, SCRIPT),
         10 => edition_word(random, table),
+        11 => rights_words(random, table),
         _ => any_content(random, table),
     }
 }
@@ -135,7 +136,8 @@ fn change(random: &mut Random, table: &mut Table) -> String {
 fn content(random: &mut Random, table: &Table, word: u32) -> u32 {
     let limits = [
         0, 1, 2, 3, 4, 5, 7, 8, 9, 63, 64, 65, 66, 71, 72, 255, 256, 4_095, 4_096, 99_588, 99_589,
-        99_980, 99_984, 999_999, 1_000_000, 1_000_001, 1_000_002,
+        99_592, 99_599, 99_600, 99_791, 99_792, 111_884, 111_888, 999_999, 1_000_000, 1_000_001,
+        1_000_002,
     ];
     match random.below(8) {
         0 => word.wrapping_add(1),
@@ -177,6 +179,19 @@ fn edition_word(random: &mut Random, table: &mut Table) -> String {
     let words = [0, 1, 1, 2, 2, 3, 4, 256 + 1, 65_536 + 2, 0x8000_0001];
     table.words[EDITION] = *random.pick(&words);
     format!("edition {}", table.words[EDITION])
+}
+
+/// Some words of the rights of the first locations: 0, 1, or what is no right.
+fn rights_words(random: &mut Random, table: &mut Table) -> String {
+    let locations = (table.words[1] as usize).clamp(1, 64);
+    let count = *random.pick(&[1, 4, 40]);
+    for _ in 0..count {
+        let row = RIGHTS + RIGHTS_ROW * random.below(locations);
+        let below = *random.pick(&[4, 64]);
+        let at = row + 64 * random.below(3) + random.below(below);
+        table.words[at] = *random.pick(&[0, 0, 1, 2, 256 + 1, u32::MAX]);
+    }
+    format!("{count} words of the rights")
 }
 
 fn part_word(random: &mut Random, table: &mut Table) -> String {

@@ -3,11 +3,15 @@
 //! tested beforehand.
 
 /// Words of a script.
-pub const WORDS: usize = 99_984;
+pub const WORDS: usize = 111_888;
 /// The word of a script that holds its edition, 1 or 2.
 pub const EDITION: usize = 99_592;
+/// Where in a script the rights begin, a row of `RIGHTS_ROW` words for each
+/// location, in the order of `Row`: 1 is a right, any other word none.
+pub const RIGHTS: usize = 99_600;
+pub const RIGHTS_ROW: usize = 192;
 
-/// Bytes that hold the name of every location, every label, every line of a
+/// Bytes that hold the name of every location and channel, every label, every line of a
 /// step, every printout.
 pub const NAME: usize = 16;
 pub const LABEL: usize = 51;
@@ -20,19 +24,52 @@ pub const UNMARKED: u32 = 64;
 /// Stands for the number of a refusal that comes with anything but its number.
 pub const MORE_THAN_A_NUMBER: u32 = 1_000;
 
-/// What is given with a text at reading. An edition other than 1 and 2 is
-/// refused by 21.
+/// The rights of a location by number: to send and to receive on a channel, to
+/// leave for another location.
+#[repr(C)]
+#[derive(Clone, Copy, Debug, PartialEq, Eq)]
+pub struct Row {
+    pub send: [bool; 64],
+    pub receive: [bool; 64],
+    pub leave: [bool; 64],
+}
+
+impl Row {
+    pub const ALL: Row = Row {
+        send: [true; 64],
+        receive: [true; 64],
+        leave: [true; 64],
+    };
+}
+
+/// What is given with a text at reading: its edition, and a row of rights for
+/// each location. An edition other than 1 and 2 is refused by 21.
 #[repr(C)]
 #[derive(Clone, Copy, Debug, PartialEq, Eq)]
 pub struct Settings {
     pub edition: u32,
+    pub rights: [Row; 64],
 }
 
 impl Settings {
-    pub const EDITION_1: Settings = Settings { edition: 1 };
-    pub const EDITION_2: Settings = Settings { edition: 2 };
-    /// Those that reading takes.
+    pub const EDITION_1: Settings = Settings::all(1);
+    pub const EDITION_2: Settings = Settings::all(2);
+    /// The editions that reading takes, with all rights.
     pub const BOTH: [Settings; 2] = [Settings::EDITION_1, Settings::EDITION_2];
+
+    /// An edition with all rights.
+    pub const fn all(edition: u32) -> Settings {
+        Settings {
+            edition,
+            rights: [Row::ALL; 64],
+        }
+    }
+}
+
+/// An edition with all rights, as the library gives it.
+pub fn all_rights(edition: u32) -> Settings {
+    // SAFETY: nothing is lent.
+    unsafe { timo_all_rights(edition) }
 }
 
 /// A component: location, mark, place of its part, timer, a location for each
@@ -173,6 +210,7 @@ struct Counted {
 }
 
 extern "C" {
+    fn timo_all_rights(edition: u32) -> Settings;
     fn timo_read(text: *const u8, n: usize, settings: Settings, w: *mut u32) -> Reading;
     fn timo_same(
         w: *const u32,
@@ -212,6 +250,15 @@ extern "C" {
         buf: *mut u8,
         lent: usize,
     ) -> Written;
+    fn timo_channels(w: *const u32, c: *const Comps, n: usize) -> Counted;
+    fn timo_channel_name(
+        w: *const u32,
+        c: *const Comps,
+        n: usize,
+        h: u32,
+        buf: *mut u8,
+        lent: usize,
+    ) -> Written;
     fn timo_action_label(
         w: *const u32,
         c: *const Comps,
@@ -239,8 +286,8 @@ pub fn read_into(text: &[u8], settings: Settings, words: &mut [u32; WORDS]) -> R
     unsafe { timo_read(text.as_ptr(), text.len(), settings, words.as_mut_ptr()) }
 }
 
-/// The whole printout of a text, which is read under edition 1: its length. Fewer
-/// bytes get its first ones.
+/// The whole printout of a text, which is read under edition 1 and with all
+/// rights: its length. Fewer bytes get its first ones.
 pub fn printout(text: &[u8], lent: &mut [u8]) -> usize {
     // SAFETY: the text is only read; `lent` is not reached otherwise meanwhile.
     unsafe { timo_printout(text.as_ptr(), text.len(), lent.as_mut_ptr(), lent.len()) }
@@ -272,6 +319,15 @@ impl Table {
     pub fn under_other_edition(&self) -> Table {
         let mut other = self.clone();
         other.words[EDITION] = if self.words[EDITION] == 1 { 2 } else { 1 };
+        other
+    }
+
+    /// The same network with each right given that it lacks, and no other.
+    pub fn with_other_rights(&self) -> Table {
+        let mut other = self.clone();
+        for right in &mut other.words[RIGHTS..] {
+            *right = u32::from(*right != 1);
+        }
         other
     }
 
@@ -393,6 +449,21 @@ impl Table {
         // SAFETY: as for `step`.
         self.written(lent, |w, c, n, buf, size| unsafe {
             timo_location_name(w, c, n, location, buf, size)
+        })
+    }
+
+    /// How many channels there are.
+    pub fn channels(&self) -> Result<u32, u32> {
+        // SAFETY: as for `is_valid`.
+        let counted = unsafe { timo_channels(self.words.as_ptr(), &self.state.c, self.state.n) };
+        answer(counted.code, counted.count)
+    }
+
+    /// The name of a channel; its length.
+    pub fn channel_name(&self, channel: u32, lent: &mut [u8]) -> Result<usize, u32> {
+        // SAFETY: as for `step`.
+        self.written(lent, |w, c, n, buf, size| unsafe {
+            timo_channel_name(w, c, n, channel, buf, size)
         })
     }
 

@@ -4,6 +4,7 @@
 //! a record is lent for each component; no answer shows which way was gone.
 
 use compare::differ::differ;
+use compare::reading::theirs;
 use compare::timo::Settings;
 use timo_reference::calls::{Engine, Record};
 use timo_reference::lists::Call;
@@ -98,7 +99,9 @@ fn steps_and_ticks_with_and_without_a_copy() {
 fn thirteen_on_a_full_network() {
     let script = network(256, 1, mixed, "D");
     let engine = Engine::default();
-    let network = engine.read(script.as_bytes(), 1).expect("a network");
+    let network = engine
+        .read(script.as_bytes(), &theirs(&Settings::EDITION_1))
+        .expect("a network");
     let mut lent = vec![Record::new(0, 0, 0); 256];
     let refused = engine.step(&network, 0, &mut lent).err();
     assert_eq!(refused.map(Refusal::number), Some(13));

@@ -6,16 +6,18 @@ use std::fs;
 use std::path::Path;
 
 use compare::differ::differ;
-use compare::reading;
-use compare::timo::{read_into, words_of, Settings, State, Table, EDITION, WORDS};
+use compare::reading::{self, ours};
+use compare::timo::{read_into, words_of, Settings, State, Table, EDITION, RIGHTS};
 use timo_reference::calls::Engine;
 use timo_reference::lists;
+use timo_reference::rights::settings;
 use timo_reference::table::{PARTS, ROW};
+use timo_reference::term::Rights;
 
 const TEXT: &[u8] = b"D(x)=go(1,x,stop).A[in(c,1,y,D(y),stop)|D(B)].";
 
 fn read(text: &str, edition: u32) -> Table {
-    let read = Table::read(text.as_bytes(), Settings { edition });
+    let read = Table::read(text.as_bytes(), Settings::all(edition));
     read.unwrap_or_else(|number| panic!("refused {number}: {text}"))
 }
 
@@ -40,18 +42,18 @@ fn every_other_edition_is_refused_21_before_all() {
     let long_and_good = [TEXT, &long].concat();
     for text in [TEXT, b"", b"A[", b"A[go(1,x,stop)].", &long, &long_and_good] {
         for edition in no_editions() {
-            let read = reading::read(text, Settings { edition }).map(|read| read.err());
+            let read = reading::read(text, Settings::all(edition)).map(|read| read.err());
             assert_eq!(read, Ok(Some(21)), "edition {edition}");
         }
     }
     for (text, number) in [(&b""[..], 2), (&long, 1), (&long_and_good, 1)] {
-        let both = reading::read_under_both(text).map(|both| both.err());
+        let both = reading::read_under_both(text, &Rights::all()).map(|both| both.err());
         assert_eq!(both, Ok(Some(number)));
     }
 }
 
 /// Words of several contents: the edition is a number in its own word, and what
-/// stands behind the last row and behind the edition is as it was.
+/// stands behind the last row and between the edition and the rights is as it was.
 #[test]
 fn the_word_of_the_edition() {
     for before in [0, 1, 2, 3, 0xdead_beef, u32::MAX] {
@@ -60,7 +62,7 @@ fn the_word_of_the_edition() {
             assert_eq!(read_into(TEXT, settings, &mut words).code, 0);
             assert_eq!(words[EDITION], settings.edition);
             let rows = PARTS + ROW * words[0] as usize;
-            let kept = (rows..EDITION).chain(EDITION + 1..WORDS);
+            let kept = (rows..EDITION).chain(EDITION + 1..RIGHTS);
             assert!(kept.into_iter().all(|at| words[at] == before));
         }
     }
@@ -82,7 +84,7 @@ fn a_refusal_leaves_the_edition_that_was_there() {
         let mut words = words_of(0x0102_0304);
         assert_eq!(read_into(TEXT, Settings::EDITION_1, &mut words).code, 0);
         let before = words.clone();
-        let reading = read_into(text, Settings { edition }, &mut words);
+        let reading = read_into(text, Settings::all(edition), &mut words);
         assert_eq!(reading.code, number);
         assert!(*words == *before);
         assert!(reading.state == State::ZERO);
@@ -94,7 +96,7 @@ fn a_refusal_leaves_the_edition_that_was_there() {
 fn words_read_into_again() {
     let mut words = words_of(7);
     for edition in [1, 2, 1, 2] {
-        let settings = Settings { edition };
+        let settings = Settings::all(edition);
         let state = read_into(TEXT, settings, &mut words).state;
         let table = Table {
             words: words.clone(),
@@ -181,8 +183,9 @@ fn a_written_text_is_read_back_under_its_own_edition() {
 
 // --- the example lists ---------------------------------------------------------
 
-/// Each list of the examples through both engines under both editions. What the
-/// reference engine answers is held against the stored answers by its own tests.
+/// Each list of the examples through both engines under both editions, with all
+/// rights and with those that stand beside it. What the reference engine answers is
+/// held against the stored answers by its own tests.
 #[test]
 fn example_lists() {
     let examples = Path::new(env!("CARGO_MANIFEST_DIR")).join("../examples");
@@ -192,7 +195,10 @@ fn example_lists() {
     for list in paths.filter(|path| path.extension().is_some_and(|found| found == "calls")) {
         let script = fs::read(list.with_extension("timo")).expect("its script");
         let calls = lists::parse(&fs::read_to_string(&list).expect("a list")).expect("calls");
-        for settings in Settings::BOTH {
+        let beside = fs::read_to_string(list.with_extension("rights")).ok();
+        let own = [1, 2].map(|edition| settings(&script, edition, beside.as_deref()));
+        let own = own.map(|given| ours(&given.expect("rights by name")));
+        for settings in Settings::BOTH.into_iter().chain(own) {
             let result = differ(Engine::default(), settings, &script, &calls);
             assert!(result.is_ok(), "{}: {result:?}", list.display());
         }

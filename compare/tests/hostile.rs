@@ -49,13 +49,14 @@ fn answered(name: &str, text: &[u8], number: u8) {
     for settings in Settings::BOTH {
         answered_under(settings, name, text, number);
     }
-    answered_under(Settings { edition: 3 }, name, text, 21);
+    answered_under(Settings::all(3), name, text, 21);
 }
 
 fn answered_under(settings: Settings, name: &str, text: &[u8], number: u8) {
     let read = reading::read(text, settings).unwrap_or_else(|what| panic!("{name}: {what}"));
     let found = read.as_ref().err().copied().unwrap_or(0);
-    assert_eq!(found, u32::from(number), "{name}, {settings:?}");
+    let edition = settings.edition;
+    assert_eq!(found, u32::from(number), "{name}, edition {edition}");
     if let Ok(pair) = read {
         used(name, pair);
     }

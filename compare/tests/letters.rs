@@ -1,12 +1,13 @@
-//! What a host shows: locations, names, labels, lines and printouts, by the
+//! What a host shows: locations, channels, names, labels, lines and printouts, by the
 //! proved engine and by the reference engine on generated scripts, under both
-//! editions. Each text is asked for with too few bytes, just enough and more.
+//! editions and with rights. Each text is asked for with too few bytes, just enough and more.
 
 use compare::reading::{self, Pair};
 use compare::timo::{printout, LABEL, LINE, NAME, PRINTOUT};
 use timo_reference::calls::{Engine, Record};
-use timo_reference::generate::{script_to_run, seed, vectors};
+use timo_reference::generate::{rights, script_to_run, seed, vectors};
 use timo_reference::program;
+use timo_reference::random::Random;
 
 const BLANK: u8 = 0xa5;
 
@@ -39,17 +40,25 @@ fn line(pair: &Pair, location: usize) -> Result<String, u32> {
     Ok(line + "\n")
 }
 
-fn locations(pair: &Pair) {
-    let names = &pair.network.script.locations;
-    let count = names.len() as u32;
-    assert_eq!(pair.table.locations(), Ok(count));
+/// The names of a sort by number, and 8 past the last.
+fn names(names: &[String], call: impl Fn(u32, &mut [u8]) -> Result<usize, u32>) {
     for (number, name) in names.iter().enumerate() {
-        let found = shown(NAME, |lent| pair.table.location_name(number as u32, lent));
+        let found = shown(NAME, |lent| call(number as u32, lent));
         assert_eq!(found.as_ref(), Ok(name));
     }
-    let past = shown(NAME, |lent| pair.table.location_name(count, lent));
-    assert_eq!(past, Err(8));
-    assert_eq!(pair.table.step_line(count, &mut []), Err(8));
+    for past in [names.len() as u32, 64, u32::MAX] {
+        assert_eq!(shown(NAME, |lent| call(past, lent)), Err(8));
+    }
+}
+
+fn locations_and_channels(pair: &Pair) {
+    let (table, script) = (&pair.table, &pair.network.script);
+    let count = script.locations.len() as u32;
+    assert_eq!(table.locations(), Ok(count));
+    assert_eq!(table.channels(), Ok(script.channels.len() as u32));
+    names(&script.locations, |l, lent| table.location_name(l, lent));
+    names(&script.channels, |h, lent| table.channel_name(h, lent));
+    assert_eq!(table.step_line(count, &mut []), Err(8));
 }
 
 /// Every action of the first components, of every kind and of none: how many
@@ -96,7 +105,7 @@ fn act(pair: &mut Pair) {
 /// labels of actions, with marks and without. How many labels there were.
 fn rounds(mut pair: Pair) -> usize {
     let mut accepted = 0;
-    locations(&pair);
+    locations_and_channels(&pair);
     let count = pair.network.script.locations.len();
     for location in (0..count).chain(0..count) {
         accepted += labels(&pair);
@@ -121,7 +130,8 @@ fn names_labels_and_lines() {
     let mut accepted = 0;
     for index in 0..150 {
         let text = script_to_run(seed(2026, index));
-        let both = reading::read_under_both(&text).expect("both readers agree");
+        let rights = rights(&mut Random::new(index));
+        let both = reading::read_under_both(&text, &rights).expect("both readers agree");
         accepted += both.into_iter().flatten().map(rounds).sum::<usize>();
     }
     assert!(accepted > 1_000, "{accepted} labels");

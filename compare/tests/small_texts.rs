@@ -6,9 +6,12 @@
 use compare::timo::{self, Settings, WORDS};
 use timo_reference::calls::Engine;
 use timo_reference::generate::draft::cut;
+use timo_reference::term;
 
 struct Both {
     words: Box<[u32; WORDS]>,
+    /// What the reference engine reads with.
+    given: term::Settings,
     /// How many texts had each number.
     numbers: [usize; 8],
 }
@@ -17,6 +20,7 @@ impl Both {
     fn new() -> Both {
         Both {
             words: timo::words_of(0),
+            given: term::Settings::all(1),
             numbers: [0; 8],
         }
     }
@@ -27,13 +31,13 @@ impl Both {
 
     fn read_under(&mut self, editions: &[Settings], tokens: &[&str]) {
         let text = tokens.join(" ");
-        let theirs = Engine::default().read(text.as_bytes(), 1);
+        let theirs = Engine::default().read(text.as_bytes(), &self.given);
         let theirs = theirs
             .err()
             .map_or(0, |refusal| u32::from(refusal.number()));
         for settings in editions {
             let ours = timo::read_into(text.as_bytes(), *settings, &mut self.words).code;
-            assert_eq!(ours, theirs, "{text}, {settings:?}");
+            assert_eq!(ours, theirs, "{text}, edition {}", settings.edition);
         }
         self.numbers[theirs as usize] += 1;
     }

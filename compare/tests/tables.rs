@@ -4,10 +4,12 @@
 
 use compare::alike::refused_by_all;
 use compare::differ::run_by_itself;
-use compare::reading::Pair;
+use compare::reading::{theirs, with_rights, Pair};
 use compare::table;
 use compare::tables::{any_components, make, Tally};
-use compare::timo::{words_of, Comp, Settings, State, Table, EDITION, UNMARKED, WORDS};
+use compare::timo::{
+    words_of, Comp, Settings, State, Table, EDITION, RIGHTS, RIGHTS_ROW, UNMARKED, WORDS,
+};
 use timo_reference::calls::Engine;
 use timo_reference::deep::on_big_stack;
 use timo_reference::generate;
@@ -59,7 +61,8 @@ fn tables_of_every_sort() {
     let mut tally = Tally::default();
     for index in 0..60 {
         let seed = generate::seed(1_717, index);
-        let settings = Settings::BOTH[index as usize % 2];
+        let rights = generate::rights(&mut Random::new(index));
+        let settings = with_rights(1 + index as u32 % 2, &rights);
         let Ok(good) = Table::read(&generate::script_to_run(seed), settings) else {
             continue;
         };
@@ -419,12 +422,13 @@ fn reading_lays_a_text_out_as_the_page_says() {
     let mut laid_out = 0;
     for index in 0..300 {
         let script = generate::script_to_run(generate::seed(18, index));
-        let settings = Settings::BOTH[index as usize % 2];
-        let Ok(network) = Engine::default().read(&script, settings.edition) else {
+        let rights = generate::rights(&mut Random::new(index));
+        let settings = with_rights(1 + index as u32 % 2, &rights);
+        let Ok(network) = Engine::default().read(&script, &theirs(&settings)) else {
             continue;
         };
         let text = writing::network(&network);
-        let Ok(network) = Engine::default().read(text.as_bytes(), settings.edition) else {
+        let Ok(network) = Engine::default().read(text.as_bytes(), &theirs(&settings)) else {
             continue;
         };
         let table = read_under(settings, text.as_bytes());
@@ -432,6 +436,7 @@ fn reading_lays_a_text_out_as_the_page_says() {
         let used = PARTS + ROW * laid.script[0] as usize;
         assert!(table.words[..used] == laid.script[..used], "{text}");
         assert_eq!(table.words[EDITION], laid.script[EDITION]);
+        assert!(table.words[RIGHTS..] == laid.script[RIGHTS..], "{text}");
         assert_eq!(table::words(&table.state), laid.components, "{text}");
         assert_eq!(table.state.n, laid.n);
         laid_out += 1;
@@ -443,4 +448,6 @@ fn reading_lays_a_text_out_as_the_page_says() {
 fn a_script_has_as_many_words_by_both() {
     assert_eq!(WORDS, timo_reference::table::SCRIPT);
     assert_eq!(EDITION, timo_reference::table::EDITION);
+    assert_eq!(RIGHTS, timo_reference::table::RIGHTS);
+    assert_eq!(RIGHTS_ROW, timo_reference::table::RIGHTS_ROW);
 }

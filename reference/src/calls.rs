@@ -7,9 +7,9 @@
 //! question.
 
 use crate::reading::{self, Limits, MOST_COMPONENTS};
-use crate::refusal::Refusal;
-use crate::rules::{Action, Label, Rules, Vanish, Variant};
-use crate::term::{Component, Definition, Edition, Network, Part, Script};
+use crate::refusal::{ask, Refusal};
+use crate::rules::{hears_on, sends_on, Action, Label, Rules, Vanish, Variant};
+use crate::term::{Component, Definition, Edition, Network, Part, Script, Settings};
 use crate::writing;
 
 /// An action as callers hand it in, of any content.
@@ -81,17 +81,21 @@ impl Engine {
 
     /// Whether the rules are the right ones.
     pub fn is_right(self) -> bool {
-        self.rules.variant == Variant::Right
+        self.is(Variant::Right)
+    }
+
+    fn is(self, variant: Variant) -> bool {
+        self.rules.variant == variant
     }
 
     /// Questions 21 and 1 to 7. The edition is given as a number.
-    pub fn read(self, text: &[u8], edition: u32) -> Result<Network, Refusal> {
-        reading::read(text, edition, Limits::On)
+    pub fn read(self, text: &[u8], settings: &Settings) -> Result<Network, Refusal> {
+        reading::read(text, settings, Limits::On)
     }
 
-    /// Questions 8 to 11.
+    /// Questions 8 to 11 and 20.
     pub fn action(self, network: &Network, record: Record) -> Result<(Network, Label), Refusal> {
-        let action = questioned(&network.components, record)?;
+        let action = self.questioned(&network.script, &network.components, record)?;
         let mut components = network.components.clone();
         let label = self.take(network, &mut components, action)?;
         Ok((network.with(components), label))
@@ -132,15 +136,13 @@ impl Engine {
                 records.push(Record::of(action));
             }
         }
-        if records.len() > lent.len() {
-            return Err(Refusal::BufferShort);
-        }
+        ask(records.len() <= lent.len(), Refusal::BufferShort)?;
         let network = self.close(network, components, location)?;
         lent[..records.len()].copy_from_slice(&records);
         Ok(Stepped { network, labels })
     }
 
-    /// Question 8 for the location; each action in turn 8 to 11 and 16; then
+    /// Question 8 for the location; each action in turn 8 to 11, 20 and 16; then
     /// 12 and 13.
     pub fn proposal(
         self,
@@ -152,11 +154,13 @@ impl Engine {
         let mut components = network.components.clone();
         let mut labels = Vec::new();
         for record in records {
-            let action = questioned(&components, *record)?;
-            let label = self.take(network, &mut components, action)?;
-            if label.at() != location {
-                return Err(Refusal::Elsewhere);
+            let asked = self.questioned(&network.script, &components, *record);
+            if asked == Err(Refusal::NoRight) && self.is(Variant::AsksRightLast) {
+                let at = &components[record.p as usize].location;
+                ask(at == location, Refusal::Elsewhere)?;
             }
+            let label = self.take(network, &mut components, asked?)?;
+            ask(label.at() == location, Refusal::Elsewhere)?;
             labels.push(label);
         }
         Ok((self.close(network, components, location)?, labels))
@@ -181,7 +185,8 @@ impl Engine {
         }
     }
 
-    /// No question. Networks of different editions are not the same.
+    /// No question. Networks of different editions are not the same; rights are
+    /// not compared.
     pub fn same(self, one: &Network, other: &Network) -> bool {
         self.one_edition(one.script.edition, other.script.edition)
             && sorted_definitions(one) == sorted_definitions(other)
@@ -189,28 +194,41 @@ impl Engine {
     }
 
     fn one_edition(self, one: Edition, other: Edition) -> bool {
-        one == other || self.rules.variant == Variant::SameAcrossEditions
+        one == other || self.is(Variant::SameAcrossEditions)
     }
 
-    /// Questions 14 and 15. Gives the length of the text, which does not show the
-    /// edition.
+    /// Questions 14 and 15. Gives the length of the text, which shows neither the
+    /// edition nor the rights.
     pub fn write(self, network: &Network, lent: &mut [u8]) -> Result<usize, Refusal> {
-        if network
-            .components
-            .iter()
-            .any(|component| component.mark.is_some())
-        {
-            return Err(Refusal::MarkedText);
-        }
+        ask(all_unmarked(&network.components), Refusal::MarkedText)?;
         let text = writing::network(network);
-        if text.len() > lent.len() {
-            return Err(Refusal::BufferShort);
-        }
+        ask(text.len() <= lent.len(), Refusal::BufferShort)?;
         lent[..text.len()].copy_from_slice(text.as_bytes());
         Ok(text.len())
     }
 
-    /// Takes an action that questions 8 to 11 have let through.
+    /// Questions 8 to 11 and 20 for an action. Kinds 1 and 2 do not look at q.
+    fn questioned(
+        self,
+        script: &Script,
+        components: &[Component],
+        record: Record,
+    ) -> Result<Action, Refusal> {
+        let action = in_range(components, record).ok_or(Refusal::OutOfRange)?;
+        let chosen: Vec<&Component> = action.positions().iter().map(|p| &components[*p]).collect();
+        ask(all_unmarked(chosen.iter().copied()), Refusal::Marked)?;
+        ask(of_forms(action, &chosen), Refusal::WrongForm)?;
+        let met = ask(together(&chosen), Refusal::Apart);
+        let right = ask(self.rules.has_right(script, chosen[0]), Refusal::NoRight);
+        let (first, second) = if self.is(Variant::AsksRightFirst) {
+            (right, met)
+        } else {
+            (met, right)
+        };
+        first.and(second).and(Ok(action))
+    }
+
+    /// Takes an action that the questions have let through.
     fn take(
         self,
         network: &Network,
@@ -230,19 +248,17 @@ impl Engine {
         location: &str,
     ) -> Result<Network, Refusal> {
         let script = &network.script;
-        if self.rules.forced(script, &components, location) {
-            return Err(Refusal::Forced);
-        }
+        let forced = self.rules.forced(script, &components, location);
+        ask(!forced, Refusal::Forced)?;
         let after = self
             .rules
             .tick(script, components, location, Vanish::OwnMarks);
-        if after.len() > MOST_COMPONENTS {
-            return Err(Refusal::TableFull);
-        }
+        ask(after.len() <= MOST_COMPONENTS, Refusal::TableFull)?;
         Ok(network.with(after))
     }
 
-    /// What a step fires when its pass comes to `position`.
+    /// What a step fires when its pass comes to `position`: an action that has
+    /// its right.
     fn choice(
         self,
         script: &Script,
@@ -250,10 +266,15 @@ impl Engine {
         position: usize,
         location: &str,
     ) -> Option<Action> {
-        let must_move = |timer| self.rules.must_move(script.edition, timer);
-        match components[position].ready_at(location)? {
+        let part = components[position].ready_at(location)?;
+        if !self.rules.lets_fire(script, location, part) {
+            return None;
+        }
+        match part {
             Part::Call { .. } => Some(Action::Call(position)),
-            Part::Go { timer, .. } if must_move(*timer) => Some(Action::Move(position)),
+            Part::Go { timer, .. } if self.rules.is_due(script.edition, *timer) => {
+                Some(Action::Move(position))
+            }
             Part::Out { channel, .. } => {
                 let partner = self.partner(components, location, channel)?;
                 Some(Action::Communication(position, partner))
@@ -268,7 +289,7 @@ impl Engine {
             Some(Part::In { channel: heard, .. }) => heard == channel,
             _ => false,
         };
-        if self.rules.variant == Variant::FiresHighestInput {
+        if self.is(Variant::FiresHighestInput) {
             return components.iter().rposition(hears);
         }
         components.iter().position(hears)
@@ -276,25 +297,24 @@ impl Engine {
 }
 
 fn numbered(script: &Script, label: &Label) -> Numbers {
-    let among = |names: &[String], name: &str| index(names.iter().map(String::as_str), name);
-    let location = |name: &str| among(&script.locations, name);
+    let location = |name: &str| number(script.location(name));
     let at = location(label.at());
     let (kind, a, b) = match label {
         Label::Call { identifier, .. } => {
-            let identifiers = script.definitions.iter().map(|d| d.identifier.as_str());
-            (1, index(identifiers, identifier), 0)
+            let mut definitions = script.definitions.iter();
+            let called = definitions.position(|d| d.identifier == *identifier);
+            (1, number(called), 0)
         }
         Label::Move { target, .. } => (2, location(target), 0),
         Label::Communication { channel, value, .. } => {
-            (3, among(&script.channels, channel), location(value))
+            (3, number(script.channel(channel)), location(value))
         }
     };
     Numbers { kind, a, b, at }
 }
 
 /// The number of a name that the script holds.
-fn index<'n>(mut names: impl Iterator<Item = &'n str>, name: &str) -> u32 {
-    let found = names.position(|held| held == name);
+fn number(found: Option<usize>) -> u32 {
     found.map_or(u32::MAX, |number| number as u32)
 }
 
@@ -309,32 +329,33 @@ fn location_name(network: &Network, location: u32) -> Result<&str, Refusal> {
         .ok_or(Refusal::OutOfRange)
 }
 
-/// Questions 8 to 11 for an action. Kinds 1 and 2 do not look at q.
-fn questioned(components: &[Component], record: Record) -> Result<Action, Refusal> {
-    let action = in_range(components, record).ok_or(Refusal::OutOfRange)?;
-    let chosen: Vec<&Component> = action.positions().iter().map(|p| &components[*p]).collect();
-    if chosen.iter().any(|component| component.mark.is_some()) {
-        return Err(Refusal::Marked);
-    }
-    let parts: Vec<Option<&Part>> = chosen
-        .iter()
-        .map(|component| component.ready_part())
-        .collect();
-    match (action, parts.as_slice()) {
-        (Action::Call(_), [Some(Part::Call { .. })]) => Ok(action),
-        (Action::Move(_), [Some(Part::Go { .. })]) => Ok(action),
-        (
-            Action::Communication(..),
-            [Some(Part::Out { channel: sent, .. }), Some(Part::In { channel: heard, .. })],
-        ) => {
-            if chosen[0].location == chosen[1].location && sent == heard {
-                Ok(action)
-            } else {
-                Err(Refusal::Apart)
-            }
-        }
-        _ => Err(Refusal::WrongForm),
-    }
+/// Questions 9 and 14.
+fn all_unmarked<'c>(components: impl IntoIterator<Item = &'c Component>) -> bool {
+    components.into_iter().all(|c| c.mark.is_none())
+}
+
+/// Question 10.
+fn of_forms(action: Action, chosen: &[&Component]) -> bool {
+    let parts: Vec<Option<&Part>> = chosen.iter().map(|c| c.ready_part()).collect();
+    matches!(
+        (action, parts.as_slice()),
+        (Action::Call(_), [Some(Part::Call { .. })])
+            | (Action::Move(_), [Some(Part::Go { .. })])
+            | (
+                Action::Communication(..),
+                [Some(Part::Out { .. }), Some(Part::In { .. })]
+            )
+    )
+}
+
+/// Question 11, of components that passed question 10.
+fn together(chosen: &[&Component]) -> bool {
+    let [output, input] = chosen else {
+        return true;
+    };
+    let sent = output.ready_part().and_then(sends_on);
+    let heard = input.ready_part().and_then(hears_on);
+    output.location == input.location && sent == heard
 }
 
 /// Question 8 for an action.

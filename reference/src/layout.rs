@@ -4,8 +4,8 @@
 
 use crate::reading::{MOST_COMPONENTS, MOST_PARTS, MOST_VARIABLES};
 use crate::table::{
-    Table, CHANNELS, COMPONENT, DEFINITIONS, EDITION, LOCATIONS, NAME, OWN, PARTS, ROW, SCRIPT,
-    STATE,
+    Table, CHANNELS, COMPONENT, DEFINITIONS, EDITION, LOCATIONS, NAME, OWN, PARTS, RIGHTS,
+    RIGHTS_ROW, ROW, SCRIPT, STATE,
 };
 use crate::term::{Component, Network, Part, Process, Script, Timer, Value};
 
@@ -40,6 +40,7 @@ pub fn lay(network: &Network) -> Option<Laid> {
         unused: parts,
     };
     layer.counts_and_edition(parts);
+    layer.rights();
     layer.names();
     layer.definitions()?;
     let mut components = vec![0; STATE];
@@ -95,6 +96,16 @@ impl Layer<'_> {
         self.words[EDITION] = script.edition.number();
     }
 
+    fn rights(&mut self) {
+        let rows = self.words[RIGHTS..].chunks_mut(RIGHTS_ROW);
+        for (words, row) in rows.zip(&self.script.rights.rows) {
+            let bits = row.sorts().into_iter().flatten();
+            for (word, given) in words.iter_mut().zip(bits) {
+                *word = u32::from(*given);
+            }
+        }
+    }
+
     fn names(&mut self) {
         for (l, name) in self.script.locations.iter().enumerate() {
             self.name(LOCATIONS + NAME * l, name);
@@ -131,9 +142,9 @@ impl Layer<'_> {
     fn component(&mut self, component: &Component) -> Option<[u32; COMPONENT]> {
         let place = self.process(&component.process, &Scope::new())?;
         let mut words = [0; COMPONENT];
-        words[0] = number(&self.script.locations, &component.location)?;
+        words[0] = self.script.location(&component.location)? as u32;
         words[1] = match &component.mark {
-            Some(owner) => number(&self.script.locations, owner)?,
+            Some(owner) => self.script.location(owner)? as u32,
             None => 64,
         };
         words[2] = place as u32;
@@ -209,7 +220,7 @@ impl Layer<'_> {
     /// Kind, channel or definition, timer, and value, slot or number of
     /// arguments.
     fn head(&self, part: &Part, scope: &Scope) -> Option<[u32; 4]> {
-        let channel = |name| number(&self.script.channels, name);
+        let channel = |name: &str| self.script.channel(name).map(|c| c as u32);
         Some(match part {
             Part::Stop => [0; 4],
             Part::Go { timer, target, .. } => [1, 0, ticks(*timer), self.value(target, scope)?],
@@ -238,15 +249,10 @@ impl Layer<'_> {
 
     fn value(&self, value: &Value, scope: &Scope) -> Option<u32> {
         match value {
-            Value::Location(name) => number(&self.script.locations, name),
+            Value::Location(name) => self.script.location(name).map(|l| l as u32),
             Value::Variable(name) => Some(64 + slot(scope, name)),
         }
     }
-}
-
-fn number(names: &[String], name: &str) -> Option<u32> {
-    let found = names.iter().position(|held| held == name)?;
-    Some(found as u32)
 }
 
 /// The index of a name in scope, or how many there are.

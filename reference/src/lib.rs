@@ -1,5 +1,5 @@
 //! A reference engine for TiMo, written from document 01, from Tables 1 and 2 of
-//! source document 001 and from document 02's R-8.
+//! source document 001 and from document 02's.
 //!
 //! Terms carry their names as strings and own their sub-terms; values are put
 //! in by substitution; an action builds new terms. The calls know no table, no
@@ -8,20 +8,21 @@
 //!
 //! | module      | what it holds                                               |
 //! |-------------|-------------------------------------------------------------|
-//! | `term`      | timers, editions, values, parts, components, networks       |
+//! | `term`      | timers, editions, rights, parts, components, networks       |
 //! | `refusal`   | the numbered questions                                      |
 //! | `reading`   | from bytes to a network, questions 21 and 1 to 7            |
 //! | `writing`   | from terms to text                                          |
 //! | `rules`     | actions with labels, the forced test, the tick              |
-//! | `calls`     | the outward calls with questions 8 to 16                    |
+//! | `calls`     | the outward calls with questions 8 to 16 and 20             |
 //! | `table`     | question 17 of a table, and the network that it stands for  |
 //! | `layout`    | a network laid out as a table                               |
 //! | `runs`      | the straight and the grouped run and what is claimed        |
 //! | `program`   | what `timorun` does, on any input and output                |
 //! | `lists`     | call lists as text                                          |
+//! | `rights`    | rights as text                                              |
 //! | `printout`  | the answers to a call list, line by line                    |
 //! | `random`    | a small seeded generator of numbers                         |
-//! | `generate`  | scripts and call lists that reach the corners               |
+//! | `generate`  | scripts, rights and call lists that reach the corners       |
 //! | `deep`      | a big stack for terms read without limits                   |
 
 pub mod calls;
@@ -34,6 +35,7 @@ pub mod program;
 pub mod random;
 pub mod reading;
 pub mod refusal;
+pub mod rights;
 pub mod rules;
 pub mod runs;
 pub mod table;

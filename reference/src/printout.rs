@@ -9,7 +9,7 @@ use crate::lists::Call;
 use crate::refusal::Refusal;
 use crate::rules::Label;
 use crate::runs::{Broken, Run};
-use crate::term::Network;
+use crate::term::{Network, Settings};
 use crate::writing;
 
 /// What lent buffers hold before a call.
@@ -20,10 +20,10 @@ const BLANK_RECORD: Record = Record {
 };
 const BLANK_BYTE: u8 = b'#';
 
-/// The printout of a script read under an edition and of its calls, answered by
+/// The printout of a script read with settings and of its calls, answered by
 /// `engine`. The run is judged by the right rules whatever the engine's are.
-pub fn answers(engine: Engine, script: &[u8], edition: u32, calls: &[Call]) -> String {
-    let network = match engine.read(script, edition) {
+pub fn answers(engine: Engine, script: &[u8], settings: &Settings, calls: &[Call]) -> String {
+    let network = match engine.read(script, settings) {
         Ok(network) => network,
         Err(refusal) => return format!("read refused {}\n", refusal.number()),
     };
@@ -201,10 +201,10 @@ impl Session {
         }
     }
 
-    /// The text is read under the network's own edition.
+    /// The text is read with the network's own settings, whose rights go by number.
     fn like(&mut self, text: &str) {
-        let edition = self.network.script.edition.number();
-        match self.engine.read(text.as_bytes(), edition) {
+        let settings = self.network.settings();
+        match self.engine.read(text.as_bytes(), &settings) {
             Ok(other) => {
                 let same = self.engine.same(&self.network, &other);
                 self.line(yes_or_no(same));

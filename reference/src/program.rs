@@ -1,14 +1,14 @@
 //! What `timorun` does (document 01, behind the twelve examples): reads a
 //! text, does four rounds of steps over all locations, prints a line for each
 //! step and then the network, or `refused N` and no more. It reads under
-//! edition 1.
+//! edition 1 with all rights.
 
 use std::io::{self, Read, Write};
 
 use crate::calls::{Engine, Record};
 use crate::reading::MOST_BYTES;
 use crate::refusal::Refusal;
-use crate::term::Edition;
+use crate::term::{Edition, Settings};
 
 const ROUNDS: usize = 4;
 const RECORDS: usize = 256;
@@ -35,7 +35,8 @@ fn run_or_refuse(
     text: &[u8],
     output: &mut impl Write,
 ) -> io::Result<Result<(), Refusal>> {
-    let mut network = match engine.read(text, Edition::One.number()) {
+    let settings = Settings::all(Edition::One.number());
+    let mut network = match engine.read(text, &settings) {
         Ok(network) => network,
         Err(refusal) => return Ok(Err(refusal)),
     };

@@ -10,8 +10,10 @@ use std::collections::{HashMap, HashSet};
 use std::mem;
 use std::sync::Arc;
 
-use crate::refusal::Refusal;
-use crate::term::{Component, Definition, Edition, Network, Part, Process, Script, Timer, Value};
+use crate::refusal::{ask, Refusal};
+use crate::term::{
+    Component, Definition, Edition, Network, Part, Process, Script, Settings, Timer, Value,
+};
 
 /// Whether questions 1, 3 and 4 are asked.
 #[derive(Clone, Copy, Debug, PartialEq, Eq)]
@@ -33,11 +35,11 @@ pub const MOST_VARIABLES: usize = 8;
 const LONGEST_NAME: usize = 16;
 pub(crate) const RESERVED: [&str; 6] = ["stop", "go", "in", "out", "inf", "S"];
 
-/// Reads a text under the edition of a number, or gives the first question
-/// answered by no.
-pub fn read(text: &[u8], edition: u32, limits: Limits) -> Result<Network, Refusal> {
+/// Reads a text with settings, or gives the first question answered by no. No
+/// question asks about the rights.
+pub fn read(text: &[u8], settings: &Settings, limits: Limits) -> Result<Network, Refusal> {
     let limited = limits == Limits::On;
-    let edition = Edition::of(edition).ok_or(Refusal::NoEdition)?;
+    let edition = Edition::of(settings.edition).ok_or(Refusal::NoEdition)?;
     ask(!limited || text.len() <= MOST_BYTES, Refusal::TooLong)?;
     let mut reader = Reader::new(text);
     let (definitions, components) = reader.text().map_err(|NotOfForm| Refusal::NotOfForm)?;
@@ -57,6 +59,7 @@ pub fn read(text: &[u8], edition: u32, limits: Limits) -> Result<Network, Refusa
     ask(!tally.unbound, Refusal::NotBound)?;
     let script = Script {
         edition,
+        rights: settings.rights.clone(),
         definitions,
         locations: tally.locations.in_order(),
         channels: tally.channels.in_order(),
@@ -65,14 +68,6 @@ pub fn read(text: &[u8], edition: u32, limits: Limits) -> Result<Network, Refusa
         script: Arc::new(script),
         components,
     })
-}
-
-fn ask(yes: bool, refusal: Refusal) -> Result<(), Refusal> {
-    if yes {
-        Ok(())
-    } else {
-        Err(refusal)
-    }
 }
 
 /// Question 4.

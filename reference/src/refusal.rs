@@ -40,6 +40,8 @@ pub enum Refusal {
     BufferShort = 15,
     /// 16: an action of the proposal fires at another location.
     Elsewhere = 16,
+    /// 20, asked after 11: the action lacks its right.
+    NoRight = 20,
     /// 21, asked before 1: the edition is neither 1 nor 2.
     NoEdition = 21,
 }
@@ -48,6 +50,15 @@ impl Refusal {
     /// The question's number.
     pub fn number(self) -> u8 {
         self as u8
+    }
+}
+
+/// A question with its answer.
+pub(crate) fn ask(yes: bool, refusal: Refusal) -> Result<(), Refusal> {
+    if yes {
+        Ok(())
+    } else {
+        Err(refusal)
     }
 }
 

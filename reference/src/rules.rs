@@ -1,11 +1,12 @@
 //! The rules (document 01, *Actions* and *The tick at l*; Table 2; document 02,
-//!
+//!
 //!
 //! `fire` takes the components of an action and gives what they become, with
 //! the label; positions play no part in it. The tick is a map from each
 //! component to a list of components, with the test "whose marks vanish" as a
 //! parameter. The right rules look at the script's edition in one place: when an
-//! `in` or `out` takes its Q at a tick. Nothing here knows a limit.
+//! `in` or `out` takes its Q at a tick. They ask for rights in two: an action that
+//! lacks its right does not fire, and stops no tick. Nothing here knows a limit.
 //!
 //! `Variant` puts a wrong rule in the place of a right one, to try whether a
 //! comparison notices. Everything but such trials uses `Variant::Right`.
@@ -60,11 +61,39 @@ pub enum Variant {
     LowersFreshQUnderTwo,
     /// Says that networks of different editions are the same.
     SameAcrossEditions,
+    /// Looks up the right to leave in the target's row, for the location left.
+    AsksLeaveAtTarget,
+    /// Asks for a right to move to one's own location.
+    OwnLocationNeedsRight,
+    /// Lets a pair meet without the right to receive.
+    ReceiveNotAsked,
+    /// Lets a pair meet without the right to send.
+    SendNotAsked,
+    /// Looks up the right to send with the two numbers exchanged.
+    RightsByTheOtherIndex,
+    /// Lets a `go` with timer 0 stop the tick without its right.
+    GoWithoutRightStopsTick,
+    /// Lets a pair stop the tick without its right.
+    PairWithoutRightStopsTick,
+    /// Lets a step fire a `go` with timer 0 without its right.
+    StepFiresWithoutRight,
+    /// Lets a step fire a pair without its right.
+    StepMeetsWithoutRight,
+    /// Asks question 20 before 11, of the output.
+    AsksRightFirst,
+    /// Asks question 16 before 20 in a proposal.
+    AsksRightLast,
+    /// Gives the P of a `go` with timer 0 that lacks its right, at its location.
+    StuckGoTakesP,
+    /// Gives `stop` for a `go` with timer 0 that lacks its right.
+    StuckGoStops,
+    /// Keeps an `in` or `out` that lacks its right when it should take its Q.
+    StuckPairKeepsTimer,
 }
 
 impl Variant {
     /// Every variant with a mistake that the answers to a list can show.
-    pub const WRONG: [Variant; 15] = [
+    pub const WRONG: [Variant; 29] = [
         Variant::TimesOutPairAtZero,
         Variant::ClearsAllMarks,
         Variant::TicksMarkedByOthers,
@@ -80,6 +109,20 @@ impl Variant {
         Variant::TimesOutPairAtOne,
         Variant::TakesQAtOneUnderOne,
         Variant::LowersFreshQUnderTwo,
+        Variant::AsksLeaveAtTarget,
+        Variant::OwnLocationNeedsRight,
+        Variant::ReceiveNotAsked,
+        Variant::SendNotAsked,
+        Variant::RightsByTheOtherIndex,
+        Variant::GoWithoutRightStopsTick,
+        Variant::PairWithoutRightStopsTick,
+        Variant::StepFiresWithoutRight,
+        Variant::StepMeetsWithoutRight,
+        Variant::AsksRightFirst,
+        Variant::AsksRightLast,
+        Variant::StuckGoTakesP,
+        Variant::StuckGoStops,
+        Variant::StuckPairKeepsTimer,
     ];
 
     /// Every variant with a mistake in labels by number, which a comparison of
@@ -206,6 +249,10 @@ impl Rules {
 
     /// Fires an action on its components, or gives nothing if it cannot fire.
     pub fn fire(self, script: &Script, kind: Kind, components: &[&Component]) -> Option<Fired> {
+        let first = components.first()?;
+        if !self.lets_fire(script, &first.location, first.ready_part()?) {
+            return None;
+        }
         match (kind, components) {
             (Kind::Call, [caller]) => self.call(script, caller),
             (Kind::Move, [mover]) => self.movement(mover),
@@ -320,6 +367,77 @@ impl Rules {
         })
     }
 
+    // --- rights --------------------------------------------------------------
+
+    /// Question 20, whether an action has its right: that of the component itself
+    /// or, in a communication, of the output. A call needs none.
+    pub fn has_right(self, script: &Script, component: &Component) -> bool {
+        let part = component.ready_part();
+        part.is_none_or(|part| self.may_act(script, &component.location, part))
+    }
+
+    /// Whether a part ready at a location has the right to what it would do.
+    fn may_act(self, script: &Script, location: &str, part: &Part) -> bool {
+        match part {
+            Part::Stop | Part::Call { .. } => true,
+            Part::Go { target, .. } => self.may_leave(script, location, spelling(target)),
+            Part::Out { channel, .. } | Part::In { channel, .. } => {
+                self.may_meet(script, location, channel)
+            }
+        }
+    }
+
+    /// The right of the location that is left. One's own location needs none.
+    fn may_leave(self, script: &Script, location: &str, target: &str) -> bool {
+        if location == target && !self.is(Variant::OwnLocationNeedsRight) {
+            return true;
+        }
+        let numbers = script.location(location).zip(script.location(target));
+        numbers.is_none_or(|(from, to)| match self.variant {
+            Variant::AsksLeaveAtTarget => script.rights.leave(to, from),
+            _ => script.rights.leave(from, to),
+        })
+    }
+
+    /// Both rights of the location for the channel.
+    fn may_meet(self, script: &Script, location: &str, channel: &str) -> bool {
+        let numbers = script.location(location).zip(script.channel(channel));
+        numbers.is_none_or(|(l, c)| {
+            let send = match self.variant {
+                Variant::SendNotAsked => true,
+                Variant::RightsByTheOtherIndex => script.rights.send(c, l),
+                _ => script.rights.send(l, c),
+            };
+            send && (script.rights.receive(l, c) || self.is(Variant::ReceiveNotAsked))
+        })
+    }
+
+    /// Whether a step or a rule lets a part ready at a location fire.
+    pub(crate) fn lets_fire(self, script: &Script, location: &str, part: &Part) -> bool {
+        let unasked = [
+            Variant::StepFiresWithoutRight,
+            Variant::StepMeetsWithoutRight,
+        ];
+        self.overlooks(unasked, part) || self.may_act(script, location, part)
+    }
+
+    /// Whether a part ready at a location counts for the forced test.
+    fn counts(self, script: &Script, location: &str, part: &Part) -> bool {
+        let unasked = [
+            Variant::GoWithoutRightStopsTick,
+            Variant::PairWithoutRightStopsTick,
+        ];
+        self.overlooks(unasked, part) || self.may_act(script, location, part)
+    }
+
+    /// The mistake of not asking for the right of a `go`, or of a pair.
+    fn overlooks(self, [of_go, of_pair]: [Variant; 2], part: &Part) -> bool {
+        match part {
+            Part::Go { .. } => self.is(of_go),
+            _ => self.is(of_pair),
+        }
+    }
+
     // --- substitution --------------------------------------------------------
 
     /// The process with values put for free names, all at once.
@@ -399,13 +517,14 @@ impl Rules {
     // --- the tick ------------------------------------------------------------
 
     /// Whether a call, a communication or a move with timer 0 could fire at
-    /// `location`; exactly then the tick there is not allowed. The edition plays
-    /// no part in it but in wrong variants.
+    /// `location`; exactly then the tick there is not allowed. What lacks its right
+    /// could not. The edition plays no part in it but in wrong variants.
     pub fn forced(self, script: &Script, components: &[Component], location: &str) -> bool {
         let edition = script.edition;
         let ready: Vec<&Part> = components
             .iter()
             .filter_map(|component| component.ready_at(location))
+            .filter(|part| self.counts(script, location, part))
             .collect();
         ready.iter().any(|part| self.fires_alone(edition, part))
             || self.pair_could_meet(edition, &ready)
@@ -415,13 +534,13 @@ impl Rules {
     fn fires_alone(self, edition: Edition, part: &Part) -> bool {
         match part {
             Part::Call { .. } => true,
-            Part::Go { timer, .. } => self.must_move(edition, *timer),
+            Part::Go { timer, .. } => self.is_due(edition, *timer),
             _ => false,
         }
     }
 
     /// Whether a `go` with this timer can wait no longer.
-    pub(crate) fn must_move(self, edition: Edition, timer: Timer) -> bool {
+    pub(crate) fn is_due(self, edition: Edition, timer: Timer) -> bool {
         let too_early = self.is(Variant::ForcesGoAtOne) && edition == Edition::Two;
         timer.is_zero() || too_early && timer == Timer::Ticks(1)
     }
@@ -449,27 +568,39 @@ impl Rules {
         location: &str,
         vanish: Vanish,
     ) -> Vec<Component> {
+        self.tick_each(script, components, location, vanish)
+            .flatten()
+            .collect()
+    }
+
+    /// The same with what becomes of each component apart.
+    pub fn tick_each<'t>(
+        self,
+        script: &'t Script,
+        components: Vec<Component>,
+        location: &'t str,
+        vanish: Vanish,
+    ) -> impl Iterator<Item = Vec<Component>> + 't {
         components
             .into_iter()
-            .flat_map(|c| self.tick_component(script.edition, c, location, vanish))
-            .collect()
+            .map(move |c| self.tick_component(script, c, location, vanish))
     }
 
     fn tick_component(
         self,
-        edition: Edition,
+        script: &Script,
         c: Component,
         location: &str,
         vanish: Vanish,
     ) -> Vec<Component> {
         let all = vanish == Vanish::AllMarks || self.is(Variant::ClearsAllMarks);
         match &c.mark {
-            None if c.location == location => self.tick_ready(edition, c),
+            None if c.location == location => self.tick_ready(script, c),
             None => vec![c],
             Some(owner) if all || owner == location => split(Component { mark: None, ..c }),
             Some(_) if c.location == location && self.is(Variant::TicksMarkedByOthers) => {
                 vec![Component {
-                    process: self.tick_all_parts(edition, c.process),
+                    process: self.tick_all_parts(script, location, c.process),
                     ..c
                 }]
             }
@@ -478,8 +609,8 @@ impl Rules {
     }
 
     /// A component ready at the ticking location.
-    fn tick_ready(self, edition: Edition, mut component: Component) -> Vec<Component> {
-        match self.timed_out(edition, &mut component) {
+    fn tick_ready(self, script: &Script, mut component: Component) -> Vec<Component> {
+        match self.timed_out(script, &mut component) {
             Some(otherwise) => {
                 let given = Component {
                     process: otherwise,
@@ -499,27 +630,39 @@ impl Rules {
     }
 
     /// The Q of an `in` or `out` that has no tick left.
-    fn timed_out(self, edition: Edition, component: &mut Component) -> Option<Process> {
+    fn timed_out(self, script: &Script, component: &mut Component) -> Option<Process> {
         let [part] = component.process.parts.as_mut_slice() else {
             return None;
         };
-        let mut otherwise = self.expired_branch(edition, part)?;
-        if self.lowers_fresh_q(edition) {
+        let mut otherwise = self.expired_branch(script, &component.location, part)?;
+        if self.lowers_fresh_q(script.edition) {
             otherwise.parts.iter_mut().for_each(lower);
         }
         Some(otherwise)
     }
 
     /// Takes the Q out of an `in` or `out` that has no tick left.
-    fn expired_branch(self, edition: Edition, part: &mut Part) -> Option<Process> {
+    fn expired_branch(self, script: &Script, at: &str, part: &mut Part) -> Option<Process> {
+        let stuck = self.is(Variant::StuckPairKeepsTimer) && !self.may_act(script, at, part);
         match part {
             Part::Out {
                 timer, otherwise, ..
             }
             | Part::In {
                 timer, otherwise, ..
-            } if *timer <= self.last_timer(edition) => Some(Process {
-                parts: mem::take(&mut otherwise.parts),
+            } if *timer <= self.last_timer(script.edition) && !stuck => Some(taken_out(otherwise)),
+            Part::Go { timer, then, .. } if timer.is_zero() => self.stuck_go(then),
+            _ => None,
+        }
+    }
+
+    /// The mistakes of replacing a `go` with timer 0 at a tick that is allowed, so
+    /// that it lacks its right.
+    fn stuck_go(self, then: &mut Process) -> Option<Process> {
+        match self.variant {
+            Variant::StuckGoTakesP => Some(taken_out(then)),
+            Variant::StuckGoStops => Some(Process {
+                parts: vec![Part::Stop],
             }),
             _ => None,
         }
@@ -545,10 +688,10 @@ impl Rules {
 
     /// The mistake of ticking a marked process: every part is lowered or replaced
     /// by its Q.
-    fn tick_all_parts(self, edition: Edition, mut process: Process) -> Process {
+    fn tick_all_parts(self, script: &Script, at: &str, mut process: Process) -> Process {
         let mut after = Vec::new();
         for mut part in mem::take(&mut process.parts) {
-            match self.expired_branch(edition, &mut part) {
+            match self.expired_branch(script, at, &mut part) {
                 Some(mut otherwise) => after.append(&mut otherwise.parts),
                 None => {
                     lower(&mut part);
@@ -573,14 +716,14 @@ fn put_value(values: &Values, value: &Value) -> Value {
     }
 }
 
-fn sends_on(part: &Part) -> Option<&str> {
+pub(crate) fn sends_on(part: &Part) -> Option<&str> {
     match part {
         Part::Out { channel, .. } => Some(channel),
         _ => None,
     }
 }
 
-fn hears_on(part: &Part) -> Option<&str> {
+pub(crate) fn hears_on(part: &Part) -> Option<&str> {
     match part {
         Part::In { channel, .. } => Some(channel),
         _ => None,
@@ -607,6 +750,13 @@ fn marked(location: &str, owner: &str, process: Process) -> Component {
         location: location.to_string(),
         mark: Some(owner.to_string()),
         process,
+    }
+}
+
+/// An inner process, for which nothing is left.
+fn taken_out(inner: &mut Process) -> Process {
+    Process {
+        parts: mem::take(&mut inner.parts),
     }
 }
 

@@ -1,16 +1,22 @@
 //! The straight and the grouped run (document 01, *Mixed runs*) and what
-//! demand 3 claims of them.
+//! demand 3 claims of them; and where components stand (document 02, R-6).
 //!
 //! The run is fed the accepted actions and ticks only; a refused call counts
 //! for nothing. It keeps two networks without limits. Every point of the claim
 //! is checked on the way, and the first one that fails ends the run.
+//!
+//! Beside the straight network stands for each of its components the position of
+//! its ancestor in the network read. An action replaces components at their own
+//! positions and leaves this as it is; what a tick makes of a component has the
+//! same ancestor. After each action and tick every component must stand where its
+//! ancestor was read or where a chain of rights to leave leads from there.
 
 use std::fmt;
 use std::mem;
 
 use crate::calls::{in_range, same_in_any_order, Record};
 use crate::rules::{Kind, Label, Rules, Vanish};
-use crate::term::{Component, Network};
+use crate::term::{Component, Network, Script};
 
 /// A point of the claim that does not hold.
 #[derive(Clone, Debug, PartialEq, Eq)]
@@ -35,6 +41,11 @@ pub enum Broken {
     DefinitionsChanged,
     /// The edition has changed.
     EditionChanged,
+    /// The rights have changed.
+    RightsChanged,
+    /// A component stands where no chain of rights to leave leads from where its
+    /// ancestor was read.
+    OutOfReach,
 }
 
 impl fmt::Display for Broken {
@@ -50,6 +61,8 @@ impl fmt::Display for Broken {
             Broken::GroupedDiffers => "grouped network is no permutation of the engine's last",
             Broken::DefinitionsChanged => "definitions changed",
             Broken::EditionChanged => "edition changed",
+            Broken::RightsChanged => "rights changed",
+            Broken::OutOfReach => "a component out of its ancestor's reach",
         })
     }
 }
@@ -69,21 +82,37 @@ pub struct Run {
     rules: Rules,
     read: Network,
     straight: Vec<Component>,
+    /// For each component of the straight network.
+    ancestors: Vec<usize>,
     grouped: Vec<Component>,
     notes: Vec<Note>,
+    reach: Reach,
 }
 
 impl Run {
-    /// A run from the network that reading returned, by the right rules under its
-    /// edition.
+    /// A run from the network that reading returned, by the right rules with its
+    /// edition and rights.
     pub fn new(read: &Network) -> Run {
+        Run::judged_by(Rules::default(), read)
+    }
+
+    /// A run by other rules, to try whether a component out of reach is noticed.
+    pub fn judged_by(rules: Rules, read: &Network) -> Run {
         Run {
-            rules: Rules::default(),
+            rules,
             read: read.clone(),
             straight: read.components.clone(),
+            ancestors: (0..read.components.len()).collect(),
             grouped: read.components.clone(),
             notes: Vec::new(),
+            reach: Reach::of(&read.script),
         }
+    }
+
+    /// For each component of the straight network the position in the network
+    /// read of the one that it comes from.
+    pub fn ancestors(&self) -> &[usize] {
+        &self.ancestors
     }
 
     /// An accepted action.
@@ -103,7 +132,7 @@ impl Run {
             components,
             label,
         });
-        Ok(())
+        self.all_within_reach()
     }
 
     /// An accepted tick.
@@ -113,10 +142,7 @@ impl Run {
             .locations
             .get(location as usize)
             .ok_or(Broken::StraightTick)?;
-        let straight = mem::take(&mut self.straight);
-        self.straight = self
-            .ticked(straight, location, Vanish::OwnMarks)
-            .ok_or(Broken::StraightTick)?;
+        self.tick_straight(location)?;
         let (of_location, others) = self
             .notes
             .drain(..)
@@ -124,10 +150,21 @@ impl Run {
         self.notes = others;
         self.fire_in_order(of_location)?;
         let grouped = mem::take(&mut self.grouped);
-        self.grouped = self
-            .ticked(grouped, location, Vanish::AllMarks)
-            .ok_or(Broken::GroupedTick)?;
+        let grouped = self.ticked(grouped, location, Vanish::AllMarks);
+        self.grouped = grouped.ok_or(Broken::GroupedTick)?.concat();
         Ok(())
+    }
+
+    fn tick_straight(&mut self, location: &str) -> Result<(), Broken> {
+        let straight = mem::take(&mut self.straight);
+        let lists = self.ticked(straight, location, Vanish::OwnMarks);
+        let lists = lists.ok_or(Broken::StraightTick)?;
+        let each = self.ancestors.iter().zip(&lists);
+        self.ancestors = each
+            .flat_map(|(ancestor, list)| vec![*ancestor; list.len()])
+            .collect();
+        self.straight = lists.concat();
+        self.all_within_reach()
     }
 
     /// The accepted actions of a step or proposal, then its tick.
@@ -148,6 +185,9 @@ impl Run {
         if self.read.script.edition != last.script.edition {
             return Err(Broken::EditionChanged);
         }
+        if self.read.script.rights != last.script.rights {
+            return Err(Broken::RightsChanged);
+        }
         if self.straight != last.components {
             return Err(Broken::StraightDiffers);
         }
@@ -157,18 +197,34 @@ impl Run {
         Ok(())
     }
 
-    /// The tick, if the rules allow it.
+    /// What the tick makes of each component, if the rules allow it.
     fn ticked(
         &self,
         components: Vec<Component>,
         location: &str,
         vanish: Vanish,
-    ) -> Option<Vec<Component>> {
+    ) -> Option<Vec<Vec<Component>>> {
         let script = &self.read.script;
         if self.rules.forced(script, &components, location) {
             return None;
         }
-        Some(self.rules.tick(script, components, location, vanish))
+        let lists = self.rules.tick_each(script, components, location, vanish);
+        Some(lists.collect())
+    }
+
+    fn all_within_reach(&self) -> Result<(), Broken> {
+        let number = |component: &Component| self.read.script.location(&component.location);
+        let within = |(component, ancestor): (&Component, &usize)| {
+            let from = number(&self.read.components[*ancestor]);
+            from.zip(number(component))
+                .is_some_and(|(from, to)| self.reach.leads(from, to))
+        };
+        let each_has_one = self.straight.len() == self.ancestors.len();
+        if each_has_one && self.straight.iter().zip(&self.ancestors).all(within) {
+            Ok(())
+        } else {
+            Err(Broken::OutOfReach)
+        }
     }
 
     fn fire_in_order(&mut self, notes: Vec<Note>) -> Result<(), Broken> {
@@ -193,5 +249,32 @@ impl Run {
             self.grouped[position] = component;
         }
         Ok(())
+    }
+}
+
+/// Where chains of rights to leave lead, by the numbers of locations.
+#[derive(Clone, Debug)]
+struct Reach {
+    leads: Vec<Vec<bool>>,
+}
+
+impl Reach {
+    /// Chains of no right or one, then by and by those through each location.
+    fn of(script: &Script) -> Reach {
+        let all = 0..script.locations.len();
+        let link = |from: usize, to: usize| from == to || script.rights.leave(from, to);
+        let links = |from: usize| all.clone().map(|to| link(from, to)).collect();
+        let mut leads: Vec<Vec<bool>> = all.clone().map(links).collect();
+        for through in all {
+            let onward = leads[through].clone();
+            for row in leads.iter_mut().filter(|row| row[through]) {
+                row.iter_mut().zip(&onward).for_each(|(to, on)| *to |= on);
+            }
+        }
+        Reach { leads }
+    }
+
+    fn leads(&self, from: usize, to: usize) -> bool {
+        self.leads[from][to]
     }
 }

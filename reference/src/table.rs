@@ -15,10 +15,12 @@ use crate::reading::{
     MOST_VARIABLES, RESERVED,
 };
 use crate::rules::Rules;
-use crate::term::{Component, Definition, Edition, Network, Part, Process, Script, Timer, Value};
+use crate::term::{
+    Component, Definition, Edition, Network, Part, Process, Rights, Row, Script, Timer, Value,
+};
 
 /// Words of a script.
-pub const SCRIPT: usize = 99_984;
+pub const SCRIPT: usize = 111_888;
 /// Words of a state: those of the components, and some behind them.
 pub const STATE: usize = COMPONENT * MOST_COMPONENTS + 16;
 
@@ -31,6 +33,11 @@ pub const PARTS: usize = 1_288;
 pub const PARTS_END: usize = PARTS + ROW * MOST_PARTS;
 /// The word of the edition, the first behind the rows.
 pub const EDITION: usize = PARTS_END;
+/// Where the rights begin, a row for each location: words to send and to receive
+/// by channel, then to leave by location. 1 gives the right, any other word does
+/// not, and question 17 asks about none of them.
+pub const RIGHTS: usize = 99_600;
+pub const RIGHTS_ROW: usize = 192;
 pub const ROW: usize = 24;
 pub const NAME: usize = 4;
 pub const COMPONENT: usize = 16;
@@ -600,6 +607,7 @@ impl Table<'_> {
         self.rightly_asked()?;
         let script = Script {
             edition: self.edition().unwrap_or_default(),
+            rights: self.rights(),
             definitions: (0..self.definitions())
                 .map(|d| self.definition(d))
                 .collect(),
@@ -625,6 +633,13 @@ impl Table<'_> {
             ..*self
         };
         right.question_17()
+    }
+
+    fn rights(&self) -> Rights {
+        let rows = self.script[RIGHTS..SCRIPT].chunks(RIGHTS_ROW);
+        Rights {
+            rows: rows.map(row_of).collect(),
+        }
     }
 
     fn all_meant(&self) -> Vec<Component> {
@@ -772,6 +787,16 @@ fn taken(untaken: &mut Vec<Vec<Part>>) -> Process {
     let mut parts = untaken.pop().unwrap_or_default();
     parts.reverse();
     Process { parts }
+}
+
+/// The rights of one location's words.
+fn row_of(words: &[u32]) -> Row {
+    let mut row = Row::NONE;
+    let bits = row.sorts_mut().into_iter().flatten();
+    for (given, word) in bits.zip(words) {
+        *given = *word == 1;
+    }
+    row
 }
 
 fn timer_of(word: u32) -> Timer {

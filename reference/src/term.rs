@@ -17,7 +17,8 @@ impl Timer {
     /// The largest number that a timer may be.
     pub const LARGEST: u32 = 1_000_000;
 
-    /// The timer after a tick; `inf` stays `inf`.
+    /// The timer after a tick; `inf` stays `inf`, and 0 stays 0, which at a tick
+    /// only a `go` without its right is lowered from.
     pub fn less_one(self) -> Timer {
         match self {
             Timer::Ticks(ticks) => Timer::Ticks(ticks.saturating_sub(1)),
@@ -60,6 +61,101 @@ impl Edition {
         match self {
             Edition::One => Timer::Ticks(0),
             Edition::Two => Timer::Ticks(1),
+        }
+    }
+}
+
+/// What a location allows (document 02, R-6), by the numbers of channels and of
+/// locations in the text.
+#[derive(Clone, Copy, Debug, PartialEq, Eq)]
+pub struct Row {
+    /// By channel.
+    pub send: [bool; Rights::NUMBERS],
+    /// By channel.
+    pub receive: [bool; Rights::NUMBERS],
+    /// By the location moved to; the row's own is not looked at.
+    pub leave: [bool; Rights::NUMBERS],
+}
+
+impl Row {
+    pub const ALL: Row = Row::each(true);
+    pub const NONE: Row = Row::each(false);
+
+    const fn each(given: bool) -> Row {
+        Row {
+            send: [given; Rights::NUMBERS],
+            receive: [given; Rights::NUMBERS],
+            leave: [given; Rights::NUMBERS],
+        }
+    }
+
+    /// To send, to receive, to leave.
+    pub fn sorts(&self) -> [&[bool; Rights::NUMBERS]; 3] {
+        [&self.send, &self.receive, &self.leave]
+    }
+
+    pub fn sorts_mut(&mut self) -> [&mut [bool; Rights::NUMBERS]; 3] {
+        [&mut self.send, &mut self.receive, &mut self.leave]
+    }
+}
+
+/// A row for each location number below 64. They are given at reading and stay
+/// with the network. Larger numbers, which only a text read without limits has,
+/// have every right.
+#[derive(Clone, Debug, PartialEq, Eq)]
+pub struct Rights {
+    pub rows: Vec<Row>,
+}
+
+impl Rights {
+    /// How many locations have a row, and how many numbers a row knows.
+    pub const NUMBERS: usize = 64;
+
+    pub fn all() -> Rights {
+        Rights::each(Row::ALL)
+    }
+
+    pub fn none() -> Rights {
+        Rights::each(Row::NONE)
+    }
+
+    fn each(row: Row) -> Rights {
+        Rights {
+            rows: vec![row; Rights::NUMBERS],
+        }
+    }
+
+    pub fn send(&self, location: usize, channel: usize) -> bool {
+        self.given(location, |row| row.send.get(channel))
+    }
+
+    pub fn receive(&self, location: usize, channel: usize) -> bool {
+        self.given(location, |row| row.receive.get(channel))
+    }
+
+    pub fn leave(&self, location: usize, target: usize) -> bool {
+        self.given(location, |row| row.leave.get(target))
+    }
+
+    fn given<'r>(&'r self, location: usize, bit: impl Fn(&'r Row) -> Option<&'r bool>) -> bool {
+        self.rows.get(location).and_then(bit).is_none_or(|bit| *bit)
+    }
+}
+
+/// What is given with a text at reading: the number of an edition, which may be
+/// none, and the rights.
+#[derive(Clone, Debug, PartialEq, Eq)]
+pub struct Settings {
+    pub edition: u32,
+    pub rights: Rights,
+}
+
+impl Settings {
+    /// The edition of a number, with all rights.
+    pub fn all(edition: u32) -> Settings {
+        Settings {
+            edition,
+            rights: Rights::all(),
         }
     }
 }
@@ -182,11 +278,12 @@ impl Component {
     }
 }
 
-/// What reading fixes for good: the edition, definitions in text order, and the
-/// names of locations and channels in the order of their numbers.
+/// What reading fixes for good: the edition, the rights, definitions in text
+/// order, and the names of locations and channels in the order of their numbers.
 #[derive(Clone, Debug, PartialEq, Eq)]
 pub struct Script {
     pub edition: Edition,
+    pub rights: Rights,
     pub definitions: Vec<Definition>,
     pub locations: Vec<String>,
     pub channels: Vec<String>,
@@ -195,6 +292,16 @@ pub struct Script {
 impl Script {
     pub fn definition(&self, identifier: &str) -> Option<&Definition> {
         self.definitions.iter().find(|d| d.identifier == identifier)
+    }
+
+    /// The number of a location's name.
+    pub fn location(&self, name: &str) -> Option<usize> {
+        self.locations.iter().position(|held| held == name)
+    }
+
+    /// The number of a channel's name.
+    pub fn channel(&self, name: &str) -> Option<usize> {
+        self.channels.iter().position(|held| held == name)
     }
 }
 
@@ -214,12 +321,32 @@ impl Network {
         }
     }
 
+    /// What it was read with.
+    pub fn settings(&self) -> Settings {
+        Settings {
+            edition: self.script.edition.number(),
+            rights: self.script.rights.clone(),
+        }
+    }
+
     /// The same network under an edition.
     pub fn under(&self, edition: Edition) -> Network {
-        let script = Script {
+        self.of(Script {
             edition,
             ..(*self.script).clone()
-        };
+        })
+    }
+
+    /// The same network with other rights.
+    pub fn with_rights(&self, rights: Rights) -> Network {
+        self.of(Script {
+            rights,
+            ..(*self.script).clone()
+        })
+    }
+
+    /// The same components with another script.
+    fn of(&self, script: Script) -> Network {
         Network {
             script: Arc::new(script),
             components: self.components.clone(),

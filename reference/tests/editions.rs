@@ -7,7 +7,7 @@ use timo_reference::calls::{Engine, Record};
 use timo_reference::reading::{self, Limits};
 use timo_reference::rules::Variant;
 use timo_reference::runs::{Broken, Run};
-use timo_reference::term::Edition;
+use timo_reference::term::{Edition, Settings};
 
 use Edition::{One, Two};
 
@@ -44,21 +44,18 @@ fn question_21_comes_before_1_and_before_2() {
 
 #[test]
 fn question_21_is_asked_without_limits_too() {
-    let unread = |edition| number(reading::read(b"A[stop] .", edition, Limits::Off));
+    let unread = |edition| {
+        let settings = Settings::all(edition);
+        number(reading::read(b"A[stop] .", &settings, Limits::Off))
+    };
     assert_eq!([0, 1, 2, 3].map(unread), [21, 0, 0, 21]);
 }
 
 #[test]
 fn the_edition_stays_with_the_network() {
     for edition in Edition::BOTH {
-        let network = read_under(edition, "D=stop. A[D|go(1,B,stop)] | B[stop] .");
-        let acted = act(&network, 1, 0, 0);
-        let ticked = tick(&acted, 0);
-        let stepped = stepped(&network, 0);
-        let (proposed, _) = engine()
-            .proposal(&network, 0, &[Record::new(1, 0, 0)])
-            .expect("an allowed proposal");
-        for after in [network, acted, ticked, stepped, proposed] {
+        let network = read_under(edition, CALLER);
+        for after in after_each_call(network) {
             assert_eq!(after.script.edition, edition);
         }
     }

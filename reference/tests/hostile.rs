@@ -6,6 +6,7 @@ use common::*;
 use timo_reference::deep::on_big_stack;
 use timo_reference::generate::{edges, faults, hostile};
 use timo_reference::reading::{self, Limits};
+use timo_reference::term::Settings;
 use timo_reference::writing;
 
 #[test]
@@ -24,7 +25,7 @@ fn every_limit_can_be_met_at_once() {
     let all = hostile::all();
     let full = all.last().expect("a text");
     let network = engine()
-        .read(&full.text, 1)
+        .read(&full.text, &Settings::all(1))
         .expect("a text within the limits");
     assert_eq!(full.text.len(), 65_535);
     assert_eq!(network.components.len(), 256);
@@ -99,10 +100,13 @@ fn every_beginning_of_a_text_is_2() {
 #[test]
 fn deep_terms_read_without_limits_are_dropped_on_a_small_stack() {
     let text = format!("A[{}stop{}].", "go(0,A,".repeat(50_000), ")".repeat(50_000));
-    let network = reading::read(text.as_bytes(), 1, Limits::Off).expect("a text of the form");
-    drop(network);
+    let read = || {
+        let read = reading::read(text.as_bytes(), &Settings::all(1), Limits::Off);
+        read.expect("a text of the form")
+    };
+    drop(read());
     let length = on_big_stack(|| {
-        let network = reading::read(text.as_bytes(), 1, Limits::Off).expect("a text of the form");
+        let network = read();
         writing::network(&network.clone()).len()
     });
     assert_eq!(length, text.len() + 2);

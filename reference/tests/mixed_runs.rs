@@ -1,59 +1,25 @@
-//! Demand 3 on random lists: the grouped run of document 01 holds for the
-//! right engine, and a comparison of printouts tells every wrong variant apart.
+//! Demand 3 on random lists, with rights of every sort: the grouped run of
+//! document 01 holds for the right engine, and a comparison of printouts tells
+//! every wrong variant apart.
 
 mod common;
+use common::cases::{cases, Case};
 use common::*;
 use std::collections::HashMap;
 use timo_reference::calls::{Engine, Record};
 use timo_reference::generate;
 use timo_reference::lists::{self, Call};
-use timo_reference::printout;
+use timo_reference::random::Random;
 use timo_reference::rules::Variant;
 use timo_reference::runs::{Broken, Run};
-use timo_reference::term::{Edition, Network};
-
-/// A script that is read under an edition, with its calls.
-struct Case {
-    edition: u32,
-    script: Vec<u8>,
-    calls: Vec<Call>,
-}
-
-impl Case {
-    fn network(&self) -> Network {
-        engine()
-            .read(&self.script, self.edition)
-            .expect("a list belongs to a readable script")
-    }
-
-    fn answers(&self, engine: Engine) -> String {
-        printout::answers(engine, &self.script, self.edition, &self.calls)
-    }
-}
-
-/// The editions take turns.
-fn case(index: u64) -> Option<Case> {
-    let edition = Edition::BOTH[index as usize % 2];
-    let seed = generate::seed(2024, index);
-    let script = generate::script_to_run(seed);
-    let calls = generate::calls(seed, &script, edition);
-    (!calls.is_empty()).then_some(Case {
-        edition: edition.number(),
-        script,
-        calls,
-    })
-}
-
-fn cases(count: u64) -> Vec<Case> {
-    (0..count).filter_map(case).collect()
-}
+use timo_reference::term::{Edition, Network, Settings};
 
 #[test]
 fn the_claim_holds_on_hundreds_of_random_lists() {
     let (mut calls_made, mut refusals) = (0, 0);
-    for case in (0..500).filter_map(case) {
-        let (run, refused) = printout::verdict(engine(), case.network(), &case.calls);
-        assert_eq!(run, Ok(()), "{}", String::from_utf8_lossy(&case.script));
+    for case in cases(500) {
+        let (run, refused) = case.verdict(engine());
+        assert_eq!(run, Ok(()), "{}", case.text());
         calls_made += case.calls.len();
         refusals += refused;
     }
@@ -67,7 +33,7 @@ fn the_claim_holds_on_hundreds_of_random_lists() {
 
 #[test]
 fn a_comparison_of_printouts_tells_every_wrong_variant_apart() {
-    let cases = cases(200);
+    let cases: Vec<Case> = cases(200).collect();
     let right: Vec<String> = cases.iter().map(|case| case.answers(engine())).collect();
     for variant in Variant::WRONG {
         let differs = |index: &usize| cases[*index].answers(Engine::new(variant)) != right[*index];
@@ -78,18 +44,23 @@ fn a_comparison_of_printouts_tells_every_wrong_variant_apart() {
 }
 
 /// A step may choose any input and fire any move, and a refusal counts for
-/// nothing: the highest input and a move forced too early are within the rules.
+/// nothing: the highest input, a move forced too early, what stops a tick without
+/// its right and another number are within the rules.
 #[test]
 fn the_claim_is_broken_by_every_variant_that_the_rules_exclude() {
-    let cases = cases(200);
+    let cases: Vec<Case> = cases(200).collect();
     for variant in Variant::WRONG {
-        let breaks = |case: &Case| {
-            printout::verdict(Engine::new(variant), case.network(), &case.calls)
-                .0
-                .is_err()
-        };
+        let breaks = |case: &Case| case.verdict(Engine::new(variant)).0.is_err();
         let broken = cases.iter().any(breaks);
-        let within = matches!(variant, Variant::FiresHighestInput | Variant::ForcesGoAtOne);
+        let within = matches!(
+            variant,
+            Variant::FiresHighestInput
+                | Variant::ForcesGoAtOne
+                | Variant::GoWithoutRightStopsTick
+                | Variant::PairWithoutRightStopsTick
+                | Variant::AsksRightFirst
+                | Variant::AsksRightLast
+        );
         assert_eq!(broken, !within, "{variant:?}");
     }
 }
@@ -100,14 +71,9 @@ fn the_claim_is_broken_by_every_variant_that_the_rules_exclude() {
 fn a_list_under_the_other_edition_is_answered_differently_and_the_claim_holds() {
     let mut differ = 0;
     for case in cases(120) {
-        let other = Case {
-            edition: 3 - case.edition,
-            ..case
-        };
-        let (run, _) = printout::verdict(engine(), other.network(), &other.calls);
-        assert_eq!(run, Ok(()), "{}", String::from_utf8_lossy(&other.script));
-        let own = printout::answers(engine(), &other.script, 3 - other.edition, &other.calls);
-        differ += usize::from(other.answers(engine()) != own);
+        let other = case.under_the_other_edition();
+        assert_eq!(other.verdict(engine()).0, Ok(()), "{}", case.text());
+        differ += usize::from(other.answers(engine()) != case.answers(engine()));
     }
     assert!(differ > 20, "{differ}");
 }
@@ -160,15 +126,19 @@ fn a_printed_list_is_read_back() {
 }
 
 #[test]
-fn the_same_seed_gives_the_same_texts_and_lists() {
-    for seed in 0..50 {
+fn the_same_seed_gives_the_same_texts_rights_and_lists() {
+    let made = |seed, edition: Edition| {
         let script = generate::script_to_run(seed);
-        assert_eq!(script, generate::script_to_run(seed));
+        let settings = Settings {
+            edition: edition.number(),
+            rights: generate::rights(&mut Random::new(seed)),
+        };
+        let calls = generate::calls(seed, &script, &settings);
+        (script, settings, calls)
+    };
+    for seed in 0..50 {
         for edition in Edition::BOTH {
-            assert_eq!(
-                generate::calls(seed, &script, edition),
-                generate::calls(seed, &script, edition)
-            );
+            assert_eq!(made(seed, edition), made(seed, edition));
         }
     }
 }
@@ -193,7 +163,7 @@ fn random_lists_reach_every_refusal() {
         }
     }
     let times = |line: &str| seen.get(line).copied().unwrap_or(0);
-    for number in 8..=16 {
+    for number in (8..=16).chain([20]) {
         assert!(times(&format!("refused {number}")) > 10, "refusal {number}");
     }
     for answer in ["ok yes", "ok no", "rest kept", "run ok"] {
@@ -234,7 +204,8 @@ fn next(network: &Network, call: &Call) -> Option<Network> {
 }
 
 /// Reading what was written under the network's own edition gives the same
-/// network, wherever the text meets the limits; under the other it does not.
+/// network, wherever the text meets the limits, whatever the rights; under the
+/// other edition it does not.
 #[test]
 fn written_networks_are_read_back() {
     for case in cases(100) {
@@ -248,8 +219,9 @@ fn written_networks_are_read_back() {
             }
         }
         let text = written(&network);
-        let own = engine().read(text.as_bytes(), case.edition);
-        let other = engine().read(text.as_bytes(), 3 - case.edition);
+        let edition = case.settings.edition;
+        let own = engine().read(text.as_bytes(), &Settings::all(edition));
+        let other = engine().read(text.as_bytes(), &case.under_the_other_edition().settings);
         match (own, other) {
             (Ok(own), Ok(other)) => {
                 assert!(engine().same(&own, &network));

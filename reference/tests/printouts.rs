@@ -1,5 +1,6 @@
 //! The program `timorun`: the scripts in the examples folder with their
-//! printouts, long inputs and closed pipes.
+//! printouts, long inputs and closed pipes. The lists there with their answers, and
+//! the program `answers`.
 
 use std::fs;
 use std::io::Write;
@@ -8,7 +9,7 @@ use std::process::{Command, Output, Stdio};
 
 use timo_reference::calls::Engine;
 use timo_reference::generate::vectors;
-use timo_reference::{lists, printout};
+use timo_reference::{lists, printout, rights};
 
 fn examples() -> PathBuf {
     Path::new(env!("CARGO_MANIFEST_DIR")).join("../examples")
@@ -57,21 +58,60 @@ fn every_example_prints_what_stands_beside_it() {
     }
 }
 
-/// A list is answered under the edition that stands beside it, or under 1. Where
-/// the answers under 1 are others, these stand beside it too.
+/// A list is answered under the edition that stands beside it, or under 1, and
+/// with the rights that stand beside it, or with all. Where the answers under 1 or
+/// with all rights are others, these stand beside it too.
 #[test]
 fn every_example_list_gets_the_answers_that_stand_beside_it() {
     for list in with_extension("calls") {
         let script = fs::read(list.with_extension("timo")).expect("its script");
         let calls = lists::parse(&fs::read_to_string(&list).expect("a list")).expect("calls");
-        let answers = |edition| printout::answers(Engine::default(), &script, edition, &calls);
         let stored = |extension| fs::read_to_string(list.with_extension(extension)).ok();
         let edition = stored("edition").map_or(1, |text| text.trim().parse().expect("a number"));
-        assert_eq!(Some(answers(edition)), stored("answers"));
-        let under_1 = stored("edition_1.answers");
-        let expected = (answers(1) != answers(edition)).then(|| answers(1));
-        assert_eq!(under_1, expected, "{}", list.display());
+        let rights = stored("rights");
+        let answers = |edition, rights: Option<&str>| {
+            let settings = rights::settings(&script, edition, rights).expect("rights");
+            printout::answers(Engine::default(), &script, &settings, &calls)
+        };
+        let own = answers(edition, rights.as_deref());
+        let others = [
+            ("edition_1.answers", answers(1, rights.as_deref())),
+            ("all_rights.answers", answers(edition, None)),
+        ];
+        for (extension, answers) in others {
+            let expected = (answers != own).then_some(answers);
+            assert_eq!(stored(extension), expected, "{}", list.display());
+        }
+        assert_eq!(stored("answers"), Some(own));
     }
+}
+
+/// Runs `answers` on a script under edition 1, with a list and a file of rights.
+fn answers([script, list, rights]: [&str; 3]) -> Output {
+    let file = |name: &str, extension| examples().join(name).with_extension(extension);
+    Command::new(env!("CARGO_BIN_EXE_answers"))
+        .args([file(script, "timo"), file(list, "calls")])
+        .arg("1")
+        .arg(file(rights, "rights"))
+        .output()
+        .expect("answers ends")
+}
+
+#[test]
+fn the_program_takes_the_rights_of_a_file() {
+    let name = "rights_own_location";
+    let stored = fs::read(examples().join(name).with_extension("answers"));
+    let output = answers([name; 3]);
+    assert_eq!(output.stdout, stored.expect("its answers"));
+    assert!(output.status.success() && output.stderr.is_empty());
+    let refused = answers(["empty", name, "rights_embargo"]);
+    assert_eq!(refused.stdout, b"read refused 2\n");
+    let of_other_names = answers([name, name, "rights_embargo"]);
+    assert!(!of_other_names.status.success() && of_other_names.stdout.is_empty());
+    assert_eq!(
+        of_other_names.stderr,
+        b"answers: line 2 is not a right of the script\n"
+    );
 }
 
 #[test]

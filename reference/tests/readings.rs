@@ -5,6 +5,7 @@ use common::*;
 use timo_reference::calls::Record;
 use timo_reference::generate::edges;
 use timo_reference::reading::{self, Limits};
+use timo_reference::term::Settings;
 
 fn nested(depth: usize, inmost: &str) -> String {
     format!(
@@ -268,8 +269,9 @@ fn a_network_needs_a_located_process_and_an_end() {
 #[test]
 fn limits_can_be_switched_off_but_not_the_other_questions() {
     let text = format!("D(a,b,c,d,e)=stop. A[{}].", nested(40, "stop"));
-    assert!(reading::read(text.as_bytes(), 1, Limits::Off).is_ok());
-    let unread = |text: &str| number(reading::read(text.as_bytes(), 1, Limits::Off));
+    let read = |text: &str| reading::read(text.as_bytes(), &Settings::all(1), Limits::Off);
+    assert!(read(&text).is_ok());
+    let unread = |text: &str| number(read(text));
     assert_eq!(unread("A[stop]"), 2);
     assert_eq!(unread("D=stop. D=stop. A[stop]."), 5);
     assert_eq!(unread(&format!("A[E]{}.", " ".repeat(70_000))), 6);

@@ -11,10 +11,10 @@ use timo_reference::generate;
 use timo_reference::layout::{lay, Laid};
 use timo_reference::random::Random;
 use timo_reference::table::{
-    Table, Test, CHANNELS, COMPONENT, DEFINITIONS, EDITION, LOCATIONS, PARTS, ROW, SCRIPT, SLOTS,
-    STATE,
+    Table, Test, CHANNELS, COMPONENT, DEFINITIONS, EDITION, LOCATIONS, PARTS, RIGHTS, RIGHTS_ROW,
+    ROW, SCRIPT, SLOTS, STATE,
 };
-use timo_reference::term::Edition;
+use timo_reference::term::{Edition, Network, Rights, Settings};
 use timo_reference::writing;
 
 /// From the highest place down: D's body `go` 9, its two parts `stop` 8 and the
@@ -40,6 +40,10 @@ fn spelt(name: &[u8; 4]) -> u32 {
 /// A word of the row of a place.
 fn at(place: usize, word: usize) -> usize {
     PARTS + ROW * place + word
+}
+
+fn network_of(laid: &Laid) -> Network {
+    laid.table().network().expect("a network")
 }
 
 /// The test that a changed table does not pass.
@@ -77,7 +81,7 @@ fn places_are_as_the_page_says() {
     assert_eq!(script[at(OUT, 9)] as usize, at(IN, 17));
 }
 
-/// The whole table of the page: every word that is not 0.
+/// The whole table of the page: every word before the rights that is not 0.
 #[test]
 fn the_example_of_the_page() {
     let text = "D(x) = go(1,x,stop) . A[in(c,2,y,D(y),stop)] .";
@@ -89,9 +93,11 @@ fn the_example_of_the_page() {
     };
     let page = include_str!("../../docs/LAYOUT.md");
     let flat = page.split_whitespace().collect::<Vec<_>>().join(" ");
-    for words in [shown(&laid.script), shown(&laid.components[..COMPONENT])] {
+    let before_rights = &laid.script[..RIGHTS];
+    for words in [shown(before_rights), shown(&laid.components[..COMPONENT])] {
         assert!(flat.contains(&words), "{words}");
     }
+    assert!(laid.script[RIGHTS..].iter().all(|word| *word == 1));
 }
 
 #[test]
@@ -160,10 +166,33 @@ fn the_edition() {
     }
     let mut laid = good();
     laid.script[EDITION] = 2;
-    let network = laid.table().network().expect("a network");
+    let network = network_of(&laid);
     assert_eq!(network, read_under(Edition::Two, TEXT));
     assert_ne!(network, read(TEXT));
     assert_eq!(lay(&network), Some(laid));
+}
+
+/// A row for each of 64 locations: words to send, to receive and to leave. Word 1
+/// gives a right and any other does not, and every word passes question 17.
+#[test]
+fn the_rights() {
+    assert_eq!(RIGHTS + 64 * RIGHTS_ROW, SCRIPT);
+    assert_eq!(network_of(&good()).script.rights, Rights::all());
+    for (location, number) in [(0, 0), (0, 63), (1, 2), (5, 1), (63, 0), (63, 63)] {
+        for sort in 0..3 {
+            let mut rights = Rights::all();
+            let row = &mut rights.rows[location];
+            [&mut row.send, &mut row.receive, &mut row.leave][sort][number] = false;
+            let expected = read(TEXT).with_rights(rights);
+            let mut laid = good();
+            let word = RIGHTS + RIGHTS_ROW * location + 64 * sort + number;
+            for content in [2, 255, 256 + 1, 65_536 + 1, 0x8000_0001, u32::MAX, 0] {
+                laid.script[word] = content;
+                assert_eq!(network_of(&laid), expected);
+            }
+            assert_eq!(lay(&expected), Some(laid));
+        }
+    }
 }
 
 #[test]
@@ -337,7 +366,7 @@ fn words_that_nothing_looks_at() {
         .chain((11..ROW).map(|word| at(GO, word)))
         .chain([2, 4, 5, 19, 20, 23].map(|word| at(CALL, word)))
         .chain(at(parts, 0)..EDITION)
-        .chain(EDITION + 1..SCRIPT);
+        .chain(EDITION + 1..RIGHTS);
     let filled = |laid: &mut Laid| {
         for word in unused {
             laid.script[word] = 0xdead_beef;
@@ -375,10 +404,7 @@ fn values_and_marks() {
     let body = laid.script[DEFINITIONS + 1];
     let second = laid.script[at(body as usize, 6)] - 1;
     laid.components[..SLOTS.end].copy_from_slice(&[1, 64, second, 7, 1, 0, 0, 0, 0, 0, 0, 0]);
-    let shown = |laid: &Laid| {
-        let network = laid.table().network().expect("a network");
-        writing::component(&network.components[0])
-    };
+    let shown = |laid: &Laid| writing::component(&network_of(laid).components[0]);
     let input = "in(c,7,x,go(1,x,D(x,A)),go(1,B,stop))";
     assert_eq!(shown(&laid), format!("B[] {input}"));
     laid.components[1] = 0;
@@ -391,8 +417,11 @@ fn networks_of_every_sort_are_laid_out_and_found_again() {
     let mut laid_out = 0;
     for index in 0..400 {
         let script = generate::script_to_run(generate::seed(17, index));
-        let edition = Edition::BOTH[index as usize % 2].number();
-        let Ok(network) = engine().read(&script, edition) else {
+        let settings = Settings {
+            edition: Edition::BOTH[index as usize % 2].number(),
+            rights: generate::rights(&mut Random::new(index)),
+        };
+        let Ok(network) = engine().read(&script, &settings) else {
             continue;
         };
         let later = stepped(&network, 0);
@@ -427,13 +456,12 @@ fn the_deepest_and_the_longest_table() {
     }
     assert_eq!(deep.table().question_17(), Ok(()));
     let levels = on_big_stack(|| {
-        let network = deep.table().network().expect("a network");
-        writing::component(&network.components[0])
+        writing::component(&network_of(&deep).components[0])
             .matches("go(0,A,")
             .count()
     });
     assert_eq!(levels, 4_095);
-    let network = long.table().network().expect("a network");
+    let network = network_of(&long);
     assert_eq!(network.components[0].process.parts.len(), 4_096);
 }
 

@@ -1,7 +1,7 @@
 //! `bench [SCRIPT..]`: steps, writing, reading and `same` by the proved engine's
 //! library and by the reference engine, side by side in one run, on built-in
-//! workloads that grow and on the scripts named, under edition 1. Nothing is
-//! tested here.
+//! workloads that grow and on the scripts named, under edition 1 and with all
+//! rights. Nothing is tested here.
 //!
 //! `bench --step SCRIPT`: only the time of a step of the proved engine, in µs.
 
@@ -9,6 +9,7 @@ use std::env;
 use std::fs;
 
 use compare::load::{facing, grid, micros, nested, Ratio};
+use compare::reading::theirs;
 use compare::timo::{read_into, words_of, Settings, State, Table};
 use timo_reference::calls::{Engine, Record};
 use timo_reference::term::Network;
@@ -85,8 +86,9 @@ fn line(workload: &str, script: &str) {
     let engine = Engine::default();
     let text = script.as_bytes();
     let settings = Settings::EDITION_1;
+    let theirs = theirs(&settings);
     let ours = Table::read(text, settings);
-    let (mut table, network) = match (ours, engine.read(text, settings.edition)) {
+    let (mut table, network) = match (ours, engine.read(text, &theirs)) {
         (Ok(table), Ok(network)) => (table, network),
         (ours, theirs) => {
             let numbers = (ours.err(), theirs.err().map(|refusal| refusal.number()));
@@ -110,7 +112,7 @@ fn line(workload: &str, script: &str) {
         (
             micros(|| read_into(text, settings, &mut words).state.n),
             micros(|| {
-                let read = engine.read(text, settings.edition);
+                let read = engine.read(text, &theirs);
                 read.map_or(0, |read| read.components.len())
             }),
         ),

@@ -1,7 +1,7 @@
 //! `rounds < SCRIPT`: what `timorun` prints, with reading, steps and writing
-//! done by the proved engine's library under edition 1. The records of a step are put to the
-//! library again as single actions, for their labels, and the tick after them
-//! has to give the step's state.
+//! done by the proved engine's library under edition 1 and with all rights. The
+//! records of a step are put to the library again as single actions, for their
+//! labels, and the tick after them has to give the step's state.
 //!
 //! `rounds --many < SCRIPTS`: the same for several scripts, each followed by a
 //! line `#`, and so are their printouts.

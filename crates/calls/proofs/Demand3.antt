@@ -12,21 +12,24 @@ use Rattle.terms.specs.Terms.{Component, Network}
 use Rattle.terms.specs.Rules.{Answer, unmarked}
 use Rattle.terms.specs.Rules.Answer.{refused, accepted}
 use Rattle.terms.specs.Same.{every}
-use Rattle.terms.specs.Runs.{Fed}
+use Rattle.terms.specs.Runs.{Fed, straightRun}
+use Rattle.terms.specs.Descent.{ancestry, Reached}
 use Rattle.terms.proofs.Names.{and-inv}
 use Rattle.terms.proofs.Sums.{Each}
 use Rattle.terms.proofs.Sums.Each.{each-nil, each-cons}
 use Rattle.terms.proofs.Mixed.{mixed-runs}
+use Rattle.terms.proofs.Descent.{leave-chain}
 use Rattle.table.specs.declared.State.{State}
-use Rattle.table.specs.Meaning.{defsOf, contextOf, netOf, networkOf}
+use Rattle.table.specs.Meaning.{contextOf, netOf, networkOf}
 use Rattle.text.specs.Questions.{readUnder}
 use Rattle.text.proofs.Gives.{under-gives, read-unmarked}
 use Rattle.text_read.proofs.Numbers.{AmongAll, among-all}
 use Rattle.text_answer.specs.declared.Settings.{Settings}
 use Rattle.text_answer.specs.declared.Reading.{Reading}
 use Rattle.text_answer.specs.Answer.{readsAs, ReadsAs}
+use Rattle.text_answer.proofs.Under.{took-context}
 use Rattle.calls.specs.Run.{Given, Run, Mixed, RunsAs}
-use Rattle.calls.specs.Demand3.{Demand3, readContext, textRuns}
+use Rattle.calls.specs.Demand3.{Demand3, readRights, readContext, textRuns}
 use Rattle.calls.proofs.Straight.{straight-run}
 
 each-unmarked : (cs : List Component) → every unmarked cs ≡ true → Each (λ c. T (unmarked c)) cs
@@ -41,28 +44,33 @@ mixed-calls w {st} {last} {gs} {ks} {fs} r u =
     record { grouped = m .0; runs = m .1; same = m .2 }
 
 -- what is read has no mark
-pub record Plain (g : Settings) (v : List ℕ) (r : Reading) (m : Network) : Type 0 where
-  pub context : contextOf v ≡ readContext g m
+pub record Plain (s : List ℕ) (g : Settings) (v : List ℕ) (r : Reading) (m : Network) : Type 0 where
+  pub context : contextOf v ≡ readContext s g m
   pub comps : netOf v (r .state) ≡ m .comps
   pub unmarked-all : every unmarked (netOf v (r .state)) ≡ true
 
-pub read-plain : (s : List ℕ) (g : Settings) (w v : List ℕ) (r : Reading) (m : Network) → ReadsAs s g w v r → readUnder (g .edition) s ≡ accepted m → Plain g v r m
-unfolding networkOf contextOf
+pub read-plain : (s : List ℕ) (g : Settings) (w v : List ℕ) (r : Reading) (m : Network) → ReadsAs s g w v r → readUnder (g .edition) s ≡ accepted m → Plain s g v r m
+unfolding networkOf
 read-plain s g w v r m a e =
     let t = subst (λ x. readsAs s g x w w v r) e a in
     let c : netOf v (r .state) ≡ m .comps = ap (λ n. n .comps) (t .network) in
-    let d : defsOf v ≡ m .defs = ap (λ n. n .defs) (t .network) in
-    record { context = rw (d, t .edition); comps = c; unmarked-all = ap (every unmarked) c ∙ read-unmarked s m (under-gives (g .edition) s m e .1) }
+    record { context = took-context t; comps = c; unmarked-all = ap (every unmarked) c ∙ read-unmarked s m (under-gives (g .edition) s m e .1) }
 
--- the claim from what is read is the claim from the text's network
-from-text : {g : Settings} {v : List ℕ} {r : Reading} {m : Network} {fs : List Fed} {last : List Component} → Plain g v r m → Mixed (contextOf v) (netOf v (r .state)) fs last → Mixed (readContext g m) (m .comps) fs last
-from-text {v = v} {m = m} {fs = fs} {last = last} p x = subst (λ d. Mixed d (m .comps) fs last) (p .context) (subst (λ cs. Mixed (contextOf v) cs fs last) (p .comps) x)
+-- the claims from what is read are the claims from the text's network
+module _ {s : List ℕ} {g : Settings} {v : List ℕ} {r : Reading} {m : Network} (p : Plain s g v r m) (fs : List Fed) (last : List Component) where
+  from-text : Mixed (contextOf v) (netOf v (r .state)) fs last → Mixed (readContext s g m) (m .comps) fs last
+  from-text x = subst (λ d. Mixed d (m .comps) fs last) (p .context) (subst (λ cs. Mixed (contextOf v) cs fs last) (p .comps) x)
+
+  pub chain-text : straightRun (contextOf v) fs (netOf v (r .state)) ≡ accepted last → Reached (readRights s g) (ancestry (readContext s g m) fs (m .comps) (m .comps)) last
+  chain-text e =
+      subst (λ d. Reached (d .rights) (ancestry d fs (m .comps) (m .comps)) last) (p .context)
+      (subst (λ cs. Reached (contextOf v .rights) (ancestry (contextOf v) fs cs cs) last) (p .comps) (leave-chain (contextOf v) fs (netOf v (r .state)) last e))
 
 -- from a text
 pub demand-3 : Demand3
 demand-3 s g w v r m a e gs ks fs last x =
     let p = read-plain s g w v r m a e in
-    (p .context, from-text p (mixed-calls v x (p .unmarked-all)))
+    (p .context, from-text p fs (netOf v last) (mixed-calls v x (p .unmarked-all)))
 
 -- ── reading a text and running a list ──
 module _ (s : List ℕ) (g : Settings) (w v : List ℕ) (r : Reading) (a : ReadsAs s g w v r) (cs₀ : List ℕ) (es : List (List ℕ)) (before : List ℕ) where
@@ -81,4 +89,4 @@ module _ (s : List ℕ) (g : Settings) (w v : List ℕ) (r : Reading) (a : Reads
       go (refused m) e = let b : AmongAll (refused m) = subst AmongAll e (among-all (g .edition) s) in let t = subst (λ y. readsAs s g y w w v r) e a in absurd (omega (arith, b .0, ap (λ q. q .code) (t .0)))
       go (accepted m) e =
           let p = read-plain s g w v r m a e in
-          record { code = refl; done = d; reading = r; took = subst (λ y. readsAs s g y w w v r) e a; ran = x; mixed = from-text p (x .mixed (p .unmarked-all)) }
+          record { code = refl; done = d; reading = r; took = subst (λ y. readsAs s g y w w v r) e a; ran = x; mixed = from-text p (x .fs) _ (x .mixed (p .unmarked-all)); reached = chain-text p (x .fs) _ (straight-run v (x .runs)) }

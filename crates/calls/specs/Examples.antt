@@ -6,7 +6,7 @@ use mathlib.Core.Bool.{true}
 use mathlib.Core.Path.{_≡_, refl}
 use lib.ListN.{replicate}
 use Rattle.terms.specs.Names.{Name, bytes}
-use Rattle.terms.specs.Terms.{Component, contextIn}
+use Rattle.terms.specs.Terms.{Component, contextIn, allRights}
 use Rattle.terms.specs.Terms.Part.{stop}
 use Rattle.terms.specs.Terms.Edition.{edition1}
 use Rattle.terms.specs.Clock.{editionOf}
@@ -46,14 +46,14 @@ of s = read s >>= λ m. accepted (m .comps)
 
 -- and after calls: the first that the rules refuse gives its number
 unfoldable afterUnder : ℕ → List ℕ → List Fed → Answer (List Component)
-afterUnder e s fs = readUnder e s >>= λ m. straightRun (contextIn (editionOf e) m) fs (m .comps)
+afterUnder e s fs = readUnder e s >>= λ m. straightRun (contextIn (editionOf e) allRights m) fs (m .comps)
 
 unfoldable after : List ℕ → List Fed → Answer (List Component)
 after s fs = afterUnder 1 s fs
 
 -- after a step at k, then one at l
 unfoldable stepped : ℕ → List ℕ → Name → Name → Answer (List Component)
-stepped e s k l = readUnder e s >>= λ m. step (contextIn (editionOf e) m) k (m .comps) >>= λ r. step (contextIn (editionOf e) m) l (r .comps) >>= λ t. accepted (t .comps)
+stepped e s k l = readUnder e s >>= λ m. step (contextIn (editionOf e) allRights m) k (m .comps) >>= λ r. step (contextIn (editionOf e) allRights m) l (r .comps) >>= λ t. accepted (t .comps)
 
 -- the same components marked by l
 abbrev markedBy : Name → Component → Component
@@ -142,13 +142,13 @@ unfolding reading
 example9 = refl
 
 -- ── 10: the step takes the lowest output ──
-example10 : (read (bytes "A[out(c,1,B,stop,stop) | out(c,1,A,stop,stop) | in(c,1,x,go(0,x,stop),stop)] .") >>= λ m. step (contextIn edition1 m) A (m .comps) >>= λ r. accepted (r .comps))
+example10 : (read (bytes "A[out(c,1,B,stop,stop) | out(c,1,A,stop,stop) | in(c,1,x,go(0,x,stop),stop)] .") >>= λ m. step (contextIn edition1 allRights m) A (m .comps) >>= λ r. accepted (r .comps))
     ≡ of (bytes "A[stop] | A[out(c,0,A,stop,stop)] | A[go(0,B,stop)] .")
 unfolding reading
 example10 = refl
 
 -- ── 11: 256 components, one marked by A and holding two parts, the others `stop`: the tick at A is turned down for want of space ──
-example11 : (tick (record { defs = []; edition = edition1 }) A (comp A (by A) (stop ∥ one stop) ∷ replicate 255 (comp A none (one stop))) >>= room) ≡ refused 13
+example11 : (tick (record { defs = []; edition = edition1; rights = allRights }) A (comp A (by A) (stop ∥ one stop) ∷ replicate 255 (comp A none (one stop))) >>= room) ≡ refused 13
 unfolding rules room
 example11 = refl
 

@@ -2,9 +2,13 @@
 //
 //   specs/Run       a list of calls of any content, what the grouped run is fed of it, and the claim of demand 3
 //   specs/Demand3   that claim from the text on
+//   specs/Leaving   where leave rights let components stand, from the text on
+//   specs/Embargo   an example of it for a publisher
 //   specs/Examples  the twelve examples of document 01, by computation
 //   proofs/Straight the accepted calls of a list are a straight run of the rules
 //   proofs/Demand3  the equality with the grouped run
+//   proofs/Leaving  the chain of leave rights, and what it gives a publisher
+//   proofs/Embargo  the publisher's example
 //   proofs/Calls    one call of a list, and one more call at the end of a run
 //   run             a list of calls one after another, from a state and from a text
 pub mod run;
@@ -40,7 +44,7 @@ pub struct RanText {
     pub n: usize,
 }
 
-// An action of the given kind at p, and q for kind 3: questions 17, 8, 9, 10, 11. The components are lent, n of them in use, as in every call below; a refusal
+// An action of the given kind at p, and q for kind 3: questions 17, 8, 9, 10, 11, 20. The components are lent, n of them in use, as in every call below; a refusal
 // leaves them as they were.
 pub fn action(w: &Script, c: &mut Words, n: usize, kind: u32, p: usize, q: usize) -> Acted
     ensures { λ r. ⌜ actsAs (now (w .entry)) (record { c = now (c .entry); n = n }) (actionAnswer (now (w .entry)) (record { c = now (c .entry); n = n }) kind p q) r (now (c .exit)) ⌝ }

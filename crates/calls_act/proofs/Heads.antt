@@ -13,9 +13,10 @@ use Rattle.table.specs.declared.Head.{Head}
 use Rattle.table.specs.declared.Head.the-variants.{Stop, Go, Out, In, Call}
 use Rattle.table.specs.Words.{defsIn, headAt}
 use Rattle.table.specs.Valid.{headOk, scriptOk, compOk}
-use Rattle.table.specs.Fire.{meetAt, valueIn}
+use Rattle.terms.specs.Rules.Kind.{calls}
+use Rattle.table.specs.Fire.{meetAt, valueIn, becomesAt, grantedAt, rightly}
 use Rattle.table.proofs.Tests.{script-fine, part-fine, comp-fine}
-use Rattle.calls_act.specs.Fired.{callee, meetsInput}
+use Rattle.calls_act.specs.Fired.{callee, meetsInput, righted}
 
 pub place-fits : (w : List ℕ) (c : Comp) → scriptOk w ≡ true → compOk w c ≡ true → c .place < 4_096
 place-fits w c e f = omega (arith, script-fine w e .parts, comp-fine w c f .place)
@@ -38,3 +39,12 @@ meet-out c e d t v p q (Go t′ v′ p′) = refl
 meet-out c e d t v p q (Out d′ t′ v′ p′ q′) = refl
 meet-out c e d t v p q (In d′ t′ k p′ q′) = refl
 meet-out c e d t v p q (Call d′ n) = refl
+
+-- a call needs no right
+pub call-free : (w : List ℕ) (c : Comp) (h : Head) → righted w (becomesAt w calls c h) ≡ becomesAt w calls c h
+unfolding becomesAt rightly grantedAt
+call-free w c Stop = refl
+call-free w c (Go t v p) = refl
+call-free w c (Out d t v p q) = refl
+call-free w c (In d t k p q) = refl
+call-free w c (Call d n) = refl

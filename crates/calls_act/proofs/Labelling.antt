@@ -15,7 +15,8 @@ use Rattle.table.specs.Meaning.{compIn, contextOf, compsOf, netOf}
 use Rattle.table.specs.Valid.{valid}
 use Rattle.table.specs.Fire.{Left, labelOf, aloneAt, togetherAt, leftBy, actOn}
 use Rattle.table.proofs.InUse.{comps-length}
-use Rattle.table.proofs.Fires.{mapA, actedOf, act-means}
+use Rattle.table.proofs.Fires.{mapA, actedOf}
+use Rattle.table.proofs.Granted.{act-means}
 use Rattle.calls_act.specs.declared.Fired.{Fired}
 use Rattle.calls_act.specs.declared.Met.{Met}
 use Rattle.calls_act.specs.Fired.{tagOf, oneOf, twoOf}

@@ -21,7 +21,8 @@ use Rattle.table.specs.Meaning.{compIn, contextOf, means, wordsIn, compsOf, net
 use Rattle.table.specs.Valid.{scriptOk, compOk, stateOk, valid}
 use Rattle.table.specs.Fire.{Left, ActedAt, tagHeld, aloneAt, togetherAt, leftBy, actOn}
 use Rattle.table.proofs.Tests.{StateFine, comp-fine}
-use Rattle.table.proofs.Fires.{mapA, actedOf, act-means}
+use Rattle.table.proofs.Fires.{mapA, actedOf}
+use Rattle.table.proofs.Granted.{act-means}
 use Rattle.table.proofs.Kept.{okA, goodLeft, goodActed, alone-kept, together-kept, act-kept}
 use Rattle.calls_act.specs.declared.Fired.{Fired}
 use Rattle.calls_act.specs.declared.Met.{Met}

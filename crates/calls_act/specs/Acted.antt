@@ -34,7 +34,7 @@ actionOf k p q =
     (cond (eqb k 3) (accepted (pair p q))
     (refused 8)))
 
--- an action of kind k at p and q, as the rules answer it: questions 8 to 11
+-- an action of kind k at p and q, as the rules answer it: questions 8 to 11 and 20
 unfoldable pub actionRule : List ℕ → State → ℕ → ℕ → ℕ → Answer ActedBy
 actionRule w st k p q = actionOf k p q >>= λ a. act (contextOf w) a (netOf w st)
 

@@ -1,14 +1,14 @@
 -- What the answers of `fire` stand for: a refusal's number, or the label in numbers with the components left.
 use Prim.Native.Nat.{ℕ}
-use mathlib.Core.List.{[], _∷_}
+use mathlib.Core.List.{List, [], _∷_}
 use mathlib.Core.Bool.{cond, _&&_}
 use lib.Dec.{eqb}
-use Rattle.terms.specs.Rules.{Answer}
+use Rattle.terms.specs.Rules.{Answer, _>>=_}
 use Rattle.terms.specs.Rules.Answer.{refused, accepted}
 use Rattle.table.specs.declared.Comp.{Comp}
 use Rattle.table.specs.declared.Head.{Head}
 use Rattle.table.specs.declared.Head.the-variants.{Stop, Go, Out, In, Call}
-use Rattle.table.specs.Fire.{Tag, Left, handed}
+use Rattle.table.specs.Fire.{Tag, Left, handed, rightly}
 use Rattle.calls_act.specs.declared.Label.{Label}
 use Rattle.calls_act.specs.declared.Fired.{Fired}
 use Rattle.calls_act.specs.declared.Met.{Met}
@@ -49,3 +49,7 @@ meetsInput c e d x p (Go t v q) = refused 10
 meetsInput c e d x p (Out d′ t v q r) = refused 10
 meetsInput c e d x p (Call d′ n) = refused 10
 meetsInput c e d x p (In d′ t k p′ q) = cond (eqb d d′ && eqb (c .loc) (e .loc)) (accepted (handed c e d x p k p′)) (refused 11)
+
+-- what fits, if it has its right
+abbrev pub righted : List ℕ → Answer Left → Answer Left
+righted w x = x >>= rightly w

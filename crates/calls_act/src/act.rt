@@ -68,7 +68,7 @@ fn settle_two(c: &mut Words, p: usize, q: usize, m: Met) -> Acted
     refuse(m.code)
 }
 
-// Questions 9 and 10 of a call by x, or of a move of x.
+// Questions 9, 10 and 20 of a call by x, or of a move of x.
 pub(crate) fn fire_one(w: &Script, call: bool, x: Comp) -> Fired
     requires { ⌜ (scriptOk (now w) ≡ true) × (compOk (now w) x ≡ true) ⌝ }
     ensures { λ r. ⌜ oneOf r ≡ aloneAt (now (w .entry)) (singleKind call) x ⌝ }
@@ -109,7 +109,7 @@ fn act_pair(w: &Script, c: &mut Words, n: usize, p: usize, q: usize) -> Acted
     settle_two(c, p, q, m)
 }
 
-// Questions 8 to 11 of an action, and what it leaves.
+// Questions 8 to 11 and 20 of an action, and what it leaves.
 pub fn act_valid(w: &Script, c: &mut Words, n: usize, kind: u32, p: usize, q: usize) -> Acted
     requires { ⌜ valid (now w) (record { c = now c; n = n }) ≡ true ⌝ }
     ensures { λ r. ⌜ actsAs (now (w .entry)) (record { c = now (c .entry); n = n }) (actionRule (now (w .entry)) (record { c = now (c .entry); n = n }) kind p q) r (now (c .exit)) ⌝ }

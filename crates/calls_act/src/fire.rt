@@ -7,10 +7,11 @@ ghost use lib.ListN.{set};
 ghost use Rattle.terms.specs.Rules.Kind.{calls, moves};
 ghost use Rattle.table.specs.Valid.{scriptOk, compOk};
 ghost use Rattle.table.specs.Fire.{valueIn, leftAt, argIn, becomesAt, meetAt, aloneAt, togetherAt};
-ghost use Rattle.calls_act.specs.Fired.{noLabel, oneOf, twoOf, notFired, notMet, callee, meetsInput};
+ghost use Rattle.calls_act.specs.Fired.{noLabel, oneOf, twoOf, notFired, notMet, callee, meetsInput, righted};
 use super::Fired;
 use super::Label;
 use super::Met;
+use super::rights::granted;
 use table::Comp;
 use table::Head;
 use table::Script;
@@ -210,7 +211,35 @@ fn meet(c: Comp, e: Comp, h: Head, g: Head) -> Met
     }
 }
 
-// Questions 9 and 10 of a call by c.
+// A move of c that fits, f, if it has its right.
+fn rightly_one(w: &Script, c: Comp, f: Fired) -> Fired
+    ensures { λ r. ⌜ oneOf r ≡ righted (now (w .entry)) (oneOf f) ⌝ }
+{
+    if f.code != 0 {
+        return f;
+    }
+    let x = f.label;
+    if granted(w, x) {
+        return f;
+    }
+    not_fired(20, c)
+}
+
+// A communication of c and e that fits, m, if it has its rights.
+fn rightly_two(w: &Script, c: Comp, e: Comp, m: Met) -> Met
+    ensures { λ r. ⌜ twoOf r ≡ righted (now (w .entry)) (twoOf m) ⌝ }
+{
+    if m.code != 0 {
+        return m;
+    }
+    let x = m.label;
+    if granted(w, x) {
+        return m;
+    }
+    not_met(20, c, e)
+}
+
+// Questions 9 and 10 of a call by c, which needs no right.
 pub fn fire_call(w: &Script, c: Comp) -> Fired
     requires { ⌜ (scriptOk (now w) ≡ true) × (compOk (now w) c ≡ true) ⌝ }
     ensures { λ r. ⌜ oneOf r ≡ aloneAt (now (w .entry)) calls c ⌝ }
@@ -222,7 +251,7 @@ pub fn fire_call(w: &Script, c: Comp) -> Fired
     becomes_call(w, c, h)
 }
 
-// Questions 9 and 10 of a move of c.
+// Questions 9, 10 and 20 of a move of c.
 pub fn fire_move(w: &Script, c: Comp) -> Fired
     requires { ⌜ (scriptOk (now w) ≡ true) × (compOk (now w) c ≡ true) ⌝ }
     ensures { λ r. ⌜ oneOf r ≡ aloneAt (now (w .entry)) moves c ⌝ }
@@ -231,10 +260,10 @@ pub fn fire_move(w: &Script, c: Comp) -> Fired
         return not_fired(9, c);
     }
     let h = words::head_at(w, words::wide(c.place));
-    becomes_move(c, h)
+    rightly_one(w, c, becomes_move(c, h))
 }
 
-// Questions 9 to 11 of a communication of c and e.
+// Questions 9 to 11 and 20 of a communication of c and e.
 pub fn fire_pair(w: &Script, c: Comp, e: Comp) -> Met
     requires { ⌜ (scriptOk (now w) ≡ true) × (compOk (now w) c ≡ true) × (compOk (now w) e ≡ true) ⌝ }
     ensures { λ r. ⌜ twoOf r ≡ togetherAt (now (w .entry)) c e ⌝ }
@@ -247,5 +276,5 @@ pub fn fire_pair(w: &Script, c: Comp, e: Comp) -> Met
     }
     let h = words::head_at(w, words::wide(c.place));
     let g = words::head_at(w, words::wide(e.place));
-    meet(c, e, h, g)
+    rightly_two(w, c, e, meet(c, e, h, g))
 }

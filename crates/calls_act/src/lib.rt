@@ -4,15 +4,17 @@
 //   specs/Acted   what the answer of an action stands for
 //   specs/Labelled of that answer, the label
 //   fire          one component, two components
+//   rights        the right that an action needs
 //   act           an action at positions of a valid table
 //   naming        the label of such an action, from its components alone
 //
-//   proofs/Heads      what question 17 gives the functions of `fire`
+//   proofs/Heads      what question 17 gives the functions of `fire`, and what is so with and without rights
 //   proofs/Positions  an action at positions leaves what the rules leave
 //   proofs/Labelling  the label from the components alone is that of the action
 pub mod act;
 pub mod fire;
 pub mod naming;
+pub mod rights;
 
 use table::Comp;
 

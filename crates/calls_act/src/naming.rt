@@ -1,4 +1,4 @@
-// The label of an action on a table that passes question 17: questions 8 to 11, asked of the action's components alone. Nothing is written or copied.
+// The label of an action on a table that passes question 17: questions 8 to 11 and 20, asked of the action's components alone. Nothing is written or copied.
 ghost use mathlib.Core.Path.{_≡_};
 ghost use mathlib.Core.Bool.{true};
 ghost use Rattle.terms.specs.Rules.{act};

@@ -17,7 +17,7 @@ use Rattle.table.specs.declared.Head.the-variants.{Stop, Go, Out, In, Call}
 use Rattle.table.specs.Words.{locsIn, chansIn, locName, headAt}
 use Rattle.table.specs.Meaning.{contextOf, compsOf, netOf}
 use Rattle.table.specs.Valid.{headOk, scriptOk, compOk, valid}
-use Rattle.table.specs.Fire.{readyAt, hears, pressesAt, forcedAt, sentOn, mustAct, heardAt}
+use Rattle.table.specs.Fire.{readyAt, hears, pressesAt, forcedAt, sentOn, rightIn, wouldAct, mustAct, heardAt}
 use Rattle.table.proofs.Tests.{script-fine, part-fine, comp-fine}
 use Rattle.table.proofs.Places.{out-fine, in-fine}
 use Rattle.table.proofs.Ticks.{forced-means}
@@ -88,11 +88,11 @@ module _ (w : List ℕ) (s : scriptOk w ≡ true) where
     heard-is l h b k = rw (lt-ltb (l * 64 + h) 4_096 (omega arith)) (heard (l * 64 + h) (omega arith) ∙ some-same (compOk w) _ _ cs (ear-at l h b k) each)
 
     -- ── what presses ──
-    presses-is : (i : ℕ) (c : Comp) (g : Head) → headOk w i g ≡ true → c .loc < 64 → pressesIn ys c g ≡ mustAct (heardAt w (c .loc) cs (sentOn g)) c g
-    unfolding pressesIn mustAct sentOn
+    presses-is : (i : ℕ) (c : Comp) (g : Head) → headOk w i g ≡ true → c .loc < 64 → pressesIn w ys c g ≡ mustAct w (heardAt w (c .loc) cs (sentOn g)) c g
+    unfolding pressesIn mustAct wouldAct sentOn
     presses-is i c Stop e b = refl
     presses-is i c (Go u v p) e b = refl
-    presses-is i c (Out d u v p q) e b = heard-is (c .loc) d b (omega (arith, chans, ltb-true d (chansIn w) (out-fine w i d u v p q e .channel)))
+    presses-is i c (Out d u v p q) e b = ap (λ z. z && rightIn w c (Out d u v p q)) (heard-is (c .loc) d b (omega (arith, chans, ltb-true d (chansIn w) (out-fine w i d u v p q e .channel))))
     presses-is i c (In d u k p q) e b = refl
     presses-is i c (Call d n) e b = refl
 
@@ -104,9 +104,9 @@ module _ (w : List ℕ) (s : scriptOk w ≡ true) where
         own = omega (arith, locs, comp-fine w c e .loc)
 
         P : ℕ → Bool
-        P k = mustAct (heardAt w k cs (sentOn (headAt w (c .place)))) c (headAt w (c .place))
+        P k = mustAct w (heardAt w k cs (sentOn (headAt w (c .place)))) c (headAt w (c .place))
 
-        mine : pressesIn ys c (headAt w (c .place)) ≡ P (c .loc)
+        mine : pressesIn w ys c (headAt w (c .place)) ≡ P (c .loc)
         mine = presses-is (c .place) c (headAt w (c .place)) (head-good c e) own
 
         none : eqb 64 l ≡ false
@@ -120,11 +120,11 @@ module _ (w : List ℕ) (s : scriptOk w ≡ true) where
         elsewhere true z = z
         elsewhere false z = none
 
-        at-l : (y : Bool) → eqb (c .loc) l ≡ y → eqb (cond (pressesIn ys c (headAt w (c .place))) (c .loc) 64) l ≡ (y && P l)
+        at-l : (y : Bool) → eqb (c .loc) l ≡ y → eqb (cond (pressesIn w ys c (headAt w (c .place))) (c .loc) 64) l ≡ (y && P l)
         at-l true z = ap (λ x. eqb (cond x (c .loc) 64) l) mine ∙ ap (λ k. eqb (cond (P k) k 64) l) (eqb-true (c .loc) l z) ∙ here (P l)
-        at-l false z = elsewhere (pressesIn ys c (headAt w (c .place))) z
+        at-l false z = elsewhere (pressesIn w ys c (headAt w (c .place))) z
 
-        go : (x : Bool) → eqb (cond x 64 (cond (pressesIn ys c (headAt w (c .place))) (c .loc) 64)) l ≡ ((not x && eqb (c .loc) l) && P l)
+        go : (x : Bool) → eqb (cond x 64 (cond (pressesIn w ys c (headAt w (c .place))) (c .loc) 64)) l ≡ ((not x && eqb (c .loc) l) && P l)
         go true = none
         go false = at-l (eqb (c .loc) l) refl
 
@@ -137,7 +137,7 @@ module _ (w : List ℕ) (s : scriptOk w ≡ true) where
     unfolding forcedAt pressesAt readyAt
     forced-past l h = some-same (compOk w) _ (λ c. false) cs (λ c e. away c (ne-eqb (c .loc) l (λ z. omega (arith, comp-fine w c e .loc)))) each ∙ never cs
       where
-        away : (c : Comp) → eqb (c .loc) l ≡ false → ((not (ltb (c .mark) 64) && eqb (c .loc) l) && mustAct (heardAt w l cs (sentOn (headAt w (c .place)))) c (headAt w (c .place))) ≡ false
+        away : (c : Comp) → eqb (c .loc) l ≡ false → ((not (ltb (c .mark) 64) && eqb (c .loc) l) && mustAct w (heardAt w l cs (sentOn (headAt w (c .place)))) c (headAt w (c .place))) ≡ false
         away c z = rw (z, and-none (not (ltb (c .mark) 64)))
 
 -- the set of the marks is the set of the forced locations

@@ -36,9 +36,9 @@ unfoldable pub isHeard : List ℕ → ℕ → Bool
 isHeard ys k = ltb k 4_096 && isMarked ys k
 
 -- where ys are heard: must c, which is unmarked and has the head h, act before a tick?
-unfoldable pub pressesIn : List ℕ → Comp → Head → Bool
-pressesIn ys c h = mustAct (isHeard ys (c .loc * 64 + sentOn h)) c h
+unfoldable pub pressesIn : List ℕ → List ℕ → Comp → Head → Bool
+pressesIn w ys c h = mustAct w (isHeard ys (c .loc * 64 + sentOn h)) c h
 
 -- the location of a component that presses; 64 for one that does not
 unfoldable pub pressOf : List ℕ → List ℕ → Comp → ℕ
-pressOf w ys c = cond (ltb (c .mark) 64) 64 (cond (pressesIn ys c (headAt w (c .place))) (c .loc) 64)
+pressOf w ys c = cond (ltb (c .mark) 64) 64 (cond (pressesIn w ys c (headAt w (c .place))) (c .loc) 64)

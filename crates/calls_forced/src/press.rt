@@ -1,4 +1,4 @@
-// The locations where a ready component must act before a tick: a call, a move with timer 0, or an output that is heard there.
+// The locations where a ready component must act before a tick: a call, or, with its right, a move with timer 0 or an output that is heard there.
 ghost use mathlib.Core.Path.{_≡_};
 ghost use mathlib.Core.Bool.{true};
 ghost use Rattle.table.specs.Meaning.{compsOf};
@@ -22,11 +22,11 @@ fn is_heard(ears: &[u32; 4096], k: usize) -> bool
     false
 }
 
-fn presses(ears: &[u32; 4096], c: Comp, h: Head) -> bool
-    ensures { λ r. ⌜ r ≡ pressesIn (now (ears .entry)) c h ⌝ }
+fn presses(w: &Script, ears: &[u32; 4096], c: Comp, h: Head) -> bool
+    ensures { λ r. ⌜ r ≡ pressesIn (now (w .entry)) (now (ears .entry)) c h ⌝ }
 {
     let heard = is_heard(ears, words::wide(c.loc) * 64 + words::wide(sent_on(h)));
-    must_act(heard, c, h)
+    must_act(w, heard, c, h)
 }
 
 // The location of c if it presses there, else 64.
@@ -38,7 +38,7 @@ fn press_of(w: &Script, ears: &[u32; 4096], c: Comp) -> usize
         return 64;
     }
     let h = words::head_at(w, words::wide(c.place));
-    if presses(ears, c, h) {
+    if presses(w, ears, c, h) {
         return words::wide(c.loc);
     }
     64

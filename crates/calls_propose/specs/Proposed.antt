@@ -18,7 +18,7 @@ use Rattle.calls_act.specs.Acted.{asked, actionOf, after}
 use Rattle.calls_tick.specs.Ticked.{room}
 use Rattle.calls_propose.specs.declared.Record.{Record}
 
--- one record at l: question 8 of the kind, 8 to 11 of the action, then 16
+-- one record at l: question 8 of the kind, 8 to 11 and 20 of the action, then 16
 unfoldable pub recordRule : Context → Name → Record → List Component → Answer (List Component)
 recordRule d l r net = actionOf (r .kind) (r .p) (r .q) >>= λ a. actAt d l a net >>= λ x. accepted (x .comps)
 

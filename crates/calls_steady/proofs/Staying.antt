@@ -25,7 +25,7 @@ use Rattle.table.specs.Split.{andThen, partsFrom, splitAt, timed, orElse, waite
 use Rattle.table.specs.Fire.{Left, leftAt, valueIn, loaded, becomesAt, handed, meetAt, aloneAt, togetherAt, fitsAlone, fitsTogether, actOn, passedAll}
 use Rattle.table.proofs.Tests.{every-append, script-fine, part-fine, def-fine, comp-fine}
 use Rattle.table.proofs.Places.{go-fine, out-fine, in-fine}
-use Rattle.table.proofs.Kept.{okA, inLeft, inActed, act-keeps}
+use Rattle.table.proofs.Kept.{okA, inLeft, inActed, rightly-kept, act-keeps}
 use Rattle.calls_steady.specs.Steady.{touches, onePart, leavesOne, staysOne}
 
 -- ── the places that a part leads to ──
@@ -167,7 +167,7 @@ module _ (w : List ℕ) (l : ℕ) where
 
     alone-one : (k : Kind) (c : Comp) → compOk w c ≡ true → staysOne w l c ≡ true → okA (inLeft (staysOne w l)) (aloneAt w k c) ≡ true
     unfolding aloneAt fitsAlone
-    alone-one k c o e = go (ltb (c .mark) 64) refl
+    alone-one k c o e = rightly-kept w (inLeft (staysOne w l)) (fitsAlone w k c) (go (ltb (c .mark) 64) refl)
       where
         go : (b : Bool) → ltb (c .mark) 64 ≡ b → okA (inLeft (staysOne w l)) (cond b (refused 9) (becomesAt w k c (headAt w (c .place)))) ≡ true
         go true m = refl
@@ -175,7 +175,7 @@ module _ (w : List ℕ) (l : ℕ) where
 
     together-one : (c e : Comp) → compOk w c ≡ true → compOk w e ≡ true → staysOne w l c ≡ true → staysOne w l e ≡ true → okA (inLeft (staysOne w l)) (togetherAt w c e) ≡ true
     unfolding togetherAt fitsTogether
-    together-one c e o u x y = go (ltb (c .mark) 64) (ltb (e .mark) 64) refl refl
+    together-one c e o u x y = rightly-kept w (inLeft (staysOne w l)) (fitsTogether w c e) (go (ltb (c .mark) 64) (ltb (e .mark) 64) refl refl)
       where
         go : (a b : Bool) → ltb (c .mark) 64 ≡ a → ltb (e .mark) 64 ≡ b → okA (inLeft (staysOne w l)) (cond (a || b) (refused 9) (meetAt c e (headAt w (c .place)) (headAt w (e .place)))) ≡ true
         go true b m n = refl

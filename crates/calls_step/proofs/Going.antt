@@ -4,7 +4,7 @@ use Prim.Native.Nat.{ℕ, zero, suc, _+_, _-_, _*_, _<_, _≤_}
 use native.Mathlib.Omega.{arith}
 use native.Mathlib.Numerals.{add-one}
 use mathlib.Core.List.{List, [], _∷_, _++_, map, append-assoc, append-nil}
-use mathlib.Core.Bool.{Bool, true, false, cond}
+use mathlib.Core.Bool.{Bool, true, false, cond, _&&_}
 use mathlib.Core.Path.{_≡_, refl, sym, ap, subst, _∙_}
 use lib.Dec.{eqb, ltb}
 use lib.ListN.{length, getD, set, take, drop, length-set, length-map, length-take}
@@ -22,9 +22,10 @@ use Rattle.table.specs.declared.Head.the-variants.{Stop, Go, Out, In, Call}
 use Rattle.table.specs.Words.{compSize, stateWords, headAt}
 use Rattle.table.specs.Meaning.{compIn, wordsIn, PastKept, compsOf}
 use Rattle.table.specs.Valid.{scriptOk, compOk}
-use Rattle.table.specs.Fire.{ActedAt, actOn, readyAt, sentOn, mustAct}
+use Rattle.table.specs.Fire.{ActedAt, actOn, readyAt, sentOn, mayLeave, mayMeet, valueIn, rightIn, wouldAct, mustAct}
 use Rattle.table.proofs.Tests.{comp-fine}
-use Rattle.table.proofs.Fires.{every-at, map-append}
+use Rattle.terms.proofs.Lists.{every-at}
+use Rattle.table.proofs.Fires.{map-append}
 use Rattle.table.proofs.Kept.{okA, inActed, act-kept}
 use Rattle.calls_steady.specs.Steady.{staysOne}
 use Rattle.calls_steady.proofs.Staying.{act-steady}
@@ -33,7 +34,7 @@ use Rattle.table.proofs.InUse.{comps-length}
 use Rattle.table.proofs.Stores.{comps-put, past-put, past-none, past-then}
 use Rattle.calls_step.specs.declared.Visit.{Visit}
 use Rattle.calls_step.specs.Sweep.{tookAt, takenAt, visitAt, followedAt, choiceAt, sweepAt, hearers, Chain, Queued, recOf}
-use Rattle.calls_step.specs.Visit.{sendsAt, kindAt, kindBy, Performed, otherOf, poppedOf, recBy, kindOf}
+use Rattle.calls_step.specs.Visit.{sendsBy, sendsAt, kindAt, kindBy, Performed, otherOf, poppedOf, recBy, kindOf}
 use Rattle.calls_step.proofs.Queues.{seek-first, sends-fits}
 use Rattle.calls_step.proofs.Sweeping.{recsOf, Turned, turned-none, turned-some}
 
@@ -115,24 +116,29 @@ chain-some nexts q [] c = absurd (omega arith)
 chain-some nexts q (r ∷ rest) c = let z : q ≡ r = omega (arith, c .0) in (rest, ap (λ y. y ∷ rest) (sym z), subst (λ y. Chain nexts (getD nexts y 0) rest) (sym z) (c .1))
 
 -- where nothing fires there is no link
-head-idle : (x : ℕ) (c : Comp) (h : Head) → kindBy x c h ≡ 0 → (sentOn h ≡ 64 → x ≡ 0) → x ≡ 0
-unfolding kindBy kindOf mustAct sentOn
-head-idle x c Stop e n = n refl
-head-idle x c (Go u y q) e n = n refl
-head-idle x c (In d u k q r) e n = n refl
-head-idle x c (Call d m) e n = n refl
-head-idle x c (Out d u y q r) e n = go (ltb 0 x) refl e
+head-idle : (w : List ℕ) (x : ℕ) (c : Comp) (h : Head) → kindBy w x c h ≡ 0 → (sendsBy w c h ≡ 64 → x ≡ 0) → x ≡ 0
+unfolding kindBy kindOf mustAct wouldAct rightIn sendsBy sentOn
+head-idle w x c Stop e n = n refl
+head-idle w x c (Go u y q) e n = n (either (mayLeave w (c .loc) (valueIn (c .vals) y)))
   where
-    go : (b : Bool) → ltb 0 x ≡ b → _≡_ {A = ℕ} (cond b 3 0) 0 → x ≡ 0
-    go true z e = absurd (omega arith)
-    go false z e = omega (arith, ltb-false 0 x z)
+    either : (b : Bool) → _≡_ {A = ℕ} (cond b 64 64) 64
+    either true = refl
+    either false = refl
+head-idle w x c (In d u k q r) e n = n refl
+head-idle w x c (Call d m) e n = n refl
+head-idle w x c (Out d u y q r) e n = go (ltb 0 x) refl (mayMeet w (c .loc) d) e n
+  where
+    go : (b : Bool) → ltb 0 x ≡ b → (m : Bool) → _≡_ {A = ℕ} (cond (b && m) 3 0) 0 → (cond m d 64 ≡ 64 → x ≡ 0) → x ≡ 0
+    go true z true e n = absurd (omega arith)
+    go b z false e n = n refl
+    go false z true e n = omega (arith, ltb-false 0 x z)
 
 idle-link : (w : List ℕ) (l : ℕ) (c : Comp) (x : ℕ) → kindAt w l c x ≡ 0 → (sendsAt w l c ≡ 64 → x ≡ 0) → x ≡ 0
 unfolding kindAt sendsAt
 idle-link w l c x = go (readyAt l c)
   where
-    go : (b : Bool) → cond b (kindBy x c (headAt w (c .place))) 0 ≡ 0 → (cond b (sentOn (headAt w (c .place))) 64 ≡ 64 → x ≡ 0) → x ≡ 0
-    go true e n = head-idle x c (headAt w (c .place)) e n
+    go : (b : Bool) → cond b (kindBy w x c (headAt w (c .place))) 0 ≡ 0 → (cond b (sendsBy w c (headAt w (c .place))) 64 ≡ 64 → x ≡ 0) → x ≡ 0
+    go true e n = head-idle w x c (headAt w (c .place)) e n
     go false e n = n refl
 
 module _ (w : List ℕ) (good : scriptOk w ≡ true) (l : ℕ) (st now : State) (heads nexts : List ℕ) (before acts : List (List ℕ)) (count p : ℕ) (few : st .n ≤ 256) (i : Going w l st now heads nexts before acts count p) (h : p < st .n) where

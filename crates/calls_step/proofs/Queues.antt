@@ -18,13 +18,13 @@ use Rattle.table.specs.declared.Head.{Head}
 use Rattle.table.specs.declared.Head.the-variants.{Stop, Go, Out, In, Call}
 use Rattle.table.specs.Words.{headAt}
 use Rattle.table.specs.Valid.{scriptOk, compOk}
-use Rattle.table.specs.Fire.{readyAt, hears, sentOn}
+use Rattle.table.specs.Fire.{readyAt, hears, sentOn, rightIn}
 use Rattle.table.specs.declared.State.{State}
 use Rattle.table.specs.Meaning.{compIn, compsOf}
 use Rattle.calls_tick.specs.Heard.{heardOn, hearsAt}
 use Rattle.calls_tick.proofs.Hearing.{ear-fits, inEar, hears-own}
 use Rattle.calls_step.specs.Sweep.{hearers, Chain, Queued}
-use Rattle.calls_step.specs.Visit.{sendsAt, link, otherOf, poppedOf}
+use Rattle.calls_step.specs.Visit.{sendsBy, sendsAt, link, otherOf, poppedOf}
 use Rattle.table.proofs.InUse.{comps-length, from-here}
 
 -- ── positions of a chain ──
@@ -76,8 +76,8 @@ sent-small (In d t k p q) i = omega arith
 sent-small (Call d n) i = omega arith
 
 pub sends-fits : (w : List ℕ) (l : ℕ) (c : Comp) → scriptOk w ≡ true → compOk w c ≡ true → sendsAt w l c ≤ 64
-unfolding sendsAt
-sends-fits w l c e f = cond-small (readyAt l c) _ (sent-small (headAt w (c .place)) (ear-fits w c e f))
+unfolding sendsAt sendsBy
+sends-fits w l c e f = cond-small (readyAt l c) _ (cond-small (rightIn w c (headAt w (c .place))) _ (sent-small (headAt w (c .place)) (ear-fits w c e f)))
 
 pub queue-none : (w : List ℕ) (l k : ℕ) → Queued w l k [] (replicate 65 0) (replicate 256 0)
 unfolding hearers

@@ -21,7 +21,7 @@ use Rattle.table.specs.declared.Head.the-variants.{Stop, Go, Out, In, Call}
 use Rattle.table.specs.Words.{locsIn, headAt, bodyOf}
 use Rattle.table.specs.Valid.{scriptOk}
 use Rattle.table.specs.Split.{dueAt}
-use Rattle.table.specs.Fire.{Left, leftAt, becomesAt, handed, meetAt, aloneAt, togetherAt, leftBy, actOn, readyAt, hears, valueIn, loaded, mustAct, sentOn, fitsAlone, fitsTogether}
+use Rattle.table.specs.Fire.{Left, moveTag, leftAt, becomesAt, handed, meetAt, aloneAt, togetherAt, leftBy, actOn, readyAt, hears, valueIn, loaded, mayLeave, mayMeet, grantedAt, rightly, rightIn, wouldAct, mustAct, sentOn, fitsAlone, fitsTogether}
 use Rattle.table.proofs.Tests.{CompFine, comp-ok, script-fine}
 use Rattle.calls_tick.proofs.Hearing.{ear-fits, inEar}
 use Rattle.calls_act.specs.declared.Fired.{Fired}
@@ -29,7 +29,7 @@ use Rattle.calls_act.specs.declared.Met.{Met}
 use Rattle.calls_act.specs.Fired.{tagOf, oneOf, twoOf}
 use Rattle.calls_step.specs.declared.Visit.{Visit}
 use Rattle.calls_step.specs.Sweep.{chosenBy, choiceAt, visitAt, hearers, recOf}
-use Rattle.calls_step.specs.Visit.{sendsAt, kindBy, kindAt, Performed, recBy, kindOf}
+use Rattle.calls_step.specs.Visit.{sendsBy, sendsAt, kindBy, kindAt, Performed, recBy, kindOf}
 use Rattle.calls_step.proofs.Queues.{seek-first, seek-nobody, hearers-other, hearers-first}
 
 -- ── lists ──
@@ -114,6 +114,20 @@ rests : (w : List ℕ) (l p : ℕ) (cs : List Comp) (c : Comp) (v : Visit) (n : 
 rests w l p cs c v n e a x y = record {
   actions = rw (e, a);
   comps = rw (e, a) (sym same);
+  still = λ z h. ap (hearers w l h 0) same;
+  others = λ z. absurd (z refl);
+  first = λ z. absurd (z refl);
+}
+  where
+    same : R.set (R.set cs p (v .x)) p (v .y) ≡ cs
+    same = rw (x, y) (ap (λ z. R.set z p c) (put-same cs p c e) ∙ put-same cs p c e)
+
+-- a move that is due lacks its right: it is chosen and refused
+lacks : (w : List ℕ) (l p : ℕ) (cs : List Comp) (c : Comp) (v : Visit) (n : ℕ) → at cs p ≡ accepted c → choiceAt w l p c cs ≡ accepted (single moves p) → aloneAt w moves c ≡ refused n → v .x ≡ c → v .y ≡ c → Turned w l p p 0 0 cs c v
+unfolding actOn leftBy
+lacks w l p cs c v n e a b x y = record {
+  actions = rw (e, a, e, b);
+  comps = rw (e, a, e, b) (sym same);
   still = λ z h. ap (hearers w l h 0) same;
   others = λ z. absurd (z refl);
   first = λ z. absurd (z refl);
@@ -207,7 +221,7 @@ fires-two w l p q d cs c e v m g i j a b o u s n r x y = record {
     there = at-put-other cs p q (m .sender) e j apart
 
 -- ── by cases on the head ──
-kind-ready : (w : List ℕ) (l : ℕ) (c : Comp) (x : ℕ) (h : Head) → readyAt l c ≡ true → headAt w (c .place) ≡ h → kindAt w l c x ≡ kindBy x c h
+kind-ready : (w : List ℕ) (l : ℕ) (c : Comp) (x : ℕ) (h : Head) → readyAt l c ≡ true → headAt w (c .place) ≡ h → kindAt w l c x ≡ kindBy w x c h
 unfolding kindAt
 kind-ready w l c x h r e = rw (r, e)
 
@@ -215,11 +229,11 @@ choice-ready : (w : List ℕ) (l p : ℕ) (c : Comp) (cs : List Comp) (h : Head)
 unfolding choiceAt
 choice-ready w l p c cs h r e = rw (r, e)
 
-sends-ready : (w : List ℕ) (l : ℕ) (c : Comp) (h : Head) → readyAt l c ≡ true → headAt w (c .place) ≡ h → sendsAt w l c ≡ sentOn h
+sends-ready : (w : List ℕ) (l : ℕ) (c : Comp) (h : Head) → readyAt l c ≡ true → headAt w (c .place) ≡ h → sendsAt w l c ≡ sendsBy w c h
 unfolding sendsAt
 sends-ready w l c h r e = rw (r, e)
 
-alone-free : (w : List ℕ) (k : Kind) (l : ℕ) (c : Comp) (h : Head) → readyAt l c ≡ true → headAt w (c .place) ≡ h → aloneAt w k c ≡ becomesAt w k c h
+alone-free : (w : List ℕ) (k : Kind) (l : ℕ) (c : Comp) (h : Head) → readyAt l c ≡ true → headAt w (c .place) ≡ h → aloneAt w k c ≡ (becomesAt w k c h >>= rightly w)
 unfolding aloneAt fitsAlone
 alone-free w k l c h r e = rw (ready-free l c r .0, e)
 
@@ -232,7 +246,7 @@ module _ (w : List ℕ) (good : scriptOk w ≡ true) (l p : ℕ) (cs : List Comp
   silent h e k g = rw e (k g)
 
   call-case : (d n : ℕ) → readyAt l c ≡ true → headAt w (c .place) ≡ Call d n → Performed w (kindAt w l c 0) c c v → Turned w l p p (kindAt w l c 0) 0 cs c v
-  unfolding kindBy kindOf mustAct chosenBy becomesAt hears
+  unfolding kindBy kindOf mustAct wouldAct rightIn rightly grantedAt chosenBy becomesAt hears
   call-case d n r e f =
       let k : kindAt w l c 0 ≡ 1 = kind-ready w l c 0 _ r e in
       let g = f .call k in
@@ -241,36 +255,41 @@ module _ (w : List ℕ) (good : scriptOk w ≡ true) (l p : ℕ) (cs : List Comp
       (fires-one w l p calls cs c v (g .0) _ at-p (choice-ready w l p c cs _ r e) a (g .1) (becomes-unready w l calls c (Call d n) _ good fine refl) (silent _ e (λ g. refl)) (g .2) (g .3))
 
   go-case : (t y q : ℕ) → readyAt l c ≡ true → headAt w (c .place) ≡ Go t y q → Performed w (kindAt w l c 0) c c v → Turned w l p p (kindAt w l c 0) 0 cs c v
-  unfolding kindBy kindOf mustAct chosenBy becomesAt hears
-  go-case t y q r e f = by-timer (dueAt c) refl
+  unfolding kindBy kindOf mustAct wouldAct rightIn rightly grantedAt chosenBy becomesAt hears
+  go-case t y q r e f = by-timer (dueAt c) refl (mayLeave w (c .loc) (valueIn (c .vals) y)) refl
     where
-      by-timer : (b : Bool) → dueAt c ≡ b → Turned w l p p (kindAt w l c 0) 0 cs c v
-      by-timer true z =
-          let k : kindAt w l c 0 ≡ 2 = kind-ready w l c 0 _ r e ∙ rw z in
+      by-timer : (b : Bool) → dueAt c ≡ b → (a : Bool) → mayLeave w (c .loc) (valueIn (c .vals) y) ≡ a → Turned w l p p (kindAt w l c 0) 0 cs c v
+      by-timer true z true m =
+          let k : kindAt w l c 0 ≡ 2 = kind-ready w l c 0 _ r e ∙ rw (z, m) in
           let g = f .move k in
-          let a = alone-free w moves l c _ r e in
+          let a : aloneAt w moves c ≡ accepted (record { tag = moveTag (valueIn (c .vals) y) (c .loc); after = leftAt (c .loc) (valueIn (c .vals) y) q (c .vals) ∷ [] }) = alone-free w moves l c _ r e ∙ rw m in
           subst (λ z. Turned w l p p z 0 cs c v) (sym k)
           (fires-one w l p moves cs c v (g .0) _ at-p (choice-ready w l p c cs _ r e ∙ rw z) a (g .1) (becomes-unready w l moves c (Go t y q) _ good fine refl) (silent _ e (λ g. refl)) (g .2) (g .3))
-      by-timer false z = rest-case (kind-ready w l c 0 _ r e ∙ rw z) 0 (choice-ready w l p c cs _ r e ∙ rw z) f
+      by-timer true z false m =
+          let k : kindAt w l c 0 ≡ 0 = kind-ready w l c 0 _ r e ∙ rw (z, m) in
+          subst (λ z. Turned w l p p z 0 cs c v) (sym k)
+          (lacks w l p cs c v 20 at-p (choice-ready w l p c cs _ r e ∙ rw z) (alone-free w moves l c _ r e ∙ rw m) (f .none k .0) (f .none k .1))
+      by-timer false z a m = rest-case (kind-ready w l c 0 _ r e ∙ rw z) 0 (choice-ready w l p c cs _ r e ∙ rw z) f
 
-  out-case : (d t y q s : ℕ) → readyAt l c ≡ true → headAt w (c .place) ≡ Out d t y q s → (sendsAt w l c < 64 → hearers w l (sendsAt w l c) 0 cs ≡ []) → Performed w (kindAt w l c 0) c c v → (b : Bool) → ltb d 64 ≡ b → Turned w l p p (kindAt w l c 0) 0 cs c v
-  unfolding kindBy kindOf mustAct chosenBy sentOn
-  out-case d t y q s r e nobody f true b =
-      let z : sendsAt w l c ≡ d = sends-ready w l c _ r e in
+  out-case : (d t y q s : ℕ) → readyAt l c ≡ true → headAt w (c .place) ≡ Out d t y q s → (sendsAt w l c < 64 → hearers w l (sendsAt w l c) 0 cs ≡ []) → Performed w (kindAt w l c 0) c c v → (b : Bool) → ltb d 64 ≡ b → (m : Bool) → mayMeet w (c .loc) d ≡ m → Turned w l p p (kindAt w l c 0) 0 cs c v
+  unfolding kindBy kindOf mustAct wouldAct rightIn chosenBy sendsBy sentOn
+  out-case d t y q s r e nobody f true b true m =
+      let z : sendsAt w l c ≡ d = sends-ready w l c _ r e ∙ rw m in
       let n : hearers w l d 0 cs ≡ [] = subst (λ k. hearers w l k 0 cs ≡ []) z (nobody (rw z (ltb-true d 64 b))) in
-      rest-case (kind-ready w l c 0 _ r e) 8 (choice-ready w l p c cs _ r e ∙ rw (seek-nobody w l d 0 cs n)) f
-  out-case d t y q s r e nobody f false b = absurd (omega (arith, ltb-false d 64 b, subst (inEar 64) e (ear-fits w c good (comp-ok w c fine))))
+      rest-case (kind-ready w l c 0 _ r e) 8 (choice-ready w l p c cs _ r e ∙ rw (m, seek-nobody w l d 0 cs n)) f
+  out-case d t y q s r e nobody f true b false m = rest-case (kind-ready w l c 0 _ r e) 8 (choice-ready w l p c cs _ r e ∙ rw m) f
+  out-case d t y q s r e nobody f false b x m = absurd (omega (arith, ltb-false d 64 b, subst (inEar 64) e (ear-fits w c good (comp-ok w c fine))))
 
   pub turned-none : (sendsAt w l c < 64 → hearers w l (sendsAt w l c) 0 cs ≡ []) → Performed w (kindAt w l c 0) c c v → Turned w l p p (kindAt w l c 0) 0 cs c v
   turned-none nobody f = by-ready (readyAt l c) refl (headAt w (c .place)) refl
     where
       by-ready : (b : Bool) → readyAt l c ≡ b → (h : Head) → headAt w (c .place) ≡ h → Turned w l p p (kindAt w l c 0) 0 cs c v
       by-ready false r h e = rest-case (unfold kindAt in rw r) 0 (unfold choiceAt in rw r) f
-      by-ready true r Stop e = rest-case (kind-ready w l c 0 _ r e ∙ (unfold kindBy kindOf mustAct in refl)) 0 (choice-ready w l p c cs _ r e ∙ (unfold chosenBy in refl)) f
+      by-ready true r Stop e = rest-case (kind-ready w l c 0 _ r e ∙ (unfold kindBy kindOf mustAct wouldAct in refl)) 0 (choice-ready w l p c cs _ r e ∙ (unfold chosenBy in refl)) f
       by-ready true r (Go t y q) e = go-case t y q r e f
-      by-ready true r (In d t k y q) e = rest-case (kind-ready w l c 0 _ r e ∙ (unfold kindBy kindOf mustAct in refl)) 0 (choice-ready w l p c cs _ r e ∙ (unfold chosenBy in refl)) f
+      by-ready true r (In d t k y q) e = rest-case (kind-ready w l c 0 _ r e ∙ (unfold kindBy kindOf mustAct wouldAct in refl)) 0 (choice-ready w l p c cs _ r e ∙ (unfold chosenBy in refl)) f
       by-ready true r (Call d n) e = call-case d n r e f
-      by-ready true r (Out d t y q s) e = out-case d t y q s r e nobody f (ltb d 64) refl
+      by-ready true r (Out d t y q s) e = out-case d t y q s r e nobody f (ltb d 64) refl (mayMeet w (c .loc) d) refl
 
 -- a link: the first who hears is the partner
 hears-in : (w : List ℕ) (l d : ℕ) (e : Comp) (h : Head) → headAt w (e .place) ≡ h → (readyAt l e && hears d h) ≡ true → (d₂ t k p q : ℕ) × (h ≡ In d₂ t k p q) × (eqb d d₂ ≡ true)
@@ -285,40 +304,49 @@ handed-unready : (w : List ℕ) (l : ℕ) (c e : Comp) (h x p k q : ℕ) → scr
 unfolding handed
 handed-unready w l c e h x p k q g f = (left-unready w l (c .loc) (c .loc) p (c .vals) g (f .loc), (left-unready w l (c .loc) (c .loc) q (set (e .vals) k x) g (f .loc), tt))
 
-meet-free : (w : List ℕ) (l : ℕ) (c e : Comp) (d t y p q d₂ t₂ k p₂ q₂ : ℕ) → readyAt l c ≡ true → readyAt l e ≡ true → headAt w (c .place) ≡ Out d t y p q → headAt w (e .place) ≡ In d₂ t₂ k p₂ q₂ → eqb d d₂ ≡ true
+meet-free : (w : List ℕ) (l : ℕ) (c e : Comp) (d t y p q d₂ t₂ k p₂ q₂ : ℕ) → readyAt l c ≡ true → readyAt l e ≡ true → headAt w (c .place) ≡ Out d t y p q → headAt w (e .place) ≡ In d₂ t₂ k p₂ q₂ → eqb d d₂ ≡ true → mayMeet w (c .loc) d ≡ true
     → togetherAt w c e ≡ accepted (handed c e d (valueIn (c .vals) y) p k p₂)
-unfolding togetherAt fitsTogether meetAt
-meet-free w l c e d t y p q d₂ t₂ k p₂ q₂ r s a b z =
+unfolding togetherAt fitsTogether meetAt rightly grantedAt handed
+meet-free w l c e d t y p q d₂ t₂ k p₂ q₂ r s a b z m =
     let f = ready-free l c r in
     let g = ready-free l e s in
-    rw (f .0, g .0, a, b, z, eq-eqb (c .loc) (e .loc) (f .1 ∙ sym (g .1)))
+    rw (f .0, g .0, a, b, z, eq-eqb (c .loc) (e .loc) (f .1 ∙ sym (g .1)), m)
 
 module _ (w : List ℕ) (good : scriptOk w ≡ true) (l p q : ℕ) (cs : List Comp) (c e : Comp) (v : Visit) (at-p : at cs p ≡ accepted c) (at-q : at cs q ≡ accepted e) (fine : CompFine w c) where
-  two-case : (d t y a b : ℕ) (qs : List ℕ) → readyAt l c ≡ true → headAt w (c .place) ≡ Out d t y a b → hearers w l d 0 cs ≡ q ∷ qs → Performed w (kindAt w l c (suc q)) c e v → Turned w l p q (kindAt w l c (suc q)) (suc q) cs c v
-  unfolding kindBy kindOf mustAct chosenBy sentOn hears
-  two-case d t y a b qs r h k f =
+  two-case : (d t y a b : ℕ) (qs : List ℕ) → readyAt l c ≡ true → headAt w (c .place) ≡ Out d t y a b → mayMeet w (c .loc) d ≡ true → hearers w l d 0 cs ≡ q ∷ qs → Performed w (kindAt w l c (suc q)) c e v → Turned w l p q (kindAt w l c (suc q)) (suc q) cs c v
+  unfolding kindBy kindOf mustAct wouldAct rightIn chosenBy sendsBy sentOn hears
+  two-case d t y a b qs r h o′ k f =
       let s = seek-first w l d 0 cs q qs k in
       let z : s .0 ≡ q = omega (arith, s .2) in
       let u : seek (λ x. readyAt l x && hears d (headAt w (x .place))) cs ≡ accepted q = s .1 ∙ ap accepted z in
       let m = seek-at (λ x. readyAt l x && hears d (headAt w (x .place))) cs q e u at-q in
       let i = hears-in w l d e (headAt w (e .place)) refl m in
-      let o : kindAt w l c (suc q) ≡ 3 = kind-ready w l c (suc q) _ r h ∙ rw (lt-ltb 0 (suc q) (omega arith)) in
+      let o : kindAt w l c (suc q) ≡ 3 = kind-ready w l c (suc q) _ r h ∙ rw (lt-ltb 0 (suc q) (omega arith), o′) in
       let g = f .pair o in
-      let j = meet-free w l c e d t y a b (i .0) (i .1) (i .2) (i .3) (i .4) r (and-inv (readyAt l e) _ m .0) h (i .5) (i .6) in
+      let j = meet-free w l c e d t y a b (i .0) (i .1) (i .2) (i .3) (i .4) r (and-inv (readyAt l e) _ m .0) h (i .5) (i .6) o′ in
       subst (λ z. Turned w l p q z (suc q) cs c v) (sym o)
-      (fires-two w l p q d cs c e v (g .0) _ at-p at-q (choice-ready w l p c cs _ r h ∙ rw u) j (g .1) (handed-unready w l c e d (valueIn (c .vals) y) a (i .2) (i .3) good fine)
-      (sends-ready w l c _ r h) (λ x. rw h) (λ x. rw (i .5) (ap (eqb x) (sym (eqb-true d (i .0) (i .6))))) (g .2) (g .3))
+      (fires-two w l p q d cs c e v (g .0) _ at-p at-q (choice-ready w l p c cs _ r h ∙ rw (o′, u)) j (g .1) (handed-unready w l c e d (valueIn (c .vals) y) a (i .2) (i .3) good fine)
+      (sends-ready w l c _ r h ∙ rw o′) (λ x. rw h) (λ x. rw (i .5) (ap (eqb x) (sym (eqb-true d (i .0) (i .6))))) (g .2) (g .3))
 
-  not-sent : (h : Head) → sentOn h ≡ 64 → readyAt l c ≡ true → headAt w (c .place) ≡ h → (sendsAt w l c ≡ 64 → _≡_ {A = ℕ} (suc q) 0) → ⊥
+  not-sent : (h : Head) → sendsBy w c h ≡ 64 → readyAt l c ≡ true → headAt w (c .place) ≡ h → (sendsAt w l c ≡ 64 → _≡_ {A = ℕ} (suc q) 0) → ⊥
   not-sent h z r e k = omega (arith, k (sends-ready w l c h r e ∙ z))
 
   pub turned-some : (sendsAt w l c ≡ 64 → _≡_ {A = ℕ} (suc q) 0) → (qs : List ℕ) → hearers w l (sendsAt w l c) 0 cs ≡ q ∷ qs → Performed w (kindAt w l c (suc q)) c e v → Turned w l p q (kindAt w l c (suc q)) (suc q) cs c v
+  unfolding sendsBy rightIn sentOn
   turned-some nope qs k f = by-ready (readyAt l c) refl (headAt w (c .place)) refl
     where
+      either : (b : Bool) → _≡_ {A = ℕ} (cond b 64 64) 64
+      either true = refl
+      either false = refl
+
+      by-right : (d t y a b : ℕ) → readyAt l c ≡ true → headAt w (c .place) ≡ Out d t y a b → (m : Bool) → mayMeet w (c .loc) d ≡ m → Turned w l p q (kindAt w l c (suc q)) (suc q) cs c v
+      by-right d t y a b r e true m = two-case d t y a b qs r e m (subst (λ z. hearers w l z 0 cs ≡ q ∷ qs) (sends-ready w l c _ r e ∙ rw m) k) f
+      by-right d t y a b r e false m = absurd (not-sent (Out d t y a b) (rw m) r e nope)
+
       by-ready : (b : Bool) → readyAt l c ≡ b → (h : Head) → headAt w (c .place) ≡ h → Turned w l p q (kindAt w l c (suc q)) (suc q) cs c v
       by-ready false r h e = absurd (omega (arith, nope (unfold sendsAt in rw r)))
-      by-ready true r Stop e = absurd (not-sent Stop (unfold sentOn in refl) r e nope)
-      by-ready true r (Go t y a) e = absurd (not-sent (Go t y a) (unfold sentOn in refl) r e nope)
-      by-ready true r (In d t y a b) e = absurd (not-sent (In d t y a b) (unfold sentOn in refl) r e nope)
-      by-ready true r (Call d n) e = absurd (not-sent (Call d n) (unfold sentOn in refl) r e nope)
-      by-ready true r (Out d t y a b) e = two-case d t y a b qs r e (subst (λ z. hearers w l z 0 cs ≡ q ∷ qs) (sends-ready w l c _ r e ∙ (unfold sentOn in refl)) k) f
+      by-ready true r Stop e = absurd (not-sent Stop refl r e nope)
+      by-ready true r (Go t y a) e = absurd (not-sent (Go t y a) (either (mayLeave w (c .loc) (valueIn (c .vals) y))) r e nope)
+      by-ready true r (In d t y a b) e = absurd (not-sent (In d t y a b) refl r e nope)
+      by-ready true r (Call d n) e = absurd (not-sent (Call d n) refl r e nope)
+      by-ready true r (Out d t y a b) e = by-right d t y a b r e (mayMeet w (c .loc) d) refl

@@ -3,7 +3,7 @@
 use Prim.Native.Nat.{ℕ, zero, suc, _+_, _<_}
 use mathlib.Core.List.{List, [], _∷_, _++_, map}
 use mathlib.Core.Bool.{Bool, true, false, cond, _&&_}
-use mathlib.Core.Path.{_≡_, refl, sym, ap, subst, _∙_}
+use mathlib.Core.Path.{_≡_, refl, sym, ap, subst, _∙_, fun-ext}
 use lib.Dec.{eqb, ltb}
 use lib.ListN.{length, length-map}
 use Rattle.terms.specs.Same.{every}
@@ -21,9 +21,11 @@ use Rattle.table.specs.Words.{locsIn, locName, headAt}
 use Rattle.table.specs.Meaning.{contextOf, means}
 use Rattle.table.specs.Valid.{scriptOk, compOk}
 use Rattle.table.specs.Split.{dueAt}
-use Rattle.table.specs.Fire.{ActedAt, actOn, aloneAt, becomesAt, readyAt, hears, fitsAlone}
+use Rattle.table.specs.Fire.{mayMeet, grantedAt, rightly, rightIn, ActedAt, actOn, aloneAt, becomesAt, readyAt, hears, fitsAlone}
 use Rattle.table.proofs.Tests.{CompFine, comp-fine}
-use Rattle.table.proofs.Fires.{mapA, actedOf, act-means, at-map, every-at}
+use Rattle.terms.proofs.Lists.{every-at}
+use Rattle.table.proofs.Fires.{mapA, actedOf, at-map}
+use Rattle.table.proofs.Granted.{act-means}
 use Rattle.table.proofs.Ticks.{ready-means, alone-ok, due-here, isDue, partner-means, Ready, is-ready, meets}
 use Rattle.table.proofs.Kept.{okA, goodActed, act-kept}
 use Rattle.calls_step.specs.Sweep.{chosenBy, choiceAt, SweptAt, idleAt, tookAt, takenAt, visitAt, followedAt, sweepAt}
@@ -55,6 +57,21 @@ seek-never f (x ∷ xs) = go (f x) (seek-never f xs)
     go true h = rw h
     go false h = rw h
 
+-- a right that is the same for all
+seek-true : {A : Type 0} (f g : A → Bool) (xs : List A) → seek (λ x. f x && (g x && true)) xs ≡ seek (λ x. f x && g x) xs
+seek-true f g xs = ap (λ k. seek k xs) (fun-ext (λ x. ap (_&&_ (f x)) (go (g x))))
+  where
+    go : (a : Bool) → (a && true) ≡ a
+    go true = refl
+    go false = refl
+
+seek-false : {A : Type 0} (f g : A → Bool) (xs : List A) → seek (λ x. f x && (g x && false)) xs ≡ refused 8
+seek-false f g xs = ap (λ k. seek k xs) (fun-ext (λ x. ap (_&&_ (f x)) (go (g x)))) ∙ seek-never f xs
+  where
+    go : (a : Bool) → (a && false) ≡ false
+    go true = refl
+    go false = refl
+
 agree-refl : (x : Answer Action) → Agree x x
 agree-refl (refused n) = tt
 agree-refl (accepted a) = refl
@@ -62,16 +79,20 @@ agree-refl (accepted a) = refl
 module _ (w : List ℕ) (good : scriptOk w ≡ true) (l : ℕ) (inl : l < locsIn w) where
   -- what the rules choose at a component ready at l, by its head
   by-head : (p : ℕ) (c : Comp) (cs : List Comp) (h : Head)
-      → Agree (cond (ok (becomesAt w calls c h)) (accepted (single calls p)) (cond (isDue c h) (accepted (single moves p)) (seek (λ e. readyAt l e && meets h (headAt w (e .place))) cs >>= λ q. accepted (pair p q))))
+      → Agree (cond (ok (becomesAt w calls c h >>= rightly w)) (accepted (single calls p)) (cond (isDue c h) (accepted (single moves p)) (seek (λ e. readyAt l e && (meets h (headAt w (e .place)) && rightIn w c h)) cs >>= λ q. accepted (pair p q))))
       (chosenBy w l p c cs h)
-  unfolding becomesAt isDue meets chosenBy
+  unfolding becomesAt rightly grantedAt isDue meets rightIn chosenBy
   by-head p c cs Stop = rw (seek-never (readyAt l) cs) tt
   by-head p c cs (Go t v q) = go (dueAt c)
     where
       go : (b : Bool) → Agree (cond b (accepted (single moves p)) (seek (λ e. readyAt l e && false) cs >>= λ q. accepted (pair p q))) (cond b (accepted (single moves p)) (refused 0))
       go true = refl
       go false = rw (seek-never (readyAt l) cs) tt
-  by-head p c cs (Out h t v q r) = agree-refl (seek (λ e. readyAt l e && hears h (headAt w (e .place))) cs >>= λ q. accepted (pair p q))
+  by-head p c cs (Out h t v q r) = go (mayMeet w (c .loc) h)
+    where
+      go : (b : Bool) → Agree (seek (λ e. readyAt l e && (hears h (headAt w (e .place)) && b)) cs >>= λ q. accepted (pair p q)) (cond b (seek (λ e. readyAt l e && hears h (headAt w (e .place))) cs >>= λ q. accepted (pair p q)) (refused 8))
+      go true = rw (seek-true (readyAt l) (λ e. hears h (headAt w (e .place))) cs) (agree-refl (seek (λ e. readyAt l e && hears h (headAt w (e .place))) cs >>= λ q. accepted (pair p q)))
+      go false = rw (seek-false (readyAt l) (λ e. hears h (headAt w (e .place))) cs) tt
   by-head p c cs (In h t k q r) = rw (seek-never (readyAt l) cs) tt
   by-head p c cs (Call d n) = refl
 
@@ -79,7 +100,7 @@ module _ (w : List ℕ) (good : scriptOk w ≡ true) (l : ℕ) (inl : l < locsIn
   unfolding choice choiceAt
   choice-agrees p c cs f e = rw (ready-means w good l c inl f) (go (readyAt l c) refl)
     where
-      partners : Ready w good l c → seek (λ x. ready (locName w l) x && ok (fire (contextOf w) (together (means w c) x))) (map (means w) cs) ≡ seek (λ x. readyAt l x && meets (headAt w (c .place)) (headAt w (x .place))) cs
+      partners : Ready w good l c → seek (λ x. ready (locName w l) x && ok (fire (contextOf w) (together (means w c) x))) (map (means w) cs) ≡ seek (λ x. readyAt l x && (meets (headAt w (c .place)) (headAt w (x .place)) && rightIn w c (headAt w (c .place)))) cs
       partners r =
           seek-map (λ x. ready (locName w l) x && ok (fire (contextOf w) (together (means w c) x))) (means w) cs
           ∙ seek-same _ _ (compOk w) cs e (λ x g. partner-means w good l c x inl f (comp-fine w x g) r)
@@ -90,10 +111,10 @@ module _ (w : List ℕ) (good : scriptOk w ≡ true) (l : ℕ) (inl : l < locsIn
       go false q = tt
       go true q =
           let r = is-ready w good l c q in
-          let a : ok (fire (contextOf w) (alone calls (means w c))) ≡ ok (becomesAt w calls c (headAt w (c .place))) = alone-ok w good calls c f ∙ (free-alone c (r .free)) in
+          let a : ok (fire (contextOf w) (alone calls (means w c))) ≡ ok (becomesAt w calls c (headAt w (c .place)) >>= rightly w) = alone-ok w good calls c f ∙ (free-alone c (r .free)) in
           rw (a, due-here w good c (r .free), partners r) (by-head p c cs (headAt w (c .place)))
         where
-          free-alone : (c : Comp) → ltb (c .mark) 64 ≡ false → ok (aloneAt w calls c) ≡ ok (becomesAt w calls c (headAt w (c .place)))
+          free-alone : (c : Comp) → ltb (c .mark) 64 ≡ false → ok (aloneAt w calls c) ≡ ok (becomesAt w calls c (headAt w (c .place)) >>= rightly w)
           free-alone c e = unfold aloneAt fitsAlone in rw e
 
   -- ── what a choice leaves ──

@@ -15,14 +15,14 @@ use Rattle.table.specs.declared.Head.{Head}
 use Rattle.table.specs.declared.Head.the-variants.{Stop, Go, Out, In, Call}
 use Rattle.table.specs.Words.{headAt}
 use Rattle.table.specs.Split.{dueAt}
-use Rattle.table.specs.Fire.{ActedAt, actOn, readyAt, hears}
+use Rattle.table.specs.Fire.{ActedAt, mayMeet, actOn, readyAt, hears}
 
 -- ── which action fires at a component that stands at p ──
--- of a component ready at l with this head
+-- of a component ready at l with this head; a `go` that is due and lacks its right is refused when it is fired, and then nothing is
 unfoldable pub chosenBy : List ℕ → ℕ → ℕ → Comp → List Comp → Head → Answer Action
 chosenBy w l p c cs Stop = refused 0
 chosenBy w l p c cs (Go u v q) = cond (dueAt c) (accepted (single moves p)) (refused 0)
-chosenBy w l p c cs (Out h u v q r) = seek (λ e. readyAt l e && hears h (headAt w (e .place))) cs >>= λ q. accepted (pair p q)
+chosenBy w l p c cs (Out h u v q r) = cond (mayMeet w (c .loc) h) (seek (λ e. readyAt l e && hears h (headAt w (e .place))) cs >>= λ q. accepted (pair p q)) (refused 8)
 chosenBy w l p c cs (In h u k q r) = refused 0
 chosenBy w l p c cs (Call d n) = accepted (single calls p)
 

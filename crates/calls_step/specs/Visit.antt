@@ -13,16 +13,20 @@ use Rattle.table.specs.declared.Head.{Head}
 use Rattle.table.specs.declared.Head.the-variants.{Stop, Go, Out, In, Call}
 use Rattle.table.specs.Words.{stateWords, headAt}
 use Rattle.table.specs.Meaning.{PastKept, compsOf}
-use Rattle.table.specs.Fire.{aloneAt, togetherAt, readyAt, sentOn, mustAct}
+use Rattle.table.specs.Fire.{aloneAt, togetherAt, readyAt, sentOn, rightIn, mustAct}
 use Rattle.calls_act.specs.declared.Fired.{Fired}
 use Rattle.calls_act.specs.declared.Met.{Met}
 use Rattle.calls_act.specs.Fired.{oneOf, twoOf}
 use Rattle.calls_step.specs.declared.Visit.{Visit}
 use Rattle.calls_step.specs.Sweep.{sweepAt, recOf}
 
+-- the channel that a component with the head h sends on, 64 for none: without its right it sends on none
+unfoldable pub sendsBy : List ℕ → Comp → Head → ℕ
+sendsBy w c h = cond (rightIn w c h) (sentOn h) 64
+
 -- of a component that is ready at l
 unfoldable pub sendsAt : List ℕ → ℕ → Comp → ℕ
-sendsAt w l c = cond (readyAt l c) (sentOn (headAt w (c .place))) 64
+sendsAt w l c = cond (readyAt l c) (sendsBy w c (headAt w (c .place))) 64
 
 -- the link to the position i, for a channel; 64 is none
 abbrev pub link : ℕ → ℕ → ℕ
@@ -37,11 +41,11 @@ kindOf (In h t k p q) = 0
 kindOf (Call d n) = 1
 
 -- the kind of the action that fires, 0 for none, where x is the link to the lowest that hears: what must act does
-unfoldable pub kindBy : ℕ → Comp → Head → ℕ
-kindBy x c h = cond (mustAct (ltb 0 x) c h) (kindOf h) 0
+unfoldable pub kindBy : List ℕ → ℕ → Comp → Head → ℕ
+kindBy w x c h = cond (mustAct w (ltb 0 x) c h) (kindOf h) 0
 
 unfoldable pub kindAt : List ℕ → ℕ → Comp → ℕ → ℕ
-kindAt w l c x = cond (readyAt l c) (kindBy x c (headAt w (c .place))) 0
+kindAt w l c x = cond (readyAt l c) (kindBy w x c (headAt w (c .place))) 0
 
 -- what becomes of the component c at the position and of e, its partner or itself
 pub record Performed (w : List ℕ) (k : ℕ) (c e : Comp) (r : Visit) : Type 0 where

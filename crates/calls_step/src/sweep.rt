@@ -4,11 +4,12 @@ ghost use mathlib.Core.Bool.{true};
 ghost use Prim.Native.Nat.{_<_, _≤_};
 ghost use lib.ListN.{length};
 ghost use Rattle.table.specs.Valid.{scriptOk, compOk, valid};
-ghost use Rattle.calls_step.specs.Visit.{sendsAt, link, kindOf, kindBy, kindAt, Performed, otherOf, poppedOf, recBy, SweepsAs};
+ghost use Rattle.calls_step.specs.Visit.{sendsBy, sendsAt, link, kindOf, kindBy, kindAt, Performed, otherOf, poppedOf, recBy, SweepsAs};
 ghost use Rattle.table.specs.Words.{stateWords};
 use super::Queue;
 use super::Visit;
 use calls_act::fire;
+use calls_act::rights::right_in;
 use calls_tick::forced;
 use table::Comp;
 use table::Head;
@@ -18,13 +19,22 @@ use table::comps::comp_at;
 use table::comps::put_comp;
 use table::words;
 
+fn sends_by(w: &Script, c: Comp, h: Head) -> u32
+    ensures { λ r. ⌜ r ≡ sendsBy (now (w .entry)) c h ⌝ }
+{
+    if right_in(w, c, h) {
+        return forced::sent_on(h);
+    }
+    64
+}
+
 fn sends_at(w: &Script, l: u32, c: Comp) -> u32
     requires { ⌜ (scriptOk (now w) ≡ true) × (compOk (now w) c ≡ true) ⌝ }
     ensures { λ r. ⌜ r ≡ sendsAt (now (w .entry)) l c ⌝ }
 {
     if forced::ready_at(l, c) {
         let h = words::head_at(w, words::wide(c.place));
-        return forced::sent_on(h);
+        return sends_by(w, c, h);
     }
     64
 }
@@ -52,10 +62,10 @@ fn kind_of(h: Head) -> u32
 }
 
 // The kind of the action that a ready component with the head h performs, 0 for none; x is the link to the lowest that hears its channel.
-fn kind_by(x: u32, c: Comp, h: Head) -> u32
-    ensures { λ r. ⌜ r ≡ kindBy x c h ⌝ }
+fn kind_by(w: &Script, x: u32, c: Comp, h: Head) -> u32
+    ensures { λ r. ⌜ r ≡ kindBy (now (w .entry)) x c h ⌝ }
 {
-    if forced::must_act(0 < x, c, h) {
+    if forced::must_act(w, 0 < x, c, h) {
         return kind_of(h);
     }
     0
@@ -67,7 +77,7 @@ fn kind_at(w: &Script, l: u32, c: Comp, x: u32) -> u32
 {
     if forced::ready_at(l, c) {
         let h = words::head_at(w, words::wide(c.place));
-        return kind_by(x, c, h);
+        return kind_by(w, x, c, h);
     }
     0
 }

@@ -16,7 +16,7 @@ use Rattle.table.specs.declared.Head.{Head}
 use Rattle.table.specs.declared.Head.the-variants.{Stop, Go, Out, In, Call}
 use Rattle.table.specs.Words.{chansIn, headAt}
 use Rattle.table.specs.Valid.{headOk, scriptOk, compOk}
-use Rattle.table.specs.Fire.{readyAt, sentOn, hears, mustAct, heardAt, pressesAt}
+use Rattle.table.specs.Fire.{readyAt, sentOn, hears, rightIn, wouldAct, mustAct, heardAt, pressesAt}
 use Rattle.table.proofs.Tests.{script-fine, part-fine, comp-fine}
 use Rattle.table.proofs.Places.{out-fine, in-fine}
 use Rattle.calls_steady.proofs.Staying.{take-more}
@@ -110,11 +110,11 @@ module _ (w : List ℕ) (l : ℕ) (xs : List Comp) (j : ℕ) (d : Comp) (ys : Li
 
 -- ── what presses ──
 presses-heard : (w : List ℕ) (l : ℕ) (cs : List Comp) (ys : List ℕ) (c : Comp) (g : Head) → inEar 64 g → Heard w l cs ys
-    → mustAct (eqb (getD ys (sentOn g) 0) 1) c g ≡ mustAct (heardAt w l cs (sentOn g)) c g
-unfolding mustAct sentOn
+    → mustAct w (eqb (getD ys (sentOn g) 0) 1) c g ≡ mustAct w (heardAt w l cs (sentOn g)) c g
+unfolding mustAct wouldAct sentOn
 presses-heard w l cs ys c Stop i p = refl
 presses-heard w l cs ys c (Go u v q) i p = refl
-presses-heard w l cs ys c (Out h u v q r) i p = p h i
+presses-heard w l cs ys c (Out h u v q r) i p = ap (λ b. b && rightIn w c (Out h u v q r)) (p h i)
 presses-heard w l cs ys c (In h u k q r) i p = refl
 presses-heard w l cs ys c (Call d n) i p = refl
 

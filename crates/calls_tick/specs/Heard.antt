@@ -31,4 +31,4 @@ Heard w l cs ys = (h : ℕ) → h < 64 → eqb (getD ys h 0) 1 ≡ heardAt w l c
 
 -- where ys are heard: must c act before the tick at l?
 unfoldable pub pressedBy : List ℕ → ℕ → List ℕ → Comp → Bool
-pressedBy w l ys c = readyAt l c && mustAct (eqb (getD ys (sentOn (headAt w (c .place))) 0) 1) c (headAt w (c .place))
+pressedBy w l ys c = readyAt l c && mustAct w (eqb (getD ys (sentOn (headAt w (c .place))) 0) 1) c (headAt w (c .place))

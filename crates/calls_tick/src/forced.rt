@@ -6,8 +6,9 @@ ghost use lib.Dec.{eqb};
 ghost use lib.ListN.{getD};
 ghost use Rattle.table.specs.Meaning.{compsOf};
 ghost use Rattle.table.specs.Valid.{scriptOk, compOk, valid};
-ghost use Rattle.table.specs.Fire.{readyAt, sentOn, mustAct, forcedAt};
+ghost use Rattle.table.specs.Fire.{readyAt, sentOn, wouldAct, mustAct, forcedAt};
 ghost use Rattle.calls_tick.specs.Heard.{heardOn, hearsAt, Heard, pressedBy};
+use calls_act::rights::right_in;
 use table::Comp;
 use table::Head;
 use table::Script;
@@ -79,9 +80,9 @@ pub fn sent_on(h: Head) -> u32
     }
 }
 
-// Must c, a ready component with the head h, act before a tick? `heard` says whether the channel that it sends on is heard.
-pub fn must_act(heard: bool, c: Comp, h: Head) -> bool
-    ensures { λ r. ⌜ r ≡ mustAct heard c h ⌝ }
+// Would c, a ready component with the head h, act before a tick if it had its right? `heard` says whether the channel that it sends on is heard.
+fn would_act(heard: bool, c: Comp, h: Head) -> bool
+    ensures { λ r. ⌜ r ≡ wouldAct heard c h ⌝ }
 {
     match h {
         Head::Stop => false,
@@ -93,6 +94,16 @@ pub fn must_act(heard: bool, c: Comp, h: Head) -> bool
         Head::In(_, _, _, _, _) => false,
         Head::Call(_, _) => true,
     }
+}
+
+// Must it act before a tick?
+pub fn must_act(w: &Script, heard: bool, c: Comp, h: Head) -> bool
+    ensures { λ r. ⌜ r ≡ mustAct (now (w .entry)) heard c h ⌝ }
+{
+    if would_act(heard, c, h) {
+        return right_in(w, c, h);
+    }
+    false
 }
 
 fn is_heard(ears: &[u32], k: usize) -> bool
@@ -111,7 +122,7 @@ fn pressed_by(w: &Script, l: u32, ears: &[u32; 64], c: Comp) -> bool
     if ready_at(l, c) {
         let h = words::head_at(w, words::wide(c.place));
         let heard = is_heard(ears, words::wide(sent_on(h)));
-        return must_act(heard, c, h);
+        return must_act(w, heard, c, h);
     }
     false
 }

@@ -12,7 +12,7 @@ use Rattle.terms.specs.Rules.{Answer, Action, Acted, _>>=_, act}
 use Rattle.terms.specs.Rules.Answer.{refused, accepted}
 use Rattle.terms.specs.Step.{step}
 use Rattle.table.specs.declared.State.{State}
-use Rattle.table.specs.Words.{locsIn, locName}
+use Rattle.table.specs.Words.{locsIn, chansIn, locName, chanName}
 use Rattle.table.specs.Meaning.{contextOf, compsOf, netOf}
 use Rattle.table.specs.Valid.{valid}
 use Rattle.table.specs.Fire.{Left, labelOf, leftBy}
@@ -28,9 +28,13 @@ held : (s : List ℕ) (n k : ℕ) → length s ≤ n → n ≤ k → holding s k
 unfolding holding
 held s n k h m = rw (le-leb (length s) k (omega arith))
 
-pub name-held : (w : List ℕ) (st : State) (l n : ℕ) → 16 ≤ n → nameAnswer w st l n ≡ asked 17 (valid w st) (asked 8 (ltb l (locsIn w)) (accepted (locName w l)))
+pub location-held : (w : List ℕ) (st : State) (l n : ℕ) → 16 ≤ n → nameAnswer w st (locsIn w) (locName w) l n ≡ asked 17 (valid w st) (asked 8 (ltb l (locsIn w)) (accepted (locName w l)))
 unfolding nameAnswer
-name-held w st l n h = rw (held (locName w l) 16 n (unfold locName in name-short w _) h)
+location-held w st l n h = rw (held (locName w l) 16 n (unfold locName in name-short w _) h)
+
+pub channel-held : (w : List ℕ) (st : State) (c n : ℕ) → 16 ≤ n → nameAnswer w st (chansIn w) (chanName w) c n ≡ asked 17 (valid w st) (asked 8 (ltb c (chansIn w)) (accepted (chanName w c)))
+unfolding nameAnswer
+channel-held w st c n h = rw (held (chanName w c) 16 n (unfold chanName in name-short w _) h)
 
 -- ── labels ──
 module _ (w : List ℕ) (st : State) (n : ℕ) (h : 51 ≤ n) where

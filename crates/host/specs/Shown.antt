@@ -5,6 +5,7 @@ use mathlib.Core.List.{List, _++_}
 use mathlib.Core.Path.{_≡_}
 use lib.Dec.{leb, ltb}
 use lib.ListN.{length, take, drop}
+use Rattle.terms.specs.Names.{Name}
 use Rattle.terms.specs.Rules.{Answer, _>>=_}
 use Rattle.terms.specs.Rules.Answer.{refused, accepted}
 use Rattle.terms.specs.Step.{step}
@@ -21,20 +22,20 @@ use Rattle.host.specs.declared.Counted.{Counted}
 unfoldable pub holding : List ℕ → ℕ → Answer (List ℕ)
 holding s n = asked 15 (leb (length s) n) (accepted s)
 
--- ── how many locations: 17 ──
-unfoldable pub locationsAnswer : List ℕ → State → Answer ℕ
-locationsAnswer w st = asked 17 (valid w st) (accepted (locsIn w))
+-- ── how many locations, or channels, k there are: 17 ──
+unfoldable pub countAnswer : List ℕ → State → ℕ → Answer ℕ
+countAnswer w st k = asked 17 (valid w st) (accepted k)
 
 -- an answer in the call's form: a refusal has the number 0
 abbrev pub counted : Answer ℕ → Counted
 counted (refused n) = record { code = n; count = 0 }
 counted (accepted k) = record { code = 0; count = k }
 
--- ── the name of the location numbered l: 17, 8, 15 ──
-unfoldable pub nameAnswer : List ℕ → State → ℕ → ℕ → Answer (List ℕ)
-nameAnswer w st l n = asked 17 (valid w st) (asked 8 (ltb l (locsIn w)) (holding (locName w l) n))
+-- ── the name numbered k of m locations, or channels, whose names f gives: 17, 8, 15 ──
+unfoldable pub nameAnswer : List ℕ → State → ℕ → (ℕ → Name) → ℕ → ℕ → Answer (List ℕ)
+nameAnswer w st m f k n = asked 17 (valid w st) (asked 8 (ltb k m) (holding (f k) n))
 
--- ── the label of an action of kind k at p, and q for kind 3: 17 and 8 to 11 as for the action, 15 ──
+-- ── the label of an action of kind k at p, and q for kind 3: 17, 8 to 11 and 20 as for the action, 15 ──
 unfoldable pub labelAnswer : List ℕ → State → ℕ → ℕ → ℕ → ℕ → Answer (List ℕ)
 labelAnswer w st k p q n = actionAnswer w st k p q >>= λ a. holding (labelText (a .label)) n
 

@@ -9,19 +9,20 @@
 //   proofs/Enough    how many bytes hold every name, label and line
 
 ghost use mathlib.Core.Path.{_≡_};
-ghost use Prim.Native.Nat.{_≤_};
+ghost use Prim.Native.Nat.{_≤_, _+_, _*_};
 ghost use lib.ListN.{length, take};
-ghost use Rattle.table.specs.Words.{nameAt};
+ghost use Rattle.table.specs.Words.{nameAt, nameSize, chansAt, word, locsIn, chansIn, locName, chanName};
 ghost use Rattle.table.specs.Fire.{labelOf};
 ghost use Rattle.calls_act.specs.Fired.{tagOf};
 ghost use Rattle.text_write.specs.Answer.{Answers};
 ghost use Rattle.run_line.specs.Line.{labelText};
-ghost use Rattle.host.specs.Shown.{holding, locationsAnswer, counted, nameAnswer, labelAnswer, lineAnswer};
+ghost use Rattle.host.specs.Shown.{holding, countAnswer, counted, nameAnswer, labelAnswer, lineAnswer};
 use calls_act::Label;
 use calls_act::naming::label_at;
 use calls_step::step::step_valid;
 use run_line::put_label;
 use run_line::put_line;
+use table::CHANNELS;
 use table::LOCATIONS;
 use table::NAME_SIZE;
 use table::Script;
@@ -40,17 +41,31 @@ pub struct Counted {
     pub count: u32,
 }
 
-// How many locations a network has: question 17.
-pub fn locations(w: &Script, c: &Words, n: usize) -> Counted
-    ensures { λ r. ⌜ r ≡ counted (locationsAnswer (now (w .entry)) (record { c = now (c .entry); n = n })) ⌝ }
+// The number that the word i of the script holds: question 17.
+fn count_at(w: &Script, c: &Words, n: usize, i: usize) -> Counted
+    ensures { λ r. ⌜ r ≡ counted (countAnswer (now (w .entry)) (record { c = now (c .entry); n = n }) (word (now (w .entry)) i)) ⌝ }
 {
     if is_valid(w, c, n) {
         return Counted {
             code: 0,
-            count: word(w, 1),
+            count: word(w, i),
         };
     }
     Counted { code: 17, count: 0 }
+}
+
+// How many locations a network has: question 17.
+pub fn locations(w: &Script, c: &Words, n: usize) -> Counted
+    ensures { λ r. ⌜ r ≡ counted (countAnswer (now (w .entry)) (record { c = now (c .entry); n = n }) (locsIn (now (w .entry)))) ⌝ }
+{
+    count_at(w, c, n, 1)
+}
+
+// How many channels, likewise.
+pub fn channels(w: &Script, c: &Words, n: usize) -> Counted
+    ensures { λ r. ⌜ r ≡ counted (countAnswer (now (w .entry)) (record { c = now (c .entry); n = n }) (chansIn (now (w .entry)))) ⌝ }
+{
+    count_at(w, c, n, 2)
 }
 
 // The first k bytes of s to the front of the lent bytes, or 15.
@@ -74,17 +89,32 @@ fn give_name(w: &Script, o: usize, buf: &mut [u8]) -> Written
     give(&text, k, buf)
 }
 
-// The name of the location numbered l: questions 17, 8, 15.
-pub fn location_name(w: &Script, c: &Words, n: usize, l: u32, buf: &mut [u8]) -> Written
-    ensures { λ r. ⌜ Answers (nameAnswer (now (w .entry)) (record { c = now (c .entry); n = n }) l (length (now (buf .entry)))) (now (buf .entry)) r (now (buf .exit)) ⌝ }
+// The name numbered k of a sort whose number the word i holds and whose names begin at the word o: questions 17, 8, 15.
+fn name_at(w: &Script, c: &Words, n: usize, i: usize, o: usize, k: u32, buf: &mut [u8]) -> Written
+    requires { ⌜ o ≤ chansAt ⌝ }
+    ensures { λ r. ⌜ Answers (nameAnswer (now (w .entry)) (record { c = now (c .entry); n = n }) (word (now (w .entry)) i) (λ j. nameAt (now (w .entry)) (o + j * nameSize)) k (length (now (buf .entry)))) (now (buf .entry)) r (now (buf .exit)) ⌝ }
 {
     if !is_valid(w, c, n) {
         return Written { code: 17, len: 0 };
     }
-    if word(w, 1) <= l {
+    if word(w, i) <= k {
         return Written { code: 8, len: 0 };
     }
-    give_name(w, LOCATIONS + wide(l) * NAME_SIZE, buf)
+    give_name(w, o + wide(k) * NAME_SIZE, buf)
+}
+
+// The name of the location numbered l: questions 17, 8, 15.
+pub fn location_name(w: &Script, c: &Words, n: usize, l: u32, buf: &mut [u8]) -> Written
+    ensures { λ r. ⌜ Answers (nameAnswer (now (w .entry)) (record { c = now (c .entry); n = n }) (locsIn (now (w .entry))) (locName (now (w .entry))) l (length (now (buf .entry)))) (now (buf .entry)) r (now (buf .exit)) ⌝ }
+{
+    name_at(w, c, n, 1, LOCATIONS, l, buf)
+}
+
+// The name of the channel numbered h, likewise.
+pub fn channel_name(w: &Script, c: &Words, n: usize, h: u32, buf: &mut [u8]) -> Written
+    ensures { λ r. ⌜ Answers (nameAnswer (now (w .entry)) (record { c = now (c .entry); n = n }) (chansIn (now (w .entry))) (chanName (now (w .entry))) h (length (now (buf .entry)))) (now (buf .entry)) r (now (buf .exit)) ⌝ }
+{
+    name_at(w, c, n, 2, CHANNELS, h, buf)
 }
 
 // The text of a label, or 15. It has at most 51 bytes.
@@ -96,7 +126,7 @@ fn give_label(w: &Script, x: Label, buf: &mut [u8]) -> Written
     give(&text, k, buf)
 }
 
-// The label of an action: questions 17, 8 to 11 as for the action itself, 15. Asked of the network before a step, the records of the step have the
+// The label of an action: questions 17, 8 to 11 and 20 as for the action itself, 15. Asked of the network before a step, the records of the step have the
 // labels that its actions have when they fire (proofs/Records, by the law step-before of run_line).
 pub fn action_label(
     w: &Script,

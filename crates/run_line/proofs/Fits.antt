@@ -22,7 +22,8 @@ use Rattle.table.proofs.InUse.{comps-length}
 use Rattle.table.specs.Valid.{valid}
 use Rattle.table.specs.Fire.{Tag, ActedAt, labelOf, actOn}
 use Rattle.table.proofs.Names.{short-enough}
-use Rattle.table.proofs.Fires.{mapA, actedOf, act-means}
+use Rattle.table.proofs.Fires.{mapA, actedOf}
+use Rattle.table.proofs.Granted.{act-means}
 use Rattle.calls_act.proofs.Positions.{valid-parts}
 use Rattle.text_letters.specs.Put.{Wrote}
 use Rattle.text_letters.proofs.Puts.{after-room, over-whole}

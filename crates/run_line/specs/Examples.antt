@@ -3,7 +3,7 @@ use Prim.Native.Nat.{ℕ, zero, suc}
 use mathlib.Core.List.{List, [], _∷_, _++_}
 use mathlib.Core.Path.{_≡_, refl}
 use Rattle.terms.specs.Names.{Name, bytes}
-use Rattle.terms.specs.Terms.{Process, Component, Context}
+use Rattle.terms.specs.Terms.{Process, Component, Context, allRights}
 use Rattle.terms.specs.Terms.Timer.{ticks}
 use Rattle.terms.specs.Terms.Edition.{edition1}
 use Rattle.terms.specs.Terms.Value.{loc, var}
@@ -38,7 +38,7 @@ halt = one stop
 
 -- Page(x) = go(0,x,out(c,1,x,stop,stop)) .
 abbrev pages : Context
-pages = record { defs = define (bytes "Page") (x ∷ []) (one (go (ticks 0) (var x) (one (out c (ticks 1) (var x) halt halt)))) ∷ []; edition = edition1 }
+pages = record { defs = define (bytes "Page") (x ∷ []) (one (go (ticks 0) (var x) (one (out c (ticks 1) (var x) halt halt)))) ∷ []; edition = edition1; rights = allRights }
 
 -- A[Page(B)] | B[in(c,2,y,go(0,y,stop),stop)] .
 abbrev net0 : List Component

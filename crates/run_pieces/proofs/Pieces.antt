@@ -19,6 +19,7 @@ use Rattle.table.specs.Words.{locsIn, locName}
 use Rattle.table.specs.Meaning.{contextOf, netOf, networkOf as tableNetwork}
 use Rattle.table.specs.Valid.{valid}
 use Rattle.text_build.specs.Rows.{locsOf}
+use Rattle.text_answer.proofs.All.{took-all}
 use Rattle.text_answer.specs.declared.Reading.{Reading}
 use Rattle.text_answer.specs.Answer.{locationsIn, readsAs}
 use Rattle.text_letters.specs.Put.{Wrote}
@@ -182,12 +183,15 @@ module _ (s u w v : List ℕ) (r : Reading) (x : readsAs s printSettings (readUn
       go (accepted m) k = absurd (n (k .code))
 
   whole-playingPieces : r .code ≡ 0 → playingPieces (contextOf v) (four (locsOf v)) (netOf v (r .state)) ≡ pieces s
-  unfolding pieces tableNetwork contextOf editionOf
+  unfolding pieces tableNetwork editionOf
   whole-playingPieces z = go (read s) refl (first-read s u w v r x)
     where
       go : (y : Answer Network) → read s ≡ y → readsAs s printSettings y u w v r → playingPieces (contextOf v) (four (locsOf v)) (netOf v (r .state)) ≡ piecesOf (locationsIn (form s)) y
       go (refused m) e k = absurd (not-refused s u w v r x z m e (k .0))
-      go (accepted m) e k = rw (k .locs, ← k .network, k .edition)
+      go (accepted m) e k =
+          ap (λ d. playingPieces d (four (locsOf v)) (netOf v (r .state))) (took-all k)
+          ∙ ap (λ ls. playingPieces (printContext m) (four ls) (netOf v (r .state))) (k .locs)
+          ∙ ap (λ n. playingPieces (printContext m) (four (locationsIn (form s))) (n .comps)) (k .network)
 
   abbrev Start : Progress
   Start = record { over = false; code = r .code; round = 0; l = 0; state = r .state }

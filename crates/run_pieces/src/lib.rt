@@ -17,7 +17,7 @@ use table::Script;
 use table::State;
 use table::words::wide;
 use table::words::word;
-use text_answer::Settings;
+use text_answer::given::all_rights;
 
 // How far a printout by pieces is: over; or a refusal is next, by its number; or the step at the location l in a round, or after four rounds the network.
 pub struct Progress {
@@ -73,11 +73,11 @@ fn put_ending(w: &Script, st: State, buf: &mut [u8]) -> usize
     r.len
 }
 
-// The start of a printout by pieces: reads the text under edition 1 into the lent script, as `read_over` does. All its pieces are left.
+// The start of a printout by pieces: reads the text under edition 1 and with all rights into the lent script, as `read_over` does. All its pieces are left.
 pub fn begin(text: &[u8], w: &mut Script) -> Progress
     ensures { λ r. ⌜ (r .over ≡ false) × ProgressOk (now (w .exit)) r × (piecesLeft (now (w .exit)) r ≡ pieces (now (text .entry))) × ReadsOver (now (text .entry)) printSettings (now (w .entry)) (now (w .exit)) (record { code = r .code; state = r .state }) ⌝ }
 {
-    let r = text_read::read_over(text, Settings { edition: 1 }, w);
+    let r = text_read::read_over(text, all_rights(1), w);
     let st = r.state;
     Progress {
         over: false,

@@ -4,7 +4,7 @@ use native.Mathlib.Omega.{arith}
 use native.Mathlib.Numerals.{add-one}
 use mathlib.Core.Bool.{Bool, true, false, cond}
 use mathlib.Core.List.{List, [], _∷_, _++_, append-nil}
-use mathlib.Core.Path.{_≡_, refl, sym, ap, _∙_}
+use mathlib.Core.Path.{_≡_, refl, sym, ap, subst, _∙_}
 use borrow.Author.Tests.{leb-true}
 use lib.Dec.{leb}
 use lib.ListN.{length, take, drop, getD, drop-of-length-le}
@@ -28,6 +28,8 @@ use Rattle.text_letters.specs.Put.{Wrote}
 use Rattle.text_network.specs.Text.{textOf, noMark}
 use Rattle.text_write.specs.Answer.{writeAnswer, Answers}
 use Rattle.text_letters.proofs.Puts.{Left, begun, last, left-as}
+use Rattle.text_answer.proofs.All.{took-all}
+use Rattle.text_answer.specs.declared.Settings.{Settings}
 use Rattle.text_answer.specs.declared.Reading.{Reading}
 use Rattle.text_answer.specs.Answer.{locationsIn, refusal, readsAs}
 use Rattle.text_read.proofs.Numbers.{Among, among}
@@ -173,6 +175,10 @@ module _ (w : List ℕ) where
   play-end st round l h p b = let m : 4 - round ≡ 0 = omega arith in last (left-as (ap (λ n. playing (contextOf w) (remaining n l (locsOf w)) (netOf w st)) m) p) b
 
 -- ── the whole ──
+-- what is given is an edition with all rights
+pub as-given : (s u w v : List ℕ) {g : Settings} (r : Reading) → g ≡ printSettings → readsAs s g (readUnder (g .edition) s) u w v r → readsAs s printSettings (readUnder 1 s) u w v r
+as-given s u w v r e x = subst (λ g. readsAs s g (readUnder (g .edition) s) u w v r) e x
+
 module _ (s u w v : List ℕ) (r : Reading) (under-first : readsAs s printSettings (readUnder 1 s) u w v r) where
   pub first-read : readsAs s printSettings (read s) u w v r
   first-read = rw (first-edition s) at under-first
@@ -204,9 +210,12 @@ module _ (s u w v : List ℕ) (r : Reading) (under-first : readsAs s printSettin
         go (accepted m) e k = k .good
 
     pub whole-printed : playing (contextOf v) (four (locsOf v)) (netOf v (r .state)) ≡ printout s
-    unfolding printout tableNetwork contextOf editionOf
+    unfolding printout tableNetwork editionOf
     whole-printed = go (read s) refl first-read
       where
         go : (y : Answer Network) → read s ≡ y → readsAs s printSettings y u w v r → playing (contextOf v) (four (locsOf v)) (netOf v (r .state)) ≡ printed (locationsIn (form s)) y
         go (refused m) e k = absurd (not-refused m e (k .0))
-        go (accepted m) e k = rw (k .locs, ← k .network, k .edition)
+        go (accepted m) e k =
+            ap (λ d. playing d (four (locsOf v)) (netOf v (r .state))) (took-all k)
+            ∙ ap (λ ls. playing (printContext m) (four ls) (netOf v (r .state))) (k .locs)
+            ∙ ap (λ n. playing (printContext m) (four (locationsIn (form s))) (n .comps)) (k .network)

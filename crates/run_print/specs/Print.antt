@@ -1,12 +1,12 @@
 -- The printout of `timorun`: document 01, the paragraph on the program. Four rounds of steps over all locations by number, a line for each step,
--- then the network; a refusal prints its number and ends it. It keeps edition 1: document 02, R-8.
+-- then the network; a refusal prints its number and ends it. It keeps edition 1 and gives all rights: document 02, R-8 and R-6.
 use Prim.Native.Nat.{ℕ}
 use mathlib.Core.List.{List, [], _∷_, _++_}
 use mathlib.Core.Bool.{cond}
 use lib.Dec.{leb}
 use lib.ListN.{length}
 use Rattle.terms.specs.Names.{Name}
-use Rattle.terms.specs.Terms.{Component, Context, Network, contextIn}
+use Rattle.terms.specs.Terms.{Component, Context, Network, contextIn, allRights}
 use Rattle.terms.specs.Terms.Edition.{edition1}
 use Rattle.terms.specs.Rules.{Answer, unmarked}
 use Rattle.terms.specs.Rules.Answer.{refused, accepted}
@@ -15,7 +15,7 @@ use Rattle.text.specs.Questions.{form, read}
 use Rattle.text.specs.Write.{write}
 use Rattle.run_turn.specs.Turn.{Turn, refusedText, turnOf}
 use Rattle.text_answer.specs.declared.Settings.{Settings}
-use Rattle.text_answer.specs.Answer.{locationsIn}
+use Rattle.text_answer.specs.Answer.{locationsIn, allSettings}
 
 -- the network, in 65,536 bytes
 unfoldable pub ending : Context → List Component → List ℕ
@@ -36,10 +36,10 @@ playing d (l ∷ ls) cs = followed (turnOf d l cs) (playing d ls)
 
 -- what is given with its text, and what the rules take of the text's network
 abbrev pub printSettings : Settings
-printSettings = record { edition = 1 }
+printSettings = allSettings 1
 
 abbrev pub printContext : Network → Context
-printContext m = contextIn edition1 m
+printContext m = contextIn edition1 allRights m
 
 -- four rounds
 abbrev pub four : List Name → List Name

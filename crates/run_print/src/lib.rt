@@ -21,7 +21,7 @@ use table::Script;
 use table::State;
 use table::words::wide;
 use table::words::word;
-use text_answer::Settings;
+use text_answer::given::all_rights;
 use text_letters::put_all;
 
 // The first n bytes of s.
@@ -72,13 +72,13 @@ fn play(w: &Script, st: State, buf: &mut [u8]) -> usize
     put_network(w, now, buf, at)
 }
 
-// The printout of a text, under edition 1, from the buffer's first byte on: its length, which is at most 3,477,760. Bytes behind the buffer's end are counted and
+// The printout of a text, under edition 1 and with all rights, from the buffer's first byte on: its length, which is at most 3,477,760. Bytes behind the buffer's end are counted and
 // dropped.
 pub fn printout(text: &[u8], buf: &mut [u8]) -> usize
     ensures { λ r. ⌜ Wrote (now (buf .entry)) 0 (printout (now (text .entry))) (now (buf .exit)) r × (r ≤ 3477760) ⌝ }
 {
     let mut w = [0; SCRIPT_WORDS];
-    let r = text_read::read(text, Settings { edition: 1 }, &mut w);
+    let r = text_read::read(text, all_rights(1), &mut w);
     if r.code != 0 {
         return put_refused(r.code, buf, 0);
     }

@@ -1,4 +1,4 @@
--- An action on the components of a valid table is the rules' action on what they stand for, refusals 8 to 11 included.
+-- What fits on the components of a valid table, questions 9 to 11, is what fits by the rules of what they stand for. (With rights: Granted.)
 -- Idea: putting the values in makes each head the part that the rules see; an input that receives has its slot set (Scopes).
 use Prim.Native.Nat.{ℕ, zero, suc, _+_, _-_, _≤_, _<_}
 use native.Mathlib.Omega.{arith}
@@ -26,7 +26,6 @@ use Rattle.terms.specs.Rules.Action.{single, pair}
 use Rattle.terms.specs.Clock.{ticksOf}
 use Rattle.terms.proofs.Names.{and-inv}
 use Rattle.terms.proofs.Substitution.{env-more}
-use Rattle.terms.proofs.Answers.{clash, took}
 use Rattle.terms.specs.Letters.{isSmall, isIdentifier}
 use Rattle.table.specs.declared.Head.{Head}
 use Rattle.table.specs.declared.Head.the-variants.{Stop, Go, Out, In, Call}
@@ -258,7 +257,7 @@ module _ (w : List ℕ) (good : scriptOk w ≡ true) where
           )
 
   -- ── an action with its components ──
-  fits-alone-means : (k : Kind) (c : Comp) → CompFine w c → mapA (firedOf w) (fitsAlone w k c) ≡ fits (contextOf w) (alone k (means w c))
+  pub fits-alone-means : (k : Kind) (c : Comp) → CompFine w c → mapA (firedOf w) (fitsAlone w k c) ≡ fits (contextOf w) (alone k (means w c))
   unfolding fitsAlone
   fits-alone-means k c f = go (ltb (c .mark) 64) refl
     where
@@ -266,11 +265,7 @@ module _ (w : List ℕ) (good : scriptOk w ≡ true) where
       go true e = unfold fits in rw (marked-is w c e)
       go false e = unfold fits partAt in rw (unmarked-is w c e) (becomes-means k c (headAt w (c .place)) (part-fine w good (c .place) (f .place) .head) f)
 
-  pub alone-means : (k : Kind) (c : Comp) → CompFine w c → mapA (firedOf w) (aloneAt w k c) ≡ fire (contextOf w) (alone k (means w c))
-  unfolding aloneAt fire
-  alone-means = fits-alone-means
-
-  fits-together-means : (c e : Comp) → CompFine w c → CompFine w e → mapA (firedOf w) (fitsTogether w c e) ≡ fits (contextOf w) (together (means w c) (means w e))
+  pub fits-together-means : (c e : Comp) → CompFine w c → CompFine w e → mapA (firedOf w) (fitsTogether w c e) ≡ fits (contextOf w) (together (means w c) (means w e))
   unfolding fitsTogether
   fits-together-means c e f g = go (ltb (c .mark) 64) refl (ltb (e .mark) 64) refl
     where
@@ -281,10 +276,6 @@ module _ (w : List ℕ) (good : scriptOk w ≡ true) where
       go false p false q =
           unfold fits partAt in rw (unmarked-is w c p, unmarked-is w e q)
           (meet-means c e (headAt w (c .place)) (headAt w (e .place)) (part-fine w good (c .place) (f .place) .head) (part-fine w good (e .place) (g .place) .head) f g)
-
-  pub together-means : (c e : Comp) → CompFine w c → CompFine w e → mapA (firedOf w) (togetherAt w c e) ≡ fire (contextOf w) (together (means w c) (means w e))
-  unfolding togetherAt fire
-  together-means = fits-together-means
 
 -- ── at positions ──
 pub at-map : {A B : Type 0} (f : A → B) (xs : List A) (p : ℕ) → at (map f xs) p ≡ mapA f (at xs p)
@@ -299,51 +290,11 @@ put-map f [] p y = refl
 put-map f (x ∷ xs) zero y = refl
 put-map f (x ∷ xs) (suc p) y = rw (put-map f xs p y)
 
-setAll-map : {A B : Type 0} (f : A → B) (ps : List ℕ) (ys xs : List A) → map f (setAll ps ys xs) ≡ setAll ps (map f ys) (map f xs)
+pub setAll-map : {A B : Type 0} (f : A → B) (ps : List ℕ) (ys xs : List A) → map f (setAll ps ys xs) ≡ setAll ps (map f ys) (map f xs)
 unfolding setAll
 setAll-map f [] ys xs = refl
 setAll-map f (p ∷ ps) [] xs = refl
 setAll-map f (p ∷ ps) (y ∷ ys) xs = setAll-map f ps ys (R.set xs p y) ∙ ap (setAll ps (map f ys)) (put-map f xs p y)
 
-pub every-at : {A : Type 0} (f : A → Bool) (xs : List A) (p : ℕ) (x : A) → every f xs ≡ true → at xs p ≡ accepted x → f x ≡ true
-unfolding every at
-every-at f [] p x e h = clash h
-every-at f (y ∷ xs) zero x e h = rw (← took h) (and-inv (f y) (every f xs) e .0)
-every-at f (y ∷ xs) (suc p) x e h = every-at f xs p x (and-inv (f y) (every f xs) e .1) h
-
 unfoldable pub actedOf : List ℕ → ActedAt → Acted
 actedOf w r = record { label = labelOf w (r .tag); comps = map (means w) (r .comps) }
-
-module _ (w : List ℕ) (good : scriptOk w ≡ true) (cs : List Comp) (fine : every (compOk w) cs ≡ true) where
-  replaced : (ps : List ℕ) (x : Answer Left)
-      → mapA (actedOf w) (x >>= λ f. accepted (record { tag = f .tag; comps = setAll ps (f .after) cs }))
-      ≡ (mapA (firedOf w) x >>= λ f. accepted (record { label = f .label; comps = setAll ps (f .after) (map (means w) cs) }))
-  unfolding actedOf firedOf
-  replaced ps (refused n) = refl
-  replaced ps (accepted f) = rw (setAll-map (means w) ps (f .after) cs)
-
-  fine-at : (p : ℕ) (c : Comp) → at cs p ≡ accepted c → CompFine w c
-  fine-at p c e = comp-fine w c (every-at (compOk w) cs p c fine e)
-
-  -- an action on a table is the rules' action on what the table stands for
-  pub act-means : (a : Action) → mapA (actedOf w) (actOn w a cs) ≡ act (contextOf w) a (map (means w) cs)
-  unfolding actOn leftBy act firingAt
-  act-means (single k p) = rw (at-map (means w) cs p) (go (at cs p) refl)
-    where
-      go : (x : Answer Comp) → at cs p ≡ x
-          → mapA (actedOf w) ((x >>= λ c. aloneAt w k c) >>= λ f. accepted (record { tag = f .tag; comps = setAll (positions (single k p)) (f .after) cs }))
-          ≡ ((mapA (means w) x >>= λ c. accepted (alone k c)) >>= λ d. fire (contextOf w) d >>= λ f. accepted (record { label = f .label; comps = setAll (positions (single k p)) (f .after) (map (means w) cs) }))
-      go (refused n) e = refl
-      go (accepted c) e =
-          replaced (positions (single k p)) (aloneAt w k c)
-          ∙ ap (λ y. y >>= λ f. accepted (record { label = f .label; comps = setAll (positions (single k p)) (f .after) (map (means w) cs) })) (alone-means w good k c (fine-at p c e))
-  act-means (pair p q) = rw (at-map (means w) cs p, at-map (means w) cs q) (go (at cs p) refl (at cs q) refl)
-    where
-      go : (x : Answer Comp) → at cs p ≡ x → (y : Answer Comp) → at cs q ≡ y
-          → mapA (actedOf w) ((x >>= λ c. y >>= λ e. togetherAt w c e) >>= λ f. accepted (record { tag = f .tag; comps = setAll (positions (pair p q)) (f .after) cs }))
-          ≡ ((mapA (means w) x >>= λ c. mapA (means w) y >>= λ e. accepted (together c e)) >>= λ d. fire (contextOf w) d >>= λ f. accepted (record { label = f .label; comps = setAll (positions (pair p q)) (f .after) (map (means w) cs) }))
-      go (refused n) e y h = refl
-      go (accepted c) e (refused n) h = refl
-      go (accepted c) e (accepted b) h =
-          replaced (positions (pair p q)) (togetherAt w c b)
-          ∙ ap (λ y. y >>= λ f. accepted (record { label = f .label; comps = setAll (positions (pair p q)) (f .after) (map (means w) cs) })) (together-means w good c b (fine-at p c e) (fine-at q b h))

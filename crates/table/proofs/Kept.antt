@@ -16,6 +16,7 @@ use Rattle.terms.specs.Rules as R
 use Rattle.terms.specs.Rules.Answer.{refused, accepted}
 use Rattle.terms.specs.Rules.Kind.{calls, moves}
 use Rattle.terms.specs.Rules.Action.{single, pair}
+use Rattle.terms.proofs.Lists.{every-at}
 use Rattle.terms.proofs.Names.{and-inv, and-in}
 use Rattle.table.specs.declared.Head.{Head}
 use Rattle.table.specs.declared.Head.the-variants.{Stop, Go, Out, In, Call}
@@ -23,10 +24,10 @@ use Rattle.table.specs.declared.Comp.{Comp}
 use Rattle.table.specs.Words.{partsIn, locsIn, defsIn, arityOf, bodyOf, headAt, nextAt, namesAt, argAt, argWords, argsAt}
 use Rattle.table.specs.Valid.{index, slotOk, refOk, headOk, nextOk, scriptOk, markOk, compOk, timerOk}
 use Rattle.table.specs.Split.{timerIn, fresh, andThen, partsFrom, splitAt, timed, orElse, waited, passed, expiredAt}
-use Rattle.table.specs.Fire.{Left, ActedAt, valueIn, leftAt, argIn, loaded, becomesAt, handed, meetAt, aloneAt, togetherAt, leftBy, actOn, passedAll, fitsAlone, fitsTogether}
+use Rattle.table.specs.Fire.{Left, ActedAt, grantedAt, rightly, valueIn, leftAt, argIn, loaded, becomesAt, handed, meetAt, aloneAt, togetherAt, leftBy, actOn, passedAll, fitsAlone, fitsTogether}
 use Rattle.table.proofs.Tests.{every-getD, every-append, inner, part-fine, def-fine, CompFine, comp-fine, comp-ok}
 use Rattle.table.proofs.Places.{args-at, go-fine, out-fine, in-fine}
-use Rattle.table.proofs.Fires.{scope-length, names-length, every-at}
+use Rattle.table.proofs.Fires.{scope-length, names-length}
 
 -- what is accepted passes the test
 abbrev pub okA : {A : Type 0} → (A → Bool) → Answer A → Bool
@@ -86,6 +87,16 @@ goodLeft w x = inLeft (compOk w) x
 abbrev pub goodActed : List ℕ → ActedAt → Bool
 goodActed w r = inActed (compOk w) r
 
+-- what holds of what fits holds of what may fire
+pub rightly-kept : (w : List ℕ) (f : Left → Bool) (x : Answer Left) → okA f x ≡ true → okA f (x >>= rightly w) ≡ true
+unfolding rightly
+rightly-kept w f (refused n) e = refl
+rightly-kept w f (accepted y) e = go (grantedAt w (y .tag))
+  where
+    go : (b : Bool) → okA f (cond b (accepted y) (refused 20)) ≡ true
+    go true = e
+    go false = refl
+
 left-ok : (w : List ℕ) (l k i : ℕ) (vs : List ℕ) → l < locsIn w → k < locsIn w → i < partsIn w → length vs ≡ 8 → every (inRange w) vs ≡ true → compOk w (leftAt l k i vs) ≡ true
 unfolding leftAt markOk timerOk
 left-ok w l k i vs a b c n e = comp-ok w (leftAt l k i vs) (record { loc = b; mark = or-right (eqb l 64) (ltb l (locsIn w)) (lt-ltb l (locsIn w) a); place = c; timer = refl; slots = n; vals = e })
@@ -144,7 +155,7 @@ module _ (w : List ℕ) (good : scriptOk w ≡ true) where
 
   pub alone-kept : (k : Kind) (c : Comp) → CompFine w c → okA (goodLeft w) (aloneAt w k c) ≡ true
   unfolding aloneAt fitsAlone
-  alone-kept k c f = go (ltb (c .mark) 64)
+  alone-kept k c f = rightly-kept w (goodLeft w) (fitsAlone w k c) (go (ltb (c .mark) 64))
     where
       go : (b : Bool) → okA (goodLeft w) (cond b (refused 9) (becomesAt w k c (headAt w (c .place)))) ≡ true
       go true = refl
@@ -152,7 +163,7 @@ module _ (w : List ℕ) (good : scriptOk w ≡ true) where
 
   pub together-kept : (c e : Comp) → CompFine w c → CompFine w e → okA (goodLeft w) (togetherAt w c e) ≡ true
   unfolding togetherAt fitsTogether
-  together-kept c e f g = go (ltb (c .mark) 64 || ltb (e .mark) 64)
+  together-kept c e f g = rightly-kept w (goodLeft w) (fitsTogether w c e) (go (ltb (c .mark) 64 || ltb (e .mark) 64))
     where
       go : (b : Bool) → okA (goodLeft w) (cond b (refused 9) (meetAt c e (headAt w (c .place)) (headAt w (e .place)))) ≡ true
       go true = refl

@@ -4,6 +4,7 @@ pub mod Places
 pub mod Size
 pub mod Splits
 pub mod Fires
+pub mod Granted
 pub mod Ticks
 pub mod Kept
 pub mod Tags

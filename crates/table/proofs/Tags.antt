@@ -15,6 +15,7 @@ use Rattle.terms.specs.Rules.{Answer, Kind, Action, _>>=_, at, setAll, position
 use Rattle.terms.specs.Rules.Answer.{refused, accepted}
 use Rattle.terms.specs.Rules.Kind.{calls, moves}
 use Rattle.terms.specs.Rules.Action.{single, pair}
+use Rattle.terms.proofs.Lists.{every-at}
 use Rattle.terms.proofs.Names.{and-inv, and-in}
 use Rattle.table.specs.declared.Head.{Head}
 use Rattle.table.specs.declared.Head.the-variants.{Stop, Go, Out, In, Call}
@@ -22,10 +23,9 @@ use Rattle.table.specs.declared.Comp.{Comp}
 use Rattle.table.specs.Words.{locsIn, chansIn, defsIn, locName, chanName, defName, headAt, namesAt}
 use Rattle.table.specs.Meaning.{listFrom}
 use Rattle.table.specs.Valid.{index, sortOk, headOk, scriptOk, compOk}
-use Rattle.table.specs.Fire.{Tag, callTag, moveTag, sendTag, labelOf, tagIn, tagHeld, Left, ActedAt, valueIn, becomesAt, handed, meetAt, aloneAt, togetherAt, leftBy, actOn, fitsAlone, fitsTogether}
+use Rattle.table.specs.Fire.{Tag, callTag, moveTag, sendTag, labelOf, tagIn, tagHeld, grantedAt, rightly, Left, ActedAt, valueIn, becomesAt, handed, meetAt, aloneAt, togetherAt, leftBy, actOn, fitsAlone, fitsTogether}
 use Rattle.table.proofs.Tests.{part-fine, script-fine, CompFine, comp-fine, held-once}
 use Rattle.table.proofs.Places.{go-fine, out-fine}
-use Rattle.table.proofs.Fires.{every-at}
 use Rattle.table.proofs.Kept.{value-in, enough}
 use Rattle.table.proofs.ValidLists.{index-hit, listFrom-length, listFrom-at}
 
@@ -104,21 +104,38 @@ module _ (w : List ℕ) (good : scriptOk w ≡ true) where
           let r = out-fine w (c .place) d t v p q o in
           send-tag d (valueIn (c .vals) v) (c .loc) (ltb-true d (chansIn w) (r .channel)) (value-in w (namesAt w (c .place)) (c .vals) v (r .value) (enough w good c f) (f .vals)) (f .loc)
 
-  alone-tagged : (k : Kind) (c : Comp) → CompFine w c → tagged w (aloneAt w k c)
-  unfolding aloneAt fitsAlone
-  alone-tagged k c f = go (ltb (c .mark) 64)
+  pub fits-alone-tagged : (k : Kind) (c : Comp) → CompFine w c → tagged w (fitsAlone w k c)
+  unfolding fitsAlone
+  fits-alone-tagged k c f = go (ltb (c .mark) 64)
     where
       go : (b : Bool) → tagged w (cond b (refused 9) (becomesAt w k c (headAt w (c .place))))
       go true = tt
       go false = becomes-tagged k c (headAt w (c .place)) (part-fine w good (c .place) (f .place) .head) f
 
-  together-tagged : (c e : Comp) → CompFine w c → tagged w (togetherAt w c e)
-  unfolding togetherAt fitsTogether
-  together-tagged c e f = go (ltb (c .mark) 64 || ltb (e .mark) 64)
+  pub fits-together-tagged : (c e : Comp) → CompFine w c → tagged w (fitsTogether w c e)
+  unfolding fitsTogether
+  fits-together-tagged c e f = go (ltb (c .mark) 64 || ltb (e .mark) 64)
     where
       go : (b : Bool) → tagged w (cond b (refused 9) (meetAt c e (headAt w (c .place)) (headAt w (e .place))))
       go true = tt
       go false = meet-tagged c e (headAt w (c .place)) (headAt w (e .place)) (part-fine w good (c .place) (f .place) .head) f
+
+  rightly-tagged : (x : Answer Left) → tagged w x → tagged w (x >>= rightly w)
+  unfolding rightly
+  rightly-tagged (refused n) t = tt
+  rightly-tagged (accepted f) t = go (grantedAt w (f .tag))
+    where
+      go : (b : Bool) → tagged w (cond b (accepted f) (refused 20))
+      go true = t
+      go false = tt
+
+  alone-tagged : (k : Kind) (c : Comp) → CompFine w c → tagged w (aloneAt w k c)
+  unfolding aloneAt
+  alone-tagged k c f = rightly-tagged (fitsAlone w k c) (fits-alone-tagged k c f)
+
+  together-tagged : (c e : Comp) → CompFine w c → tagged w (togetherAt w c e)
+  unfolding togetherAt
+  together-tagged c e f = rightly-tagged (fitsTogether w c e) (fits-together-tagged c e f)
 
   -- ── an action at positions ──
   module _ (cs : List Comp) (fine : every (compOk w) cs ≡ true) where

@@ -3,7 +3,7 @@
 use Prim.Native.Nat.{ℕ, _-_, _<_}
 use mathlib.Core.List.{List, [], _∷_, map, flatMap}
 use mathlib.Core.Bool.{Bool, true, false, cond, _&&_, _||_, not, false≢true}
-use mathlib.Core.Path.{_≡_, refl, ap, sym, _∙_}
+use mathlib.Core.Path.{_≡_, refl, ap, sym, fun-ext, _∙_}
 use lib.Dec.{eqb, ltb}
 use borrow.Author.Tests.{eqb-true, eq-eqb}
 use Rattle.terms.specs.Names.{Name, sameName}
@@ -14,7 +14,7 @@ use Rattle.terms.specs.Terms.Mark.{none}
 use Rattle.terms.specs.Terms.Component.{comp}
 use Rattle.terms.specs.Same.{every}
 use Rattle.terms.specs.Substitution.{Env, sub}
-use Rattle.terms.specs.Rules.{Answer, Kind, ok, some, fire, ready, dueGo, urgent, forced, pass, tickWith, tick}
+use Rattle.terms.specs.Rules.{Answer, Kind, _>>=_, ok, some, fire, ready, dueGo, urgent, forced, pass, tickWith, tick}
 use Rattle.terms.specs.Rules.Answer.{refused, accepted}
 use Rattle.terms.specs.Rules.Kind.{calls, moves}
 use Rattle.terms.specs.Rules.Firing.{alone, together}
@@ -28,10 +28,12 @@ use Rattle.table.specs.Words.{locsIn, locName, headAt, boundAt, namesAt}
 use Rattle.table.specs.Meaning.{partOf, processAt, partAt, contextOf, withTimer, envAt, means}
 use Rattle.table.specs.Valid.{scriptOk, compOk}
 use Rattle.table.specs.Split.{dueAt, passed}
-use Rattle.table.specs.Fire.{Left, becomesAt, handed, meetAt, aloneAt, togetherAt, readyAt, sentOn, hears, mustAct, heardAt, pressesAt, forcedAt, passedAll, valueIn, fitsAlone, fitsTogether}
+use Rattle.table.specs.Fire.{Left, moveTag, leftAt, mayLeave, mayMeet, grantedAt, rightly, becomesAt, handed, meetAt, aloneAt, togetherAt, readyAt, sentOn, hears, rightIn, wouldAct, mustAct, heardAt, pressesAt, forcedAt, passedAll, valueIn, fitsAlone, fitsTogether}
 use Rattle.table.proofs.Tests.{CompFine, comp-fine}
 use Rattle.table.proofs.Splits.{unmarked-is, marked-is, loc-eqb, passed-means}
-use Rattle.table.proofs.Fires.{mapA, firedOf, alone-means, together-means, map-append}
+use Rattle.table.proofs.Fires.{mapA, firedOf, map-append}
+use Rattle.table.proofs.Granted.{alone-means, together-means}
+use Rattle.table.proofs.ValidBool.{and-true, and-false}
 
 -- ── lists ──
 map-flatMap : {A B : Type 0} (f : A → B) (g : A → List A) (h : B → List B) (ok : A → Bool) (xs : List A) → every ok xs ≡ true → ((x : A) → ok x ≡ true → map f (g x) ≡ h (f x)) → map f (flatMap g xs) ≡ flatMap h (map f xs)
@@ -73,20 +75,29 @@ meets (Out d t v p q) h = hears d h
 meets (In d t k p q) h = false
 meets (Call d n) h = false
 
-meets-if : (c e : Comp) (g h : Head) → eqb (c .loc) (e .loc) ≡ true → ok (meetAt c e g h) ≡ meets g h
-unfolding meets hears meetAt
-meets-if c e Stop h q = refl
-meets-if c e (Go t v p) h q = refl
-meets-if c e (In d t k p r) h q = refl
-meets-if c e (Call d n) h q = refl
-meets-if c e (Out d t v p r) Stop q = refl
-meets-if c e (Out d t v p r) (Go t₂ v₂ p₂) q = refl
-meets-if c e (Out d t v p r) (Out d₂ t₂ v₂ p₂ q₂) q = refl
-meets-if c e (Out d t v p r) (Call d₂ n) q = refl
-meets-if c e (Out d t v p r) (In d₂ t₂ k p₂ q₂) q = rw q (go (eqb d d₂))
+-- the right of what fits
+ok-rightly : (w : List ℕ) (f : Left) → ok (rightly w f) ≡ grantedAt w (f .tag)
+unfolding rightly
+ok-rightly w f = go (grantedAt w (f .tag))
   where
-    go : (b : Bool) → ok {A = Left} (cond (b && true) (accepted (handed c e d (valueIn (c .vals) v) p k p₂)) (refused 11)) ≡ b
+    go : (b : Bool) → ok {A = Left} (cond b (accepted f) (refused 20)) ≡ b
     go true = refl
+    go false = refl
+
+meets-if : (w : List ℕ) (c e : Comp) (g h : Head) → eqb (c .loc) (e .loc) ≡ true → ok (meetAt c e g h >>= rightly w) ≡ (meets g h && rightIn w c g)
+unfolding meets hears meetAt rightIn
+meets-if w c e Stop h q = refl
+meets-if w c e (Go t v p) h q = refl
+meets-if w c e (In d t k p r) h q = refl
+meets-if w c e (Call d n) h q = refl
+meets-if w c e (Out d t v p r) Stop q = refl
+meets-if w c e (Out d t v p r) (Go t₂ v₂ p₂) q = refl
+meets-if w c e (Out d t v p r) (Out d₂ t₂ v₂ p₂ q₂) q = refl
+meets-if w c e (Out d t v p r) (Call d₂ n) q = refl
+meets-if w c e (Out d t v p r) (In d₂ t₂ k p₂ q₂) q = rw q (go (eqb d d₂))
+  where
+    go : (b : Bool) → ok {A = Left} (cond (b && true) (accepted (handed c e d (valueIn (c .vals) v) p k p₂)) (refused 11) >>= rightly w) ≡ (b && mayMeet w (c .loc) d)
+    go true = ok-rightly w (handed c e d (valueIn (c .vals) v) p k p₂) ∙ unfold handed grantedAt in refl
     go false = refl
 
 unfoldable pub isDue : Comp → Head → Bool
@@ -104,18 +115,24 @@ due-means w l m c f (Out d u v p q) e = refl
 due-means w l m c f (In d u k p q) e = refl
 due-means w l m c f (Call d n) e = refl
 
+-- a right that is the same for all
+some-and : {A : Type 0} (f g : A → Bool) (b : Bool) (xs : List A) → some (λ x. f x && (g x && b)) xs ≡ (some (λ x. f x && g x) xs && b)
+some-and f g true xs = ap (λ k. some k xs) (fun-ext (λ x. ap (_&&_ (f x)) (and-true (g x)))) ∙ sym (and-true (some (λ x. f x && g x) xs))
+some-and f g false xs = ap (λ k. some k xs) (fun-ext (λ x. ap (_&&_ (f x)) (and-false (g x)))) ∙ some-none f xs ∙ sym (and-false (some (λ x. f x && g x) xs))
+
 presses-by : (w : List ℕ) (l : ℕ) (cs : List Comp) (c : Comp) (h : Head)
-    → ((ok (becomesAt w calls c h) || (isDue c h && ok (becomesAt w moves c h))) || some (λ e. readyAt l e && meets h (headAt w (e .place))) cs) ≡ mustAct (heardAt w l cs (sentOn h)) c h
-unfolding isDue meets becomesAt mustAct heardAt sentOn
+    → ((ok (becomesAt w calls c h >>= rightly w) || (isDue c h && ok (becomesAt w moves c h >>= rightly w))) || some (λ e. readyAt l e && (meets h (headAt w (e .place)) && rightIn w c h)) cs) ≡ mustAct w (heardAt w l cs (sentOn h)) c h
+unfolding isDue meets becomesAt mustAct wouldAct rightIn heardAt sentOn
 presses-by w l cs c Stop = some-none (readyAt l) cs
-presses-by w l cs c (Go u v p) = rw (some-none (readyAt l) cs) (go (dueAt c))
+presses-by w l cs c (Go u v p) = rw (some-none (readyAt l) cs, ok-rightly w (record { tag = moveTag (valueIn (c .vals) v) (c .loc); after = leftAt (c .loc) (valueIn (c .vals) v) p (c .vals) ∷ [] })) (unfold grantedAt in go (dueAt c) (mayLeave w (c .loc) (valueIn (c .vals) v)))
   where
-    go : (b : Bool) → ((b && true) || false) ≡ b
-    go true = refl
-    go false = refl
-presses-by w l cs c (Out d u v p q) = refl
+    go : (a b : Bool) → ((a && b) || false) ≡ (a && b)
+    go true true = refl
+    go true false = refl
+    go false b = refl
+presses-by w l cs c (Out d u v p q) = some-and (readyAt l) (λ e. hears d (headAt w (e .place))) (mayMeet w (c .loc) d) cs
 presses-by w l cs c (In d u k p q) = some-none (readyAt l) cs
-presses-by w l cs c (Call d n) = refl
+presses-by w l cs c (Call d n) = unfold rightly grantedAt in refl
 
 module _ (w : List ℕ) (good : scriptOk w ≡ true) where
   pub ready-means : (l : ℕ) (c : Comp) → l < locsIn w → CompFine w c → ready (locName w l) (means w c) ≡ readyAt l c
@@ -147,14 +164,14 @@ module _ (w : List ℕ) (good : scriptOk w ≡ true) where
 
   -- the partner e of a component c that is ready at l
   pub partner-means : (l : ℕ) (c e : Comp) → l < locsIn w → CompFine w c → CompFine w e → Ready l c
-      → (ready (locName w l) (means w e) && ok (fire (contextOf w) (together (means w c) (means w e)))) ≡ (readyAt l e && meets (headAt w (c .place)) (headAt w (e .place)))
+      → (ready (locName w l) (means w e) && ok (fire (contextOf w) (together (means w c) (means w e)))) ≡ (readyAt l e && (meets (headAt w (c .place)) (headAt w (e .place)) && rightIn w c (headAt w (c .place))))
   partner-means l c e h f g r = rw (ready-means l e h g, together-ok c e f g) (go (readyAt l e) refl)
     where
-      go : (b : Bool) → readyAt l e ≡ b → (b && ok (togetherAt w c e)) ≡ (b && meets (headAt w (c .place)) (headAt w (e .place)))
+      go : (b : Bool) → readyAt l e ≡ b → (b && ok (togetherAt w c e)) ≡ (b && (meets (headAt w (c .place)) (headAt w (e .place)) && rightIn w c (headAt w (c .place))))
       go false q = refl
       go true q =
           let s = is-ready l e q in
-          unfold togetherAt fitsTogether in rw (r .free, s .free) (meets-if c e (headAt w (c .place)) (headAt w (e .place)) (eq-eqb (c .loc) (e .loc) (r .here ∙ sym (s .here))))
+          unfold togetherAt fitsTogether in rw (r .free, s .free) (meets-if w c e (headAt w (c .place)) (headAt w (e .place)) (eq-eqb (c .loc) (e .loc) (r .here ∙ sym (s .here))))
 
   pub due-here : (c : Comp) → ltb (c .mark) 64 ≡ false → dueGo (means w c) ≡ isDue c (headAt w (c .place))
   unfolding partAt
@@ -163,7 +180,7 @@ module _ (w : List ℕ) (good : scriptOk w ≡ true) where
       ∙ due-means w (locName w (c .loc)) none c (processAt w) (headAt w (c .place)) (envAt w (c .place) (c .vals))
 
   urgent-here : (c : Comp) → CompFine w c → ltb (c .mark) 64 ≡ false
-      → urgent (contextOf w) (means w c) ≡ (ok (becomesAt w calls c (headAt w (c .place))) || (isDue c (headAt w (c .place)) && ok (becomesAt w moves c (headAt w (c .place)))))
+      → urgent (contextOf w) (means w c) ≡ (ok (becomesAt w calls c (headAt w (c .place)) >>= rightly w) || (isDue c (headAt w (c .place)) && ok (becomesAt w moves c (headAt w (c .place)) >>= rightly w)))
   unfolding urgent aloneAt fitsAlone
   urgent-here c f e = rw (alone-ok calls c f, alone-ok moves c f, e, due-here c e)
 
@@ -172,14 +189,14 @@ module _ (w : List ℕ) (good : scriptOk w ≡ true) where
     unfolding presses pressesAt
     press-means c f = rw (ready-means l c h f) (go (readyAt l c) refl)
       where
-        partners : Ready l c → some (λ e. ready (locName w l) e && ok (fire (contextOf w) (together (means w c) e))) (map (means w) cs) ≡ some (λ e. readyAt l e && meets (headAt w (c .place)) (headAt w (e .place))) cs
+        partners : Ready l c → some (λ e. ready (locName w l) e && ok (fire (contextOf w) (together (means w c) e))) (map (means w) cs) ≡ some (λ e. readyAt l e && (meets (headAt w (c .place)) (headAt w (e .place)) && rightIn w c (headAt w (c .place)))) cs
         partners r =
             some-map (λ e. ready (locName w l) e && ok (fire (contextOf w) (together (means w c) e))) (means w) cs
             ∙ some-same _ _ (compOk w) cs fine (λ e g. partner-means l c e h f (comp-fine w e g) r)
 
         go : (b : Bool) → readyAt l c ≡ b
             → (b && (urgent (contextOf w) (means w c) || some (λ e. ready (locName w l) e && ok (fire (contextOf w) (together (means w c) e))) (map (means w) cs)))
-            ≡ (b && mustAct (heardAt w l cs (sentOn (headAt w (c .place)))) c (headAt w (c .place)))
+            ≡ (b && mustAct w (heardAt w l cs (sentOn (headAt w (c .place)))) c (headAt w (c .place)))
         go false q = refl
         go true q = let r = is-ready l c q in rw (urgent-here c f (r .free), partners r) (presses-by w l cs c (headAt w (c .place)))
 

@@ -16,7 +16,7 @@ use Rattle.terms.specs.Rules.Action.{single, pair}
 use Rattle.table.specs.declared.Head.{Head}
 use Rattle.table.specs.declared.Head.the-variants.{Stop, Go, Out, In, Call}
 use Rattle.table.specs.declared.Comp.{Comp}
-use Rattle.table.specs.Words.{locsIn, chansIn, defsIn, locName, chanName, defName, bodyOf, headAt, argAt}
+use Rattle.table.specs.Words.{locsIn, chansIn, defsIn, rightsIn, locName, chanName, defName, bodyOf, headAt, argAt}
 use Rattle.table.specs.Meaning.{listFrom}
 use Rattle.table.specs.Valid.{index}
 use Rattle.table.specs.Split.{passed, dueAt}
@@ -58,6 +58,17 @@ unfoldable pub tagHeld : List ℕ → Tag → Bool
 tagHeld w t =
     ltb (t .spot) (locsIn w)
     && cond (eqb (t .kind) 1) (ltb (t .a) (defsIn w)) (cond (eqb (t .kind) 2) (ltb (t .a) (locsIn w)) (ltb (t .a) (chansIn w) && ltb (t .b) (locsIn w)))
+
+-- the rights of a move from l to v and of a communication at l on the channel h, by number: a move to its own location needs none
+unfoldable pub mayLeave : List ℕ → ℕ → ℕ → Bool
+mayLeave w l v = eqb v l || rightsIn w .leave l v
+
+unfoldable pub mayMeet : List ℕ → ℕ → ℕ → Bool
+mayMeet w l h = rightsIn w .send l h && rightsIn w .receive l h
+
+-- the right that an action with this tag needs; a call needs none
+unfoldable pub grantedAt : List ℕ → Tag → Bool
+grantedAt w t = cond (eqb (t .kind) 1) true (cond (eqb (t .kind) 2) (mayLeave w (t .spot) (t .a)) (mayMeet w (t .spot) (t .a)))
 
 -- what a value's word stands for, with the slots' values
 unfoldable pub valueIn : List ℕ → ℕ → ℕ
@@ -116,12 +127,15 @@ fitsAlone w k c = cond (ltb (c .mark) 64) (refused 9) (becomesAt w k c (headAt w
 unfoldable pub fitsTogether : List ℕ → Comp → Comp → Answer Left
 fitsTogether w c e = cond (ltb (c .mark) 64 || ltb (e .mark) 64) (refused 9) (meetAt c e (headAt w (c .place)) (headAt w (e .place)))
 
--- This is `may fire` on the table: what fits may fire.
+-- This is `may fire` on the table: what fits may fire if it has its right (question 20).
+unfoldable pub rightly : List ℕ → Left → Answer Left
+rightly w f = cond (grantedAt w (f .tag)) (accepted f) (refused 20)
+
 unfoldable pub aloneAt : List ℕ → Kind → Comp → Answer Left
-aloneAt w k c = fitsAlone w k c
+aloneAt w k c = fitsAlone w k c >>= rightly w
 
 unfoldable pub togetherAt : List ℕ → Comp → Comp → Answer Left
-togetherAt w c e = fitsTogether w c e
+togetherAt w c e = fitsTogether w c e >>= rightly w
 
 -- ── an action at positions ──
 unfoldable pub leftBy : List ℕ → Action → List Comp → Answer Left
@@ -155,14 +169,25 @@ hears h (Out h′ t v p q) = false
 hears h (In h′ t k p q) = eqb h h′
 hears h (Call d n) = false
 
--- This is the one definition of `must act` on the table: a ready component with the head h acts before a tick if it is a call, a `go` that is due, or an
--- output that is heard. The forced test, the report and the step go by it.
-unfoldable pub mustAct : Bool → Comp → Head → Bool
-mustAct heard c Stop = false
-mustAct heard c (Go t v p) = dueAt c
-mustAct heard c (Out h t v p q) = heard
-mustAct heard c (In h t k p q) = false
-mustAct heard c (Call d n) = true
+-- the right of the action that a component with the head h has to perform
+unfoldable pub rightIn : List ℕ → Comp → Head → Bool
+rightIn w c Stop = true
+rightIn w c (Go t v p) = mayLeave w (c .loc) (valueIn (c .vals) v)
+rightIn w c (Out h t v p q) = mayMeet w (c .loc) h
+rightIn w c (In h t k p q) = true
+rightIn w c (Call d n) = true
+
+-- with its right, a ready component with the head h acts before a tick if it is a call, a `go` that is due, or an output that is heard
+unfoldable pub wouldAct : Bool → Comp → Head → Bool
+wouldAct heard c Stop = false
+wouldAct heard c (Go t v p) = dueAt c
+wouldAct heard c (Out h t v p q) = heard
+wouldAct heard c (In h t k p q) = false
+wouldAct heard c (Call d n) = true
+
+-- This is the one definition of `must act` on the table. The forced test, the report and the step go by it.
+unfoldable pub mustAct : List ℕ → Bool → Comp → Head → Bool
+mustAct w heard c h = wouldAct heard c h && rightIn w c h
 
 -- some component ready at l hears the channel h
 unfoldable pub heardAt : List ℕ → ℕ → List Comp → ℕ → Bool
@@ -170,7 +195,7 @@ heardAt w l cs h = some (λ e. readyAt l e && hears h (headAt w (e .place))) cs
 
 -- a component of cs that is ready at l and must act
 unfoldable pub pressesAt : List ℕ → ℕ → List Comp → Comp → Bool
-pressesAt w l cs c = readyAt l c && mustAct (heardAt w l cs (sentOn (headAt w (c .place)))) c (headAt w (c .place))
+pressesAt w l cs c = readyAt l c && mustAct w (heardAt w l cs (sentOn (headAt w (c .place)))) c (headAt w (c .place))
 
 unfoldable pub forcedAt : List ℕ → ℕ → List Comp → Bool
 forcedAt w l cs = some (pressesAt w l cs) cs

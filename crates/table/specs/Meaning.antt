@@ -6,20 +6,21 @@ use mathlib.Core.Path.{_≡_}
 use lib.Dec.{ltb}
 use lib.ListN.{getD, take}
 use Rattle.terms.specs.Names.{Name}
-use Rattle.terms.specs.Terms.{Timer, Value, Part, Process, Mark, Component, Def, Network, Context}
+use Rattle.terms.specs.Terms.{Timer, Value, Part, Process, Mark, Component, Def, Network, Context, Rights}
 use Rattle.terms.specs.Terms.Value.{loc, var}
 use Rattle.terms.specs.Terms.Part.{stop, go, out, inp, call}
 use Rattle.terms.specs.Terms.Process.{one, _∥_}
 use Rattle.terms.specs.Terms.Mark.{none, by}
 use Rattle.terms.specs.Terms.Component.{comp}
 use Rattle.terms.specs.Terms.Def.{define}
+use Rattle.terms.specs.Rights.{byName}
 use Rattle.terms.specs.Substitution.{Env, env, sub, subP}
 use Rattle.terms.specs.Clock.{ticksOf, editionOf}
 use Rattle.table.specs.declared.Head.{Head}
 use Rattle.table.specs.declared.Head.the-variants.{Stop, Go, Out, In, Call}
 use Rattle.table.specs.declared.Comp.{Comp}
 use Rattle.table.specs.declared.State.{State}
-use Rattle.table.specs.Words.{compSize, compUsed, word, defsIn, editionIn, locName, chanName, defName, bodyOf, paramsOf, headAt, nextAt, boundAt, namesAt, argsAt}
+use Rattle.table.specs.Words.{compSize, compUsed, word, locsIn, chansIn, defsIn, editionIn, rightsIn, locName, chanName, defName, bodyOf, paramsOf, headAt, nextAt, boundAt, namesAt, argsAt}
 
 -- ── terms ──
 -- what a value's word stands for where the names ys are in scope
@@ -66,9 +67,12 @@ defOf w d = define (defName w d) (paramsOf w d) (processAt w (bodyOf w d))
 unfoldable pub defsOf : List ℕ → List Def
 defsOf w = listFrom 0 (defsIn w) (defOf w)
 
+unfoldable pub rightsOf : List ℕ → Rights
+rightsOf w = byName (listFrom 0 (locsIn w) (locName w)) (listFrom 0 (chansIn w) (chanName w)) (rightsIn w)
+
 -- what the rules take of a script
 unfoldable pub contextOf : List ℕ → Context
-contextOf w = record { defs = defsOf w; edition = editionOf (editionIn w) }
+contextOf w = record { defs = defsOf w; edition = editionOf (editionIn w); rights = rightsOf w }
 
 -- ── components ──
 -- A component has a location, a mark (64 for none), a place, its own timer, and a location for each slot.

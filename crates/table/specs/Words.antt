@@ -1,4 +1,4 @@
--- The words of a script. A script has 99,984 words, written once by reading and then only lent; no content is without a meaning.
+-- The words of a script. A script has 111,888 words, written once by reading and then only lent; no content is without a meaning.
 --
 --   0 .. 7         how many parts, locations, channels and definitions it holds; a word in which reading notes that a name or a variable did not fit, 0 in
 --                  what it accepts, and which nothing else looks at; three words not used
@@ -7,7 +7,9 @@
 --   1032 .. 1287   64 channels' names of 4 words
 --   1288 .. 99591  4,096 parts of 24 words
 --   99592          the edition
---   99593 .. 99983 not used
+--   99593 .. 99599 not used
+--   99600 .. 111887 64 rows of 192 rights, a row for each location: to send and to receive on each of 64 channels, to leave for each of 64 locations;
+--                  1 gives the right, any other word does not
 --
 -- A part: 0 kind; 1 channel or definition; 2 timer; 3 value, an input's slot, or a call's number of arguments; 4 place of P; 5 place of Q;
 -- 6 place of the next part of its process and one, or 0; 7 the least place of the process from here on; 8 how many variables are in scope;
@@ -19,13 +21,14 @@ use mathlib.Core.Bool.{Bool, false, cond}
 use lib.Dec.{eqb, leb}
 use lib.ListN.{getD, take}
 use Rattle.terms.specs.Names.{Name}
+use Rattle.terms.specs.Terms.{RightsOf}
 use Rattle.table.specs.declared.Head.{Head}
 use Rattle.table.specs.declared.Head.the-variants.{Stop, Go, Out, In, Call}
 
 -- ── the layout's numbers ──
--- how many words a script has, those behind the edition being spare, and a state: 256 components and 16 spare words
+-- how many words a script has, and a state: 256 components and 16 spare words
 abbrev pub scriptWords : ℕ
-scriptWords = 99_984
+scriptWords = 111_888
 
 abbrev pub stateWords : ℕ
 stateWords = 4_112
@@ -47,6 +50,22 @@ partsEnd = 99_592
 -- where the edition stands, directly behind them
 abbrev pub editionAt : ℕ
 editionAt = partsEnd
+
+-- where the rights begin, how many words the row of a location has, and where in it those to send, to receive and to leave begin
+abbrev pub rightsAt : ℕ
+rightsAt = 99_600
+
+abbrev pub rightsSize : ℕ
+rightsSize = 192
+
+abbrev pub sendField : ℕ
+sendField = 0
+
+abbrev pub receiveField : ℕ
+receiveField = 64
+
+abbrev pub leaveField : ℕ
+leaveField = 128
 
 -- where the name that the input at place 0 binds stands
 abbrev pub ownsAt : ℕ
@@ -144,6 +163,13 @@ defsIn w = word w 3
 
 abbrev pub editionIn : List ℕ → ℕ
 editionIn w = word w editionAt
+
+-- ── rights, by the numbers of locations and channels ──
+unfoldable pub rightAt : List ℕ → ℕ → ℕ → ℕ → Bool
+rightAt w f l x = eqb (word w (rightsAt + l * rightsSize + (f + x))) 1
+
+unfoldable pub rightsIn : List ℕ → RightsOf ℕ ℕ
+rightsIn w = record { send = rightAt w sendField; receive = rightAt w receiveField; leave = rightAt w leaveField }
 
 -- ── names: four words of four bytes, the first letter lowest; zeros after the last letter are no letters ──
 abbrev pub fourBytes : ℕ → List ℕ → List ℕ

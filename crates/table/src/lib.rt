@@ -14,7 +14,8 @@
 //   proofs/Tests        what the tests of question 17 give
 //   proofs/Places       the process at a place is its part and the process at its next
 //   proofs/Scopes       setting a slot is substitution, shadowing included
-//   proofs/Fires        an action on the table is the rules' action on what it stands for
+//   proofs/Fires        what fits on the table fits by the rules
+//   proofs/Granted      with rights: an action on the table is the rules' action on what it stands for
 //   proofs/Splits       what a tick makes of a component, likewise
 //   proofs/Ticks        when a tick is allowed, and what it leaves, likewise
 //   proofs/Kept         actions and ticks keep what question 17 asks
@@ -33,7 +34,7 @@ pub mod words;
 
 // How many words a script and a state have, and where in a script the names of locations and channels, the parts, and the name that the input at place 0
 // binds begin (specs/Words).
-pub const SCRIPT_WORDS: usize = 99984;
+pub const SCRIPT_WORDS: usize = 111888;
 
 pub const STATE_WORDS: usize = 4112;
 
@@ -46,8 +47,19 @@ pub const PARTS: usize = 1288;
 // Where the rows of parts end.
 pub const PARTS_END: usize = 99592;
 
-// The edition stands directly behind them. The words behind it are spare.
+// The edition stands directly behind them.
 pub const EDITION: usize = PARTS_END;
+
+// Where the rights begin, how many words the row of a location has, and where in it those to send, to receive and to leave begin.
+pub const RIGHTS: usize = 99600;
+
+pub const RIGHTS_SIZE: usize = 192;
+
+pub const SEND_FIELD: usize = 0;
+
+pub const RECEIVE_FIELD: usize = 64;
+
+pub const LEAVE_FIELD: usize = 128;
 
 pub const OWNS: usize = 1305;
 

@@ -8,6 +8,10 @@ pub mod Forced
 pub mod Steps
 pub mod Same
 pub mod Clock
+pub mod Lists
+pub mod Alike
 pub mod Editions
+pub mod Rights
+pub mod Descent
 pub mod Numbered
 pub mod Substitution

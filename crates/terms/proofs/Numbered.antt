@@ -15,7 +15,7 @@ use Rattle.terms.specs.Terms.Process.{one, _∥_}
 use Rattle.terms.specs.Terms.Mark.{none, by}
 use Rattle.terms.specs.Terms.Component.{comp}
 use Rattle.terms.specs.Terms.Def.{define}
-use Rattle.terms.specs.Rules.{Answer, Kind, Firing, Action, _>>=_, at, locations, filled, body, becomes, meet, fits, fire, firingAt, act, forced, tickWith, tick}
+use Rattle.terms.specs.Rules.{Answer, Kind, Firing, Action, _>>=_, at, locations, filled, body, becomes, meet, fits, granted, fire, firingAt, act, forced, tickWith, tick}
 use Rattle.terms.specs.Rules.Answer.{refused, accepted}
 use Rattle.terms.specs.Rules.Kind.{calls, moves}
 use Rattle.terms.specs.Rules.Firing.{alone, together}
@@ -95,7 +95,7 @@ fits-numbered d (together (comp l none (one a)) (comp k none (one b))) = bind-nu
 
 fire-numbered : (d : Context) (x : Firing) → numbered (fire d x)
 unfolding fire
-fire-numbered d x = fits-numbered d x
+fire-numbered d x = bind-numbered (fits d x) _ (fits-numbered d x) (λ f. cond-numbered (granted (d .rights) (f .label)) _ _ tt (some-number 19))
 
 firing-numbered : (a : Action) (net : List Component) → numbered (firingAt a net)
 unfolding firingAt

@@ -166,7 +166,7 @@ seek-none f (x ∷ xs) n e = go (f x) (seek f xs) refl e (seek-none f xs)
     go false (refused m) q e k = k m q
     go false (accepted p) q e k = clash (sym e)
 
-seek-some : {A : Type 0} (f : A → Bool) (xs : List A) (p : ℕ) → seek f xs ≡ accepted p → (x : A) × (at xs p ≡ accepted x) × (f x ≡ true)
+pub seek-some : {A : Type 0} (f : A → Bool) (xs : List A) (p : ℕ) → seek f xs ≡ accepted p → (x : A) × (at xs p ≡ accepted x) × (f x ≡ true)
 unfolding seek at
 seek-some f [] p e = clash e
 seek-some {A} f (x ∷ xs) p e = go (f x) refl (seek f xs) refl p e (seek-some f xs)

@@ -2,11 +2,11 @@
 -- Each is settled by computation. Some others follow that show a trap.
 use Prim.Native.Nat.{ℕ, zero, suc}
 use mathlib.Core.List.{List, [], _∷_}
-use mathlib.Core.Bool.{true, false}
+use mathlib.Core.Bool.{Bool, true, false, not, _&&_, _||_}
 use mathlib.Core.Path.{_≡_, refl}
 use lib.ListN.{length, replicate}
-use Rattle.terms.specs.Names.{Name, bytes}
-use Rattle.terms.specs.Terms.{Timer, Value, Part, Process, Component, Context, Label}
+use Rattle.terms.specs.Names.{Name, sameName, bytes}
+use Rattle.terms.specs.Terms.{Timer, Value, Part, Process, Component, Context, Label, Rights, allRights}
 use Rattle.terms.specs.Terms.Timer.{ticks, inf}
 use Rattle.terms.specs.Terms.Edition.{edition1, edition2}
 use Rattle.terms.specs.Terms.Value.{loc, var}
@@ -21,7 +21,8 @@ use Rattle.terms.specs.Rules.Answer.{refused, accepted}
 use Rattle.terms.specs.Rules.Kind.{calls, moves}
 use Rattle.terms.specs.Rules.Action.{single, pair}
 use Rattle.terms.specs.Step.{step}
-use Rattle.terms.specs.Same.{same}
+use Rattle.terms.specs.Same.{every, same}
+use Rattle.terms.specs.Descent.{inherited, ancestors, ancestry, closedIn}
 use Rattle.terms.specs.Runs.{Fed, groupedRun, straightRun, rules}
 use Rattle.terms.specs.Runs.Call.{acting, ticking}
 use Rattle.terms.specs.Runs.Fed.{fed}
@@ -49,10 +50,10 @@ l $ a = comp l none (one a)
 
 -- no definitions, under edition 1 and under edition 2
 abbrev bare : Context
-bare = record { defs = []; edition = edition1 }
+bare = record { defs = []; edition = edition1; rights = allRights }
 
 abbrev bare2 : Context
-bare2 = record { defs = []; edition = edition2 }
+bare2 = record { defs = []; edition = edition2; rights = allRights }
 
 -- an accepted action, an accepted tick
 abbrev acts : Action → Fed
@@ -178,7 +179,7 @@ y = bytes "y"
 abbrev D : Name
 D = bytes "D"
 
-exchange : act (record { defs = define D (x ∷ y ∷ []) (one (call D (var y ∷ var x ∷ []))) ∷ []; edition = edition1 }) (single calls 0) ((A $ call D (loc A ∷ loc B ∷ [])) ∷ [])
+exchange : act (record { defs = define D (x ∷ y ∷ []) (one (call D (var y ∷ var x ∷ []))) ∷ []; edition = edition1; rights = allRights }) (single calls 0) ((A $ call D (loc A ∷ loc B ∷ [])) ∷ [])
     ≡ accepted (record { label = called D A; comps = comp A (by A) (one (call D (loc B ∷ loc A ∷ []))) ∷ [] })
 unfolding rules
 exchange = refl
@@ -188,7 +189,7 @@ abbrev Page : Name
 Page = bytes "Page"
 
 abbrev pages : Context
-pages = record { defs = define Page (x ∷ []) (one (go (ticks 0) (var x) (one (out c (ticks 1) (var x) halt halt)))) ∷ []; edition = edition1 }
+pages = record { defs = define Page (x ∷ []) (one (go (ticks 0) (var x) (one (out c (ticks 1) (var x) halt halt)))) ∷ []; edition = edition1; rights = allRights }
 
 abbrev net0 : List Component
 net0 = (A $ call Page (loc B ∷ [])) ∷ (B $ inp c (ticks 2) y (one (go (ticks 0) (var y) halt)) halt) ∷ []
@@ -285,3 +286,76 @@ edition-grouped : groupedRun bare2 (acts (single moves 0) ∷ ticked B ∷ ticke
     ≡ accepted (record { straight = (B $ sender) ∷ (B $ stop) ∷ []; grouped = (B $ sender) ∷ (B $ stop) ∷ [] })
 unfolding rules
 edition-grouped = refl
+
+-- ── rights: document 02, R-6 ──
+abbrev P : Name
+P = bytes "P"
+
+-- all rights but that to leave A for P, that of A to send on c, or that of A to receive on c
+abbrev noLeave : Rights
+noLeave = record { send = λ l k. true; receive = λ l k. true; leave = λ l v. not (sameName l A && sameName v P) }
+
+abbrev noSend : Rights
+noSend = record { send = λ l k. not (sameName l A && sameName k c); receive = λ l k. true; leave = λ l v. true }
+
+abbrev noReceive : Rights
+noReceive = record { send = λ l k. true; receive = λ l k. not (sameName l A && sameName k c); leave = λ l v. true }
+
+abbrev with : Rights → Context
+with r = record { defs = []; edition = edition1; rights = r }
+
+-- a move without its right is refused by 20; the tick goes on, and the timer stays 0
+right-leave : (act (with noLeave) (single moves 0) ((A $ go (ticks 0) (loc P) halt) ∷ []) ≡ refused 20)
+    × (tick (with noLeave) A ((A $ go (ticks 0) (loc P) halt) ∷ []) ≡ accepted ((A $ go (ticks 0) (loc P) halt) ∷ []))
+unfolding rules
+right-leave = (refl, refl)
+
+-- the step has no action for it
+right-step : (step (with noLeave) A ((A $ go (ticks 0) (loc P) halt) ∷ (A $ go (ticks 0) (loc B) halt) ∷ []) >>= λ s. accepted (s .actions)) ≡ accepted (single moves 1 ∷ [])
+unfolding rules
+right-step = refl
+
+-- the right is that of the location left, not of the target, and not the other way round
+right-back : ok (act (with noLeave) (single moves 0) ((P $ go (ticks 0) (loc A) halt) ∷ [])) ≡ true
+unfolding rules
+right-back = refl
+
+-- to one's own location none is needed
+right-own : ok (act (with (record { send = λ l k. true; receive = λ l k. true; leave = λ l v. false })) (single moves 0) ((A $ go (ticks 3) (loc A) halt) ∷ [])) ≡ true
+unfolding rules
+right-own = refl
+
+-- a pair at timer 0 without one of its rights takes both Q in one tick
+right-pair : (act (with noSend) (pair 0 1) (pairAt (ticks 0)) ≡ refused 20) × (act (with noReceive) (pair 0 1) (pairAt (ticks 0)) ≡ refused 20)
+    × (tick (with noSend) A (pairAt (ticks 0)) ≡ tick (with noReceive) A (pairAt (ticks 0)))
+    × (tick (with noReceive) A (pairAt (ticks 0)) ≡ accepted ((A $ go inf (loc B) halt) ∷ (A $ go (ticks 1) (loc B) halt) ∷ []))
+unfolding rules
+right-pair = (refl, refl, refl, refl)
+
+-- 11 is asked before 20, and a right of another location does not matter
+right-after-11 : (act (with noSend) (pair 0 1) ((A $ out c (ticks 0) (loc B) halt halt) ∷ (B $ reader (ticks 0)) ∷ []) ≡ refused 11)
+    × (tick (with noSend) B ((B $ out c (ticks 0) (loc B) halt halt) ∷ (B $ reader (ticks 0)) ∷ []) ≡ refused 12)
+unfolding rules
+right-after-11 = (refl, refl)
+
+-- from A nothing may leave for P, from B everything may; over B the page gets there all the same, for a chain leads over B
+right-chain : straightRun (with noLeave) (acts (single moves 0) ∷ ticked A ∷ acts (single moves 0) ∷ ticked B ∷ []) ((A $ go (ticks 0) (loc B) (one (go (ticks 0) (loc P) halt))) ∷ [])
+    ≡ accepted ((P $ stop) ∷ [])
+unfolding rules
+right-chain = refl
+
+-- so the rights lead out of A and B, and would not if B had none for P either
+abbrev inside : Name → Bool
+inside l = sameName l A || sameName l B
+
+right-closed : (closedIn (A ∷ B ∷ P ∷ []) noLeave inside ≡ false)
+    × (closedIn (A ∷ B ∷ P ∷ []) (record { send = λ l k. true; receive = λ l k. true; leave = λ l v. not (inside l && sameName v P) }) inside ≡ true)
+unfolding closedIn every sameName
+right-closed = (refl, refl)
+
+-- The ancestors of a page that moves and is split, of one that takes its Q, and of one at another location that stays. Numbers stand for the components read.
+right-ancestors : ancestry {A = ℕ} bare (acts (single moves 0) ∷ ticked A ∷ []) (0 ∷ 1 ∷ 2 ∷ [])
+    ((A $ go (ticks 0) (loc B) (stop ∥ one stop)) ∷ (A $ inp c (ticks 0) x halt (stop ∥ one stop)) ∷ (B $ stop) ∷ [])
+    ≡ 0 ∷ 0 ∷ 1 ∷ 1 ∷ 2 ∷ []
+unfolding rules inherited ancestors ancestry
+right-ancestors = refl

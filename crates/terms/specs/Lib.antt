@@ -4,6 +4,8 @@ pub mod Substitution
 pub mod Rules
 pub mod Step
 pub mod Runs
+pub mod Rights
+pub mod Descent
 pub mod Same
 pub mod Characters
 pub mod Letters

@@ -6,7 +6,7 @@ use mathlib.Core.Bool.{Bool, true, false, cond, _&&_, _||_}
 use lib.Dec.{eqb}
 use lib.ListN.{length}
 use Rattle.terms.specs.Names.{Name, sameName}
-use Rattle.terms.specs.Terms.{Value, Part, Process, Component, Def, Edition, Label, less, expired, due, firesAt, Context}
+use Rattle.terms.specs.Terms.{Value, Part, Process, Component, Def, Edition, Label, Rights, less, expired, due, firesAt, Context}
 use Rattle.terms.specs.Terms.Value.{loc, var}
 use Rattle.terms.specs.Terms.Part.{stop, go, out, inp, call}
 use Rattle.terms.specs.Terms.Process.{one, _∥_}
@@ -146,9 +146,17 @@ fits d (together (comp l none (one a)) (comp k none (one b))) =
     (accepted (record { label = sent (m .channel) (m .value) l; after = comp l (by l) (m .sender) ∷ comp l (by l) (m .receiver) ∷ [] }))
     (refused 11)
 
--- This is the one definition of `may fire`: the questions, the forced test, the step's choice and the notes all go by it. What fits may fire.
+-- The right that an action with this label needs: document 02, R-6. A communication needs two of its location, for its channel; a move the right to leave
+-- for its target, unless that is its own location; a call none.
+unfoldable pub granted : Rights → Label → Bool
+granted r (called i l) = true
+granted r (moved v l) = sameName v l || r .leave l v
+granted r (sent c v l) = r .send l c && r .receive l c
+
+-- This is the one definition of `may fire`: the questions, the forced test, the step's choice and the notes all go by it. What fits may fire if it has its
+-- right (question 20).
 unfoldable pub fire : Context → Firing → Answer Fired
-fire d x = fits d x
+fire d x = fits d x >>= λ f. cond (granted (d .rights) (f .label)) (accepted f) (refused 20)
 
 -- ── an action at positions ──
 pub data Action : Type 0 where
@@ -167,7 +175,7 @@ pub record Acted : Type 0 where
   pub label : Label
   pub comps : List Component
 
--- questions 8 to 11, then the components replaced at their own positions
+-- questions 8 to 11 and 20, then the components replaced at their own positions
 unfoldable pub act : Context → Action → List Component → Answer Acted
 act d a net = firingAt a net >>= λ x. fire d x >>= λ f. accepted (record { label = f .label; comps = setAll (positions a) (f .after) net })
 
@@ -236,5 +244,5 @@ tickAll d l net = tickWith (λ m. true) d l net
 
 -- all of the above, for `unfolding ruling`
 unfoldable pub ruling : Unit {0}
-unfolding substitution less expired due firesAt at set setAll seek some only locations filled body becomes meet fits fire positions firingAt act unmarked ready dueGo urgent pressing forced wait split pass tickWith tick tickAll
+unfolding substitution less expired due firesAt at set setAll seek some only locations filled body becomes meet fits granted fire positions firingAt act unmarked ready dueGo urgent pressing forced wait split pass tickWith tick tickAll
 ruling = tt

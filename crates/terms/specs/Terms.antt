@@ -1,7 +1,7 @@
 -- Terms and networks: document 01, *The term and the network*. Names are letters.
 use Prim.Native.Nat.{ℕ, _-_}
 use mathlib.Core.List.{List}
-use mathlib.Core.Bool.{Bool, false}
+use mathlib.Core.Bool.{Bool, true, false}
 use lib.Dec.{eqb, leb}
 use Rattle.terms.specs.Names.{Name}
 
@@ -75,14 +75,28 @@ pub record Network : Type 0 where
   pub defs : List Def
   pub comps : List Component
 
--- what the rules take beside the components: the definitions and the edition
+-- Rights: document 02, R-6. At each location there is one to send and one to receive for each channel, and one to leave for each target. L stands for
+-- locations and C for channels: their names in the rules, their numbers in a script.
+pub record RightsOf (L C : Type 0) : Type 0 where
+  pub send : L → C → Bool
+  pub receive : L → C → Bool
+  pub leave : L → L → Bool
+
+abbrev pub Rights : Type 0
+Rights = RightsOf Name Name
+
+abbrev pub allRights : {L C : Type 0} → RightsOf L C
+allRights = record { send = λ l c. true; receive = λ l c. true; leave = λ l v. true }
+
+-- what the rules take beside the components: the definitions, and the edition and the rights, which are given at reading and stay with the network
 pub record Context : Type 0 where
   pub defs : List Def
   pub edition : Edition
+  pub rights : Rights
 
--- that of a network that was read under an edition
-abbrev pub contextIn : Edition → Network → Context
-contextIn e m = record { defs = m .defs; edition = e }
+-- that of a network that was read under an edition and with rights
+abbrev pub contextIn : Edition → Rights → Network → Context
+contextIn e r m = record { defs = m .defs; edition = e; rights = r }
 
 -- `id@l`, `v@l`, `c<v>@l`
 pub data Label : Type 0 where

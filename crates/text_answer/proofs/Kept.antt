@@ -5,7 +5,7 @@ use mathlib.Core.Bool.{Bool, true, false}
 use mathlib.Core.List.{List}
 use mathlib.Core.Path.{_≡_, refl, sym, ap, _∙_}
 use lib.Dec.{eqb, ltb}
-use lib.ListN.{length, getD, set, replicate, length-set, length-replicate, getD-replicate}
+use lib.ListN.{length, set, replicate, length-set, length-replicate, getD-replicate}
 use lib.Seq.{getD-set-same, ext-getD}
 use borrow.Author.Tests.{eqb-true, eqb-false, ltb-true, ltb-false}
 use Rattle.table.specs.Words.{rowSize, partsAt, scriptWords, word}
@@ -43,20 +43,3 @@ back-again m w v k₀ k x a b c d = ext-getD 0 x w (d .size ∙ c) (λ o h. go o
     go : (o : ℕ) (t : Bool) → ltb o m ≡ t → word x o ≡ word w o
     go o true q = let h = ltb-true o m q in d .front o h ∙ a .front o h
     go o false q = let h = ltb-false o m q in d .rest o h ∙ b o h
-
--- one word, after another was put in its place
-word-again : (w : List ℕ) (o e : ℕ) → set (set w o e) o (word w o) ≡ w
-word-again w o e = ext-getD 0 (set (set w o e) o (word w o)) w long (λ j h. go j h (eqb j o) refl)
-  where
-    long : length (set (set w o e) o (word w o)) ≡ length w
-    long = length-set (set w o e) o (word w o) ∙ length-set w o e
-
-    go : (j : ℕ) → j < length (set (set w o e) o (word w o)) → (t : Bool) → eqb j o ≡ t → word (set (set w o e) o (word w o)) j ≡ word w j
-    go j h true q =
-        let i = eqb-true j o q in
-        ap (word (set (set w o e) o (word w o))) i ∙ getD-set-same (set w o e) o (word w o) 0 (omega (arith, length-set (set w o e) o (word w o))) ∙ ap (word w) (sym i)
-    go j h false q = let n = eqb-false j o q in set-out (set w o e) o j (word w o) n ∙ set-out w o j e n
-
--- the word o of w was b; e was put there, then nothing changed, then b was put back
-pub word-back : (w u v x : List ℕ) (o e b : ℕ) → u ≡ set w o e → v ≡ u → b ≡ word w o → x ≡ set v o b → x ≡ w
-word-back w u v x o e b p q r s = s ∙ rw (q, p, r) (word-again w o e)

@@ -1,2 +1,5 @@
 pub mod States
 pub mod Kept
+pub mod Named
+pub mod Under
+pub mod All

@@ -1,23 +1,26 @@
--- What the call `read` answers: document 01, *Reading* and questions 1 to 7, and document 02, R-8 and question 21. A refusal leaves the lent script as it was;
--- what is accepted passes question 17, has the edition that was given, and leaves the other words behind the script's last row.
+-- What the call `read` answers: document 01, *Reading* and questions 1 to 7, and document 02, R-8 and question 21, and R-6. A refusal leaves the lent script as
+-- it was; what is accepted passes question 17, has the edition and the rights that were given, and leaves the other words behind the script's last row.
 use Prim.Native.Nat.{ℕ, _+_, _*_, _≤_}
-use mathlib.Core.List.{List, [], map}
-use mathlib.Core.Bool.{true}
+use mathlib.Core.List.{List, [], _++_, map, flatMap}
+use mathlib.Core.Bool.{Bool, true, false, cond}
 use mathlib.Core.Path.{_≡_}
-use lib.ListN.{length, set, replicate}
+use lib.ListN.{length, getD, set, replicate}
+use lib.Seq.{sets}
 use Rattle.terms.specs.Names.{Name}
-use Rattle.terms.specs.Terms.{Network}
+use Rattle.terms.specs.Terms.{Network, RightsOf}
+use Rattle.terms.specs.Rights.{byName}
 use Rattle.terms.specs.Rules.{Answer}
 use Rattle.terms.specs.Rules.Answer.{refused, accepted}
 use Rattle.text.specs.Syntax.{Text}
 use Rattle.text.specs.Tree.{settled}
 use Rattle.text.specs.Questions.{form, channels, locations, readUnder, partCount}
 use Rattle.table.specs.declared.State.{State}
-use Rattle.table.specs.Words.{rowSize, partsAt, editionAt, scriptWords, stateWords, word, partsIn, editionIn}
-use Rattle.table.specs.Meaning.{PastKept, compsOf, networkOf}
+use Rattle.table.specs.Words.{rowSize, partsAt, editionAt, rightsAt, scriptWords, stateWords, word, partsIn, editionIn}
+use Rattle.table.specs.Meaning.{PastKept, listFrom, rightsOf, compsOf, networkOf}
 use Rattle.table.specs.Valid.{valid}
 use Rattle.text_build.specs.Rows.{locsOf, chansOf}
 use Rattle.text_tree.specs.Asked.{compOf}
+use Rattle.text_answer.specs.declared.Row.{Row}
 use Rattle.text_answer.specs.declared.Settings.{Settings}
 use Rattle.text_answer.specs.declared.Reading.{Reading}
 
@@ -46,17 +49,52 @@ abbrev pub partsOf : Answer Text → ℕ
 partsOf (refused n) = 0
 partsOf (accepted x) = partCount (settled x)
 
--- a script with what was given put in its place
-abbrev pub under : Settings → List ℕ → List ℕ
-under g w = set w editionAt (g .edition)
+-- ── what is given: document 02, R-8 and R-6 ──
+-- R-6: a row that gives no right
+abbrev pub noRow : Row
+noRow = record { send = []; receive = []; leave = [] }
 
--- an accepted text s: the script v and the components stand for the network m, pass question 17, have the edition that was given, the text's numbers, and as
--- many rows as it has parts. The words of the script behind the row of the last part are those of the script w before the call but for what was given, and
--- the words of the state that are no component's are zero: only the places in use are free.
+-- R-6: the rights that are given, by the numbers of locations and channels; none where there is no row
+unfoldable pub given : Settings → RightsOf ℕ ℕ
+given g = record {
+  send = λ l c. getD (getD (g .rights) l noRow .send) c false;
+  receive = λ l c. getD (getD (g .rights) l noRow .receive) c false;
+  leave = λ l v. getD (getD (g .rights) l noRow .leave) v false;
+}
+
+-- R-6: an edition with all rights
+abbrev pub allRow : Row
+allRow = record { send = replicate 64 true; receive = replicate 64 true; leave = replicate 64 true }
+
+abbrev pub allSettings : ℕ → Settings
+allSettings e = record { edition = e; rights = replicate 64 allRow }
+
+-- R-6: the word of a right, and those of 64 of a kind
+abbrev pub flag : Bool → ℕ
+flag b = cond b 1 0
+
+unfoldable pub flags : List Bool → List ℕ
+flags bs = listFrom 0 64 (λ c. flag (getD bs c false))
+
+-- R-6: the words of a row, and those of 64 rows
+unfoldable pub rowWords : Row → List ℕ
+rowWords r = flags (r .send) ++ (flags (r .receive) ++ flags (r .leave))
+
+unfoldable pub rightsWords : List Row → List ℕ
+rightsWords rs = flatMap rowWords (listFrom 0 64 (λ l. getD rs l noRow))
+
+-- R-8 and R-6: a script with what was given put in its place
+abbrev pub under : Settings → List ℕ → List ℕ
+under g w = sets (set w editionAt (g .edition)) rightsAt (rightsWords (g .rights))
+
+-- an accepted text s: the script v and the components stand for the network m, pass question 17, have the edition and the rights that were given, the text's
+-- numbers, and as many rows as it has parts. The words of the script behind the row of the last part are those of the script w before the call but for what
+-- was given, and the words of the state that are no component's are zero: only the places in use are free.
 pub record Took (s : List ℕ) (g : Settings) (w v : List ℕ) (m : Network) (r : Reading) : Type 0 where
   pub code : r .code ≡ 0
   pub network : networkOf v (r .state) ≡ m
   pub edition : editionIn v ≡ g .edition
+  pub rights : rightsOf v ≡ byName (locationsIn (form s)) (channelsIn (form s)) (given g)
   pub good : valid v (r .state) ≡ true
   pub locs : locsOf v ≡ locationsIn (form s)
   pub chans : chansOf v ≡ channelsIn (form s)

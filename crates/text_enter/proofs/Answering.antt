@@ -7,8 +7,7 @@ use mathlib.Core.List.{List, [], _∷_, map}
 use mathlib.Core.Path.{_≡_, refl, sym, ap, _∙_}
 use borrow.Author.Tests.{leb-true, eqb-true}
 use lib.Dec.{leb}
-use lib.ListN.{length, take, set, replicate, length-set}
-use lib.Seq.{getD-set-same}
+use lib.ListN.{length, take, set, replicate}
 use Rattle.terms.specs.Rules.{Answer, _>>=_}
 use Rattle.terms.specs.Rules.Answer.{refused, accepted}
 use Rattle.terms.specs.Same.{every}
@@ -58,6 +57,7 @@ use Rattle.text_fill.proofs.Quiet.{Quiet, quiet-then, bodies-quiet, brackets-qu
 use Rattle.text_answer.specs.Front.{Front}
 use Rattle.text_fill.proofs.Beyond.{Beyond, filled-beyond}
 use Rattle.text_answer.proofs.Kept.{front-blank}
+use Rattle.text_answer.proofs.Under.{under-length, under-edition, names-given}
 
 -- ── 1 to 4 by the scan ──
 -- the text has the form of a tree and keeps the limits that the scan knows
@@ -202,6 +202,7 @@ module _ {s : List ℕ} (x : Passing s) (base : List ℕ) (blank : Blank base (p
 
   -- what an accepted text leaves: the words of the script w behind the last row, and zeros beside the components
   pub record Around (g : Settings) (w : List ℕ) (st : State) : Type 0 where
+    pub before : length w ≡ scriptWords
     pub size : length S ≡ scriptWords
     pub behind : (o : ℕ) → partsAt + partCount T * rowSize ≤ o → word S o ≡ word (under g w) o
     pub past : PastKept (st .n) (replicate stateWords 0) (st .c)
@@ -251,18 +252,23 @@ module _ {s : List ℕ} (x : Passing s) (base : List ℕ) (blank : Blank base (p
           known-yes = known T S W (x .ready .within .parameters) distinct-yes (x .ready .well) calls-yes bound-yes
 
           took : (q : Reading) → q .code ≡ 0 → q .state .n ≡ length (spotsOf base T) → compsOf (q .state) ≡ map (compOf S) (spotsOf base T) → (g : Settings) (w : List ℕ) → Around g w (q .state) → Took s g w S (networkOf T) q
-          took q z n c g w a = record {
-            code = z;
-            network = network-is base T blank (x .ready .within) (x .ready .well) flag distinct-yes known-yes (ap isEdition (a .edition) ∙ a .known-one) (q .state) n c;
-            edition = a .edition;
-            good = valid-is base T blank (x .ready .within) (x .ready .well) flag distinct-yes known-yes (ap isEdition (a .edition) ∙ a .known-one) (q .state) n c;
-            locs = W .locs ∙ sym (ap locationsIn (x .form-is));
-            chans = W .chans ∙ sym (ap channelsIn (x .form-is));
-            parts = parts-kept base T blank ∙ sym (ap partsOf (x .form-is));
-            size = a .size;
-            behind = λ o h. a .behind o (omega (arith, parts-kept base T blank));
-            past = a .past;
-          }
+          took q z n c g w a =
+              let good-now = valid-is base T blank (x .ready .within) (x .ready .well) flag distinct-yes known-yes (ap isEdition (a .edition) ∙ a .known-one) (q .state) n c in
+              let locs-now = W .locs ∙ sym (ap locationsIn (x .form-is)) in
+              let chans-now = W .chans ∙ sym (ap channelsIn (x .form-is)) in
+              record {
+                code = z;
+                network = network-is base T blank (x .ready .within) (x .ready .well) flag distinct-yes known-yes (ap isEdition (a .edition) ∙ a .known-one) (q .state) n c;
+                edition = a .edition;
+                rights = names-given g w (a .before) S (λ o h. a .behind o (omega (arith, x .ready .within .parts))) (q .state) good-now locs-now chans-now;
+                good = good-now;
+                locs = locs-now;
+                chans = chans-now;
+                parts = parts-kept base T blank ∙ sym (ap partsOf (x .form-is));
+                size = a .size;
+                behind = λ o h. a .behind o (omega (arith, parts-kept base T blank));
+                past = a .past;
+              }
 
   pub asked-no : (asked S ≡ 0 → ⊥) → read s ≡ refused (asked S)
   asked-no n = go₁ (roomy S) (apart S) (callsHeld S) (allBound S) refl refl refl refl n
@@ -366,8 +372,9 @@ module _ (s : List ℕ) (c : Scanned) (e : c ≡ scanOf s) (q : ℕ) (l : q ≡ 
               yes = λ y g w₁ i known-one u q z k.
                   let p = state-is (pass .ready) blank parts-now defs-now (h (pass .ready)) wide (q .state) k in
                   let behind-now : (o : ℕ) → partsAt + c .parts * rowSize ≤ o → word v o ≡ word (under g w₁) o = λ o b. rest-now fewest o b ∙ ap (λ x. word x o) i in
-                  let edition-now : editionIn v ≡ g .edition = behind-now editionAt (omega (arith, may-fill .0)) ∙ getD-set-same w₁ editionAt (g .edition) 0 (omega (arith, size, ap length i, length-set w₁ editionAt (g .edition))) in
-                  let around : Around pass w₀ blank g w₁ (q .state) = record { size = rw now-script at (long-now ∙ size); behind = rw (parts-now, now-script) at behind-now; past = k .past; edition = rw now-script at edition-now; known-one = known-one } in
+                  let before-now : length w₁ ≡ scriptWords = sym (ap length i ∙ under-length g w₁) ∙ size in
+                  let edition-now : editionIn v ≡ g .edition = behind-now editionAt (omega (arith, may-fill .0)) ∙ under-edition g w₁ before-now in
+                  let around : Around pass w₀ blank g w₁ (q .state) = record { before = before-now; size = rw now-script at (long-now ∙ size); behind = rw (parts-now, now-script) at behind-now; past = k .past; edition = rw now-script at edition-now; known-one = known-one } in
                   rw now-script (asked-yes pass w₀ blank (sym asked-is ∙ y) q z (p .0) (p .1) u g w₁ around);
             };
             rest = rest-now fewest;

@@ -1,6 +1,7 @@
 // Layer 2, reading and writing: the call `read`. The edition is asked (question 21), a text is scanned (questions 1 to 4), then written into the lent script in
 // three passes, which is asked questions 4 to 7. A text that is refused leaves the script as it was: the words that the passes write are kept aside before, and
-// so is the edition. An accepted one leaves the other words behind its last row as they were. What the call answers: specs/Answer of text_answer.
+// so are the edition and the rights. An accepted one leaves the other words behind its last row as they were. What the call answers: specs/Answer of
+// text_answer.
 //
 // proofs/Numbers  the numbers that a refusal of `read` has
 ghost use mathlib.Core.Path.{_≡_};
@@ -18,7 +19,12 @@ use terms::is_edition;
 use text_answer::Reading;
 use text_answer::Settings;
 use text_answer::front::put_edition;
+use text_answer::front::script_sized;
 use text_answer::front::wipe;
+use text_answer::given::RIGHTS_WORDS;
+use text_answer::given::keep_rights;
+use text_answer::given::put_rights_back;
+use text_answer::given::put_settings;
 use text_answer::refuse;
 use text_answer::state::accept;
 use text_enter::Entry;
@@ -80,10 +86,14 @@ pub fn read(text: &[u8], given: Settings, w: &mut Script) -> Reading
         return refuse(q);
     }
     let mut out = [[0; 2]; 256];
+    let mut kept = [0u32; RIGHTS_WORDS];
+    script_sized(*w);
     let before = word(w, EDITION);
-    put_edition(w, given.edition);
+    keep_rights(w, RIGHTS_WORDS, &mut kept);
+    put_settings(w, given);
     let e = try_enter(text, c, w, &mut out);
     if e.code != 0 {
+        put_rights_back(&kept, RIGHTS_WORDS, w);
         put_edition(w, before);
         return refuse(e.code);
     }
@@ -105,7 +115,7 @@ pub fn read_over(text: &[u8], given: Settings, w: &mut Script) -> Reading
         return refuse(q);
     }
     let mut out = [[0; 2]; 256];
-    put_edition(w, given.edition);
+    put_settings(w, given);
     let e = enter(text, c, w, &mut out);
     if e.code != 0 {
         wipe(w);

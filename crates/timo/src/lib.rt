@@ -3,6 +3,7 @@
 ghost use mathlib.Core.Path.{_≡_};
 ghost use Prim.Native.Nat.{_≤_};
 ghost use lib.ListN.{length};
+ghost use Rattle.table.specs.Words.{locsIn, chansIn, locName, chanName};
 ghost use Rattle.table.specs.Valid.{valid};
 ghost use Rattle.calls_act.specs.Acted.{actionAnswer, actsAs};
 ghost use Rattle.calls_tick.specs.Ticked.{tickAnswer, ticksAs};
@@ -10,10 +11,10 @@ ghost use Rattle.calls_step.specs.Stepped.{stepAnswer, stepsAs};
 ghost use Rattle.calls_propose.specs.Proposed.{proposeAnswer};
 ghost use Rattle.calls_forced.specs.Report.{forcedReport};
 ghost use Rattle.calls_same.specs.Answer.{compared, sameAnswer};
-ghost use Rattle.text_answer.specs.Answer.{ReadsAs};
+ghost use Rattle.text_answer.specs.Answer.{ReadsAs, allSettings};
 ghost use Rattle.text_write.specs.Answer.{Answers, writeAnswer};
 ghost use Rattle.run_print.specs.Print.{printout};
-ghost use Rattle.host.specs.Shown.{locationsAnswer, counted, nameAnswer, labelAnswer, lineAnswer, Shows};
+ghost use Rattle.host.specs.Shown.{countAnswer, counted, nameAnswer, labelAnswer, lineAnswer, Shows};
 use calls::action;
 use calls::forced_report;
 use calls::step_at;
@@ -28,6 +29,8 @@ use calls_step::Stepped;
 use calls_tick::Ticked;
 use host::Counted;
 use host::action_label;
+use host::channel_name;
+use host::channels;
 use host::location_name;
 use host::locations;
 use host::step_line;
@@ -36,8 +39,17 @@ use table::Words;
 use table_valid::is_valid;
 use text_answer::Reading;
 use text_answer::Settings;
+use text_answer::given::all_rights;
 use text_write::Written;
 use text_write::write;
+
+// An edition with all rights, to be read with or to take rights from. Nothing is asked of the edition.
+#[no_mangle]
+pub extern "C" fn timo_all_rights(edition: u32) -> Settings
+    ensures { λ r. ⌜ r ≡ allSettings edition ⌝ }
+{
+    all_rights(edition)
+}
 
 // Reading, with what is given beside the text: questions 21 and 1 to 7. A refusal leaves the lent script as it was.
 #[no_mangle]
@@ -55,7 +67,7 @@ pub extern "C" fn timo_valid(w: &Script, c: &Words, n: usize) -> bool
     is_valid(w, c, n)
 }
 
-// A single action: questions 17, 8, 9, 10, 11. A refusal leaves the lent components as they were, here and in the three calls below.
+// A single action: questions 17, 8, 9, 10, 11, 20. A refusal leaves the lent components as they were, here and in the three calls below.
 #[no_mangle]
 pub extern "C" fn timo_action(
     w: &Script,
@@ -92,7 +104,7 @@ pub extern "C" fn timo_step(
     step_at(w, c, n, l, records)
 }
 
-// A proposal: questions 17, 8 for the location, 8 to 11 and 16 for each record, 12, 13.
+// A proposal: questions 17, 8 for the location, 8 to 11, 20 and 16 for each record, 12, 13.
 #[no_mangle]
 pub extern "C" fn timo_propose(
     w: &Script,
@@ -140,9 +152,17 @@ pub extern "C" fn timo_same(
 // How many locations there are: question 17.
 #[no_mangle]
 pub extern "C" fn timo_locations(w: &Script, c: &Words, n: usize) -> Counted
-    ensures { λ r. ⌜ r ≡ counted (locationsAnswer (now (w .entry)) (record { c = now (c .entry); n = n })) ⌝ }
+    ensures { λ r. ⌜ r ≡ counted (countAnswer (now (w .entry)) (record { c = now (c .entry); n = n }) (locsIn (now (w .entry)))) ⌝ }
 {
     locations(w, c, n)
+}
+
+// How many channels there are: question 17.
+#[no_mangle]
+pub extern "C" fn timo_channels(w: &Script, c: &Words, n: usize) -> Counted
+    ensures { λ r. ⌜ r ≡ counted (countAnswer (now (w .entry)) (record { c = now (c .entry); n = n }) (chansIn (now (w .entry)))) ⌝ }
+{
+    channels(w, c, n)
 }
 
 // The name of the location numbered l: questions 17, 8, 15.
@@ -154,12 +174,26 @@ pub extern "C" fn timo_location_name(
     l: u32,
     buf: &mut [u8],
 ) -> Written
-    ensures { λ r. ⌜ Answers (nameAnswer (now (w .entry)) (record { c = now (c .entry); n = n }) l (length (now (buf .entry)))) (now (buf .entry)) r (now (buf .exit)) ⌝ }
+    ensures { λ r. ⌜ Answers (nameAnswer (now (w .entry)) (record { c = now (c .entry); n = n }) (locsIn (now (w .entry))) (locName (now (w .entry))) l (length (now (buf .entry)))) (now (buf .entry)) r (now (buf .exit)) ⌝ }
 {
     location_name(w, c, n, l, buf)
 }
 
-// The label of an action: questions 17, 8, 9, 10, 11, 15. An action of a step has the same label in the network before the step, which is the law
+// The name of the channel numbered h: questions 17, 8, 15.
+#[no_mangle]
+pub extern "C" fn timo_channel_name(
+    w: &Script,
+    c: &Words,
+    n: usize,
+    h: u32,
+    buf: &mut [u8],
+) -> Written
+    ensures { λ r. ⌜ Answers (nameAnswer (now (w .entry)) (record { c = now (c .entry); n = n }) (chansIn (now (w .entry))) (chanName (now (w .entry))) h (length (now (buf .entry)))) (now (buf .entry)) r (now (buf .exit)) ⌝ }
+{
+    channel_name(w, c, n, h, buf)
+}
+
+// The label of an action: questions 17, 8, 9, 10, 11, 20, 15. An action of a step has the same label in the network before the step, which is the law
 // step-before of run_line; so the records of a step are shown with the components as they were before it (host/proofs/Records).
 #[no_mangle]
 pub extern "C" fn timo_action_label(
@@ -184,7 +218,7 @@ pub extern "C" fn timo_step_line(w: &Script, c: &Words, n: usize, l: u32, buf: &
     step_line(w, c, n, l, buf)
 }
 
-// The whole printout of a text, as `timorun` prints it, under edition 1: its length, which is at most 3,477,760, and as much of it as the buffer holds. What `run_print`
+// The whole printout of a text, as `timorun` prints it, under edition 1 and with all rights: its length, which is at most 3,477,760, and as much of it as the buffer holds. What `run_print`
 // promises of its place and bytes, said without its way of counting.
 #[no_mangle]
 pub extern "C" fn timo_printout(text: &[u8], buf: &mut [u8]) -> usize

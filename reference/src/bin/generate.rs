@@ -7,7 +7,7 @@ use std::fs;
 use std::path::Path;
 use std::process::ExitCode;
 
-use timo_reference::term::Edition;
+use timo_reference::term::Settings;
 use timo_reference::{generate, lists as call_lists};
 
 fn main() -> ExitCode {
@@ -50,7 +50,7 @@ fn write_one(seed: u64, stem: &Path, lists: bool) -> Result<(), Box<dyn Error>> 
     };
     fs::write(stem.with_extension("timo"), &script)?;
     if lists {
-        let calls = generate::calls(seed, &script, Edition::One);
+        let calls = generate::calls(seed, &script, &Settings::all(1));
         fs::write(stem.with_extension("calls"), call_lists::print(&calls))?;
     }
     Ok(())

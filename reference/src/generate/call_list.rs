@@ -8,7 +8,7 @@ use crate::calls::{Engine, Record};
 use crate::lists::Call;
 use crate::random::Random;
 use crate::rules::{Action, Rules};
-use crate::term::{Component, Network, Part};
+use crate::term::{Component, Network, Part, Script};
 use crate::writing;
 
 /// That many calls from a network just read.
@@ -65,19 +65,37 @@ fn call(random: &mut Random, network: &Network) -> Call {
 // --- actions and ticks --------------------------------------------------------
 
 fn enabled_action(random: &mut Random, network: &Network) -> Call {
-    let enabled = enabled(&network.components, None);
-    if enabled.is_empty() {
+    let (enabled, withheld) = fitting(&network.script, &network.components, None);
+    let among = if !withheld.is_empty() && random.chance(1, 6) {
+        withheld
+    } else {
+        enabled
+    };
+    if among.is_empty() {
         return Call::Tick(quiet_location(random, network));
     }
-    let mut record = Record::of(*random.pick(&enabled));
+    let mut record = Record::of(*random.pick(&among));
     if record.kind < 3 {
         record.q = any_number(random, network.components.len());
     }
     Call::Action(record)
 }
 
-/// Every action that can fire, at one location or at all.
-fn enabled(components: &[Component], location: Option<&str>) -> Vec<Action> {
+/// Every action that can fire, at one location or at all; and every one that
+/// lacks its right only.
+fn fitting(
+    script: &Script,
+    components: &[Component],
+    location: Option<&str>,
+) -> (Vec<Action>, Vec<Action>) {
+    let has_right =
+        |action: &Action| Rules::default().has_right(script, &components[action.positions()[0]]);
+    fitting_but_for_rights(components, location)
+        .into_iter()
+        .partition(has_right)
+}
+
+fn fitting_but_for_rights(components: &[Component], location: Option<&str>) -> Vec<Action> {
     let mut actions = Vec::new();
     for (p, component) in components.iter().enumerate() {
         if location.is_some_and(|location| location != component.location) {
@@ -221,7 +239,7 @@ fn whole_step(random: &mut Random, network: &Network, location: &str) -> Vec<Rec
     let mut components = network.components.clone();
     let mut records = Vec::new();
     loop {
-        let enabled = enabled(&components, Some(location));
+        let (enabled, _) = fitting(&network.script, &components, Some(location));
         let forced = rules.forced(&network.script, &components, location);
         if enabled.is_empty() || (!forced && random.chance(1, 2)) {
             return records;
@@ -232,8 +250,9 @@ fn whole_step(random: &mut Random, network: &Network, location: &str) -> Vec<Rec
     }
 }
 
+/// Of every action that fits, with its right or without.
 fn every_record(network: &Network) -> Vec<Record> {
-    enabled(&network.components, None)
+    fitting_but_for_rights(&network.components, None)
         .into_iter()
         .map(Record::of)
         .collect()

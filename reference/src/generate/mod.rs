@@ -1,4 +1,4 @@
-//! Scripts and call lists that reach the corners, from a seed.
+//! Scripts, rights and call lists that reach the corners, from a seed.
 //!
 //! | module   | what it makes                                                  |
 //! |----------|----------------------------------------------------------------|
@@ -9,6 +9,7 @@
 //! | `hostile` | deep, long and wide texts with their numbers              |
 //! | `faults` | every fault that questions 1 to 7 ask for, in pairs            |
 //! | `vectors` | small scripts with their printouts                            |
+//! | `rights` | rights that matter, while most scripts still run               |
 //! | `call_list` | calls on a network, biased toward what is enabled           |
 
 pub mod call_list;
@@ -18,12 +19,15 @@ pub mod edges;
 pub mod faults;
 pub mod hostile;
 pub mod random_script;
+pub mod rights;
 pub mod vectors;
+
+pub use self::rights::rights;
 
 use crate::calls::Engine;
 use crate::lists::Call;
 use crate::random::Random;
-use crate::term::Edition;
+use crate::term::Settings;
 
 /// The seed of one script among many, far from those of its neighbours.
 pub fn seed(seed: u64, index: u64) -> u64 {
@@ -51,11 +55,11 @@ pub fn script_to_run(seed: u64) -> Vec<u8> {
     }
 }
 
-/// A list of calls for a text, made by following its network under an edition;
+/// A list of calls for a text, made by following its network with settings;
 /// empty if the text is refused.
-pub fn calls(seed: u64, script: &[u8], edition: Edition) -> Vec<Call> {
+pub fn calls(seed: u64, script: &[u8], settings: &Settings) -> Vec<Call> {
     let mut random = Random::new(seed ^ 0x5eed_ca11);
-    match Engine::default().read(script, edition.number()) {
+    match Engine::default().read(script, settings) {
         Ok(network) => {
             let count = random.between(100, 500);
             call_list::calls(&mut random, network, count)

@@ -1,23 +1,30 @@
 //! Short forms for the tests.
 #![allow(dead_code)]
 
+pub mod cases;
+
 use timo_reference::calls::{Engine, Record};
 use timo_reference::refusal::Refusal;
-use timo_reference::term::{Edition, Network};
+use timo_reference::term::{Edition, Network, Settings};
 use timo_reference::writing;
 
 pub fn engine() -> Engine {
     Engine::default()
 }
 
-/// The network of a text under edition 1.
+/// The network of a text under edition 1 with all rights.
 pub fn read(text: &str) -> Network {
     read_under(Edition::One, text)
 }
 
+/// With all rights.
 pub fn read_under(edition: Edition, text: &str) -> Network {
+    read_with(&Settings::all(edition.number()), text)
+}
+
+pub fn read_with(settings: &Settings, text: &str) -> Network {
     engine()
-        .read(text.as_bytes(), edition.number())
+        .read(text.as_bytes(), settings)
         .unwrap_or_else(|refusal| panic!("{refusal}: {text}"))
 }
 
@@ -28,7 +35,7 @@ pub fn question(text: impl AsRef<[u8]>) -> u8 {
 }
 
 pub fn question_under(edition: u32, text: impl AsRef<[u8]>) -> u8 {
-    number(engine().read(text.as_ref(), edition))
+    number(engine().read(text.as_ref(), &Settings::all(edition)))
 }
 
 pub fn number<T>(answer: Result<T, Refusal>) -> u8 {
@@ -91,4 +98,19 @@ pub fn step(network: &Network, location: u32) -> (Network, Vec<Record>, Vec<Stri
 
 pub fn stepped(network: &Network, location: u32) -> Network {
     step(network, location).0
+}
+
+/// A text whose first component is a call.
+pub const CALLER: &str = "D=stop. A[D|go(1,B,stop)] | B[stop] .";
+
+/// A network whose first component is a call, and what an action, a tick, a step
+/// and a proposal make of it.
+pub fn after_each_call(network: Network) -> [Network; 5] {
+    let acted = act(&network, 1, 0, 0);
+    let ticked = tick(&acted, 0);
+    let stepped = stepped(&network, 0);
+    let (proposed, _) = engine()
+        .proposal(&network, 0, &[Record::new(1, 0, 0)])
+        .expect("an allowed proposal");
+    [network, acted, ticked, stepped, proposed]
 }

@@ -1,9 +1,12 @@
--- The edition's refusal, that of the scan, that of the script, or the network. After a refusal of the script its edition is put back.
+-- The edition's refusal, that of the scan, that of the script, or the network. After a refusal of the script its rights and its edition are put back.
 use borrow.Author.Needs.{needs}
+use Prim.Native.Nat.{ℕ, _*_}
 use native.Mathlib.Omega.{arith}
 use mathlib.Core.Path.{refl}
+use lib.ListN.{length-replicate}
+use Rattle.table.specs.Words.{rightsSize}
 use Rattle.table.proofs.ValidBool.{failed, passed}
-use Rattle.text_answer.proofs.Kept.{word-back}
+use Rattle.text_answer.proofs.Under.{given-back}
 use Rattle.text_enter.proofs.Answering.{way-1, answer-no, edition-no, edition-yes}
 use Rattle.text_read.proofs.read.Statement.{statement}
 use Rattle.text_read.proofs.read.Tie as tie
@@ -18,18 +21,22 @@ returns-2 c =
 
 returns-3 : tie.Need-returns-3
 returns-3 c =
-    let past = c .before .before .before .before .before .before in
-    let far = past .before .before .before .before .before .before .before .before .before .before in
-    let m = c .before .before .before .if3 .taken in
-    let back = word-back _ _ _ _ _ _ _ (past .before .before .before .put-edition .ensures) (past .try-enter .ensures .back m) (past .before .before .before .before .before .word .ensures) (c .before .put-edition2 .ensures) in
+    let past = c .before .before .before .before .before .before .before .before .before in
+    let first = past .before .before .before .before .before .before in
+    let far = first .before .before .before .before .before .before .before .before .before .before in
+    let m = c .before .before .before .before .before .before .if3 .taken in
+    let kept = first .keep-rights .ensures in
+    let back =
+    given-back _ _ (first .before .before .before .before .before .script-sized .ensures) kept (omega (arith, kept .size, length-replicate {A = ℕ} (64 * rightsSize) 0)) (past .before .before .before .put-settings .ensures) (past .try-enter .ensures .back m) (c .before .before .before .put-rights-back .ensures) (first .before .before .before .word .ensures) (c .before .put-edition .ensures)
+    in
     edition-yes _ _ (passed (far .if1 .left) (far .before .is-edition .ensures)) _ _ _ _ (answer-no (past .try-enter .ensures .answer) m _ _ _ _ _ (c .refuse3 .ensures) back)
 
 returns-4 : tie.Need-returns-4
 returns-4 c =
     let past = c .before .before .before .before .before .before in
-    let far = past .before .before .before .before .before .before .before .before .before .before in
+    let far = past .before .before .before .before .before .before .before .before .before .before .before .before .before .before .before .before in
     let known = passed (far .if1 .left) (far .before .is-edition .ensures) in
-    edition-yes _ _ known _ _ _ _ (past .try-enter .ensures .answer .yes (omega (arith, c .before .before .before .if3 .left)) _ _ (past .before .before .before .put-edition .ensures) known _ _ (c .accept .ensures .0) (c .accept .ensures .1))
+    edition-yes _ _ known _ _ _ _ (past .try-enter .ensures .answer .yes (omega (arith, c .before .before .before .if3 .left)) _ _ (past .before .before .before .put-settings .ensures) known _ _ (c .accept .ensures .0) (c .accept .ensures .1))
 
 pub read-spec : {M : Type 1} → statement M
 read-spec =
@@ -43,6 +50,11 @@ read-spec =
     (λ c κs. search needs)
     returns-2
     (λ c κs. search needs)
+    (λ c κs. search needs)
+    (λ c. search needs)
+    (λ c κs. search needs)
+    (λ c κs. search needs)
+    (λ c. search needs)
     (λ c κs. search needs)
     (λ c. search needs)
     (λ c κs. search needs)

@@ -25,7 +25,7 @@ returns-4 c =
     let past = c .before .before .before .before .before .before in
     let far = past .before .before .before .before .before .before .before .before in
     let known = passed (far .if1 .left) (far .before .is-edition .ensures) in
-    edition-yes _ _ known _ _ _ _ (past .enter .ensures .answer .yes (omega (arith, c .before .before .before .if3 .left)) _ _ (past .before .before .before .put-edition .ensures) known _ _ (c .accept .ensures .0) (c .accept .ensures .1))
+    edition-yes _ _ known _ _ _ _ (past .enter .ensures .answer .yes (omega (arith, c .before .before .before .if3 .left)) _ _ (past .before .before .before .put-settings .ensures) known _ _ (c .accept .ensures .0) (c .accept .ensures .1))
 
 pub read-over-spec : {M : Type 1} → statement M
 read-over-spec =

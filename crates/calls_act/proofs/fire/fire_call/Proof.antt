@@ -1,11 +1,11 @@
 -- `fire_call` meets its contract: the mark decides question 9, the head the rest.
-use mathlib.Core.Path.{ap, _∙_}
+use mathlib.Core.Path.{sym, ap, _∙_}
 use borrow.Author.Tests.{lt-ltb, le-ltb}
 use Rattle.terms.specs.Rules.Kind.{calls}
 use Rattle.table.specs.Words.{headAt}
 use Rattle.table.specs.Fire.{becomesAt, aloneAt, fitsAlone}
-use Rattle.calls_act.specs.Fired.{oneOf}
-use Rattle.calls_act.proofs.Heads.{place-fits, callee-fits}
+use Rattle.calls_act.specs.Fired.{oneOf, righted}
+use Rattle.calls_act.proofs.Heads.{place-fits, callee-fits, call-free}
 use borrow.Author.Needs.{needs}
 use Rattle.calls_act.proofs.fire.fire_call.Statement.{statement}
 use Rattle.calls_act.proofs.fire.fire_call.Tie as tie
@@ -30,7 +30,7 @@ returns-2 : tie.Need-returns-2
 unfolding aloneAt fitsAlone
 returns-2 c =
     let a = c .before .before .before .before .before .args in
-    c .becomes-call .ensures ∙ ap (becomesAt (a .w .now) calls (a .c)) (c .before .head-at .ensures ∙ ap (headAt (a .w .now)) (c .before .before .wide .ensures)) ∙ rw (le-ltb _ _ (c .before .before .before .if1 .left))
+    c .becomes-call .ensures ∙ sym (call-free (a .w .now) (a .c) _) ∙ ap (λ h. righted (a .w .now) (becomesAt (a .w .now) calls (a .c) h)) (c .before .head-at .ensures ∙ ap (headAt (a .w .now)) (c .before .before .wide .ensures)) ∙ rw (le-ltb _ _ (c .before .before .before .if1 .left))
 
 pub fire-call-spec : {M : Type 1} → statement M
 fire-call-spec =

@@ -4,7 +4,7 @@ use borrow.Author.Tests.{lt-ltb, le-ltb}
 use Rattle.terms.specs.Rules.Kind.{moves}
 use Rattle.table.specs.Words.{headAt}
 use Rattle.table.specs.Fire.{becomesAt, aloneAt, fitsAlone}
-use Rattle.calls_act.specs.Fired.{oneOf}
+use Rattle.calls_act.specs.Fired.{oneOf, righted}
 use Rattle.calls_act.proofs.Heads.{place-fits}
 use borrow.Author.Needs.{needs}
 use Rattle.calls_act.proofs.fire.fire_move.Statement.{statement}
@@ -23,8 +23,11 @@ head-at-requires c κs =
 returns-2 : tie.Need-returns-2
 unfolding aloneAt fitsAlone
 returns-2 c =
-    let a = c .before .before .before .before .before .args in
-    c .becomes-move .ensures (a .w .now) ∙ ap (becomesAt (a .w .now) moves (a .c)) (c .before .head-at .ensures ∙ ap (headAt (a .w .now)) (c .before .before .wide .ensures)) ∙ rw (le-ltb _ _ (c .before .before .before .if1 .left))
+    let b = c .before in
+    let a = b .before .before .before .before .before .args in
+    c .rightly-one .ensures
+    ∙ ap (righted (a .w .now)) (b .becomes-move .ensures (a .w .now) ∙ ap (becomesAt (a .w .now) moves (a .c)) (b .before .head-at .ensures ∙ ap (headAt (a .w .now)) (b .before .before .wide .ensures)))
+    ∙ rw (le-ltb _ _ (b .before .before .before .if1 .left))
 
 pub fire-move-spec : {M : Type 1} → statement M
 fire-move-spec =
@@ -34,5 +37,6 @@ fire-move-spec =
     returns
     (λ c κs. search needs)
     head-at-requires
+    (λ c κs. search needs)
     (λ c κs. search needs)
     returns-2)

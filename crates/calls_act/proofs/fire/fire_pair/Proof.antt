@@ -3,7 +3,7 @@ use mathlib.Core.Path.{ap, _∙_}
 use borrow.Author.Tests.{lt-ltb, le-ltb}
 use Rattle.table.specs.Words.{headAt}
 use Rattle.table.specs.Fire.{meetAt, togetherAt, fitsTogether}
-use Rattle.calls_act.specs.Fired.{twoOf}
+use Rattle.calls_act.specs.Fired.{twoOf, righted}
 use Rattle.calls_act.proofs.Heads.{place-fits}
 use borrow.Author.Needs.{needs}
 use Rattle.calls_act.proofs.fire.fire_pair.Statement.{statement}
@@ -32,11 +32,14 @@ head-at-requires-2 c κs =
 returns-3 : tie.Need-returns-3
 unfolding togetherAt fitsTogether
 returns-3 c =
-    let a = c .before .before .before .before .before .before .before .before .before .args in
-    c .meet .ensures
-    ∙ ap (λ h. meetAt (a .c) (a .e) h (c .before .head-at2 .result)) (c .before .before .before .head-at .ensures ∙ ap (headAt (a .w .now)) (c .before .before .before .before .wide .ensures))
-    ∙ ap (meetAt (a .c) (a .e) (headAt (a .w .now) (a .c .place))) (c .before .head-at2 .ensures ∙ ap (headAt (a .w .now)) (c .before .before .wide2 .ensures))
-    ∙ rw (le-ltb _ _ (c .before .before .before .before .before .before .before .if1 .left), le-ltb _ _ (c .before .before .before .before .before .if2 .left))
+    let m = c .before in
+    let b = m .before in
+    let a = b .before .before .before .before .before .before .before .before .args in
+    c .rightly-two .ensures
+    ∙ ap (righted (a .w .now)) (m .meet .ensures
+    ∙ ap (λ h. meetAt (a .c) (a .e) h (b .head-at2 .result)) (b .before .before .head-at .ensures ∙ ap (headAt (a .w .now)) (b .before .before .before .wide .ensures))
+    ∙ ap (meetAt (a .c) (a .e) (headAt (a .w .now) (a .c .place))) (b .head-at2 .ensures ∙ ap (headAt (a .w .now)) (b .before .wide2 .ensures)))
+    ∙ rw (le-ltb _ _ (b .before .before .before .before .before .before .if1 .left), le-ltb _ _ (b .before .before .before .before .if2 .left))
 
 pub fire-pair-spec : {M : Type 1} → statement M
 fire-pair-spec =
@@ -50,5 +53,6 @@ fire-pair-spec =
     head-at-requires
     (λ c κs. search needs)
     head-at-requires-2
+    (λ c κs. search needs)
     (λ c κs. search needs)
     returns-3)

@@ -22,13 +22,13 @@ returns-2 : tie.Need-returns-2
 unfolding pressOf
 returns-2 c =
     let a = c .before .before .before .before .before .before .before .args in
-    rw (le-ltb _ _ (c .before .before .before .before .before .if1 .left), sym (c .before .before .presses .ensures ∙ ap (pressesIn (a .ears .now) (a .c)) (c .before .before .before .head-at .ensures ∙ ap (headAt (a .w .now)) (c .before .before .before .before .wide .ensures))) ∙ c .before .if2 .taken) (c .wide2 .ensures)
+    rw (le-ltb _ _ (c .before .before .before .before .before .if1 .left), sym (c .before .before .presses .ensures ∙ ap (pressesIn (a .w .now) (a .ears .now) (a .c)) (c .before .before .before .head-at .ensures ∙ ap (headAt (a .w .now)) (c .before .before .before .before .wide .ensures))) ∙ c .before .if2 .taken) (c .wide2 .ensures)
 
 returns-3 : tie.Need-returns-3
 unfolding pressOf
 returns-3 c =
     let a = c .before .before .before .before .before .before .args in
-    rw (le-ltb _ _ (c .before .before .before .before .if1 .left), sym (c .before .presses .ensures ∙ ap (pressesIn (a .ears .now) (a .c)) (c .before .before .head-at .ensures ∙ ap (headAt (a .w .now)) (c .before .before .before .wide .ensures))) ∙ c .if2 .left)
+    rw (le-ltb _ _ (c .before .before .before .before .if1 .left), sym (c .before .presses .ensures ∙ ap (pressesIn (a .w .now) (a .ears .now) (a .c)) (c .before .before .head-at .ensures ∙ ap (headAt (a .w .now)) (c .before .before .before .wide .ensures))) ∙ c .if2 .left)
 
 pub press-of-spec : {M : Type 1} → statement M
 press-of-spec =

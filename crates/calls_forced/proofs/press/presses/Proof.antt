@@ -13,7 +13,7 @@ returns c =
     let k = c .before .before in
     let a = k .before .before .before .args in
     c .must-act .ensures
-    ∙ ap (λ b. mustAct b (a .c) (a .h))
+    ∙ ap (λ b. mustAct (a .w .now) b (a .c) (a .h))
     (c .before .is-heard .ensures ∙ rw (k .before .before .wide .ensures, k .wide2 .ensures ∙ k .before .sent-on .ensures))
 
 pub presses-spec : {M : Type 1} → statement M

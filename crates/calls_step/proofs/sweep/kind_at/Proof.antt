@@ -17,7 +17,7 @@ returns : tie.Need-returns
 unfolding kindAt
 returns c =
     let a = c .before .before .before .before .before .args in
-    rw (sym (c .before .before .before .before .ready-at .ensures) ∙ c .before .before .before .if1 .taken) (c .kind-by .ensures ∙ ap (kindBy (a .x) (a .c)) (c .before .head-at .ensures ∙ ap (headAt (a .w .now)) (c .before .before .wide .ensures)))
+    rw (sym (c .before .before .before .before .ready-at .ensures) ∙ c .before .before .before .if1 .taken) (c .kind-by .ensures ∙ ap (kindBy (a .w .now) (a .x) (a .c)) (c .before .head-at .ensures ∙ ap (headAt (a .w .now)) (c .before .before .wide .ensures)))
 
 returns-2 : tie.Need-returns-2
 unfolding kindAt

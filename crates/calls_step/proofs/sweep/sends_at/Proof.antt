@@ -1,8 +1,7 @@
 -- `sends_at` meets its contract: who is not ready has no channel.
 use mathlib.Core.Path.{sym, ap, _∙_}
 use Rattle.table.specs.Words.{headAt}
-use Rattle.table.specs.Fire.{sentOn}
-use Rattle.calls_step.specs.Visit.{sendsAt}
+use Rattle.calls_step.specs.Visit.{sendsBy, sendsAt}
 use Rattle.calls_act.proofs.Heads.{place-fits}
 use borrow.Author.Needs.{needs}
 use Rattle.calls_step.proofs.sweep.sends_at.Statement.{statement}
@@ -18,7 +17,7 @@ returns : tie.Need-returns
 unfolding sendsAt
 returns c =
     let a = c .before .before .before .before .before .args in
-    rw (sym (c .before .before .before .before .ready-at .ensures) ∙ c .before .before .before .if1 .taken) (c .sent-on .ensures ∙ ap sentOn (c .before .head-at .ensures ∙ ap (headAt (a .w .now)) (c .before .before .wide .ensures)))
+    rw (sym (c .before .before .before .before .ready-at .ensures) ∙ c .before .before .before .if1 .taken) (c .sends-by .ensures ∙ ap (sendsBy (a .w .now) (a .c)) (c .before .head-at .ensures ∙ ap (headAt (a .w .now)) (c .before .before .wide .ensures)))
 
 returns-2 : tie.Need-returns-2
 unfolding sendsAt

@@ -25,8 +25,8 @@ returns c =
     let k = c .before .before .wide2 .ensures ∙ c .before .before .before .sent-on .ensures in
     rw (sym (h .before .before .before .ready-at .ensures) ∙ h .before .before .if1 .taken)
     (c .must-act .ensures
-    ∙ ap (λ b. mustAct b (a .c) (h .head-at .result)) (c .before .is-heard .ensures ∙ ap (λ i. eqb (getD (a .ears .now) i 0) 1) k)
-    ∙ ap (λ g. mustAct (eqb (getD (a .ears .now) (sentOn g) 0) 1) (a .c) g) e)
+    ∙ ap (λ b. mustAct (a .w .now) b (a .c) (h .head-at .result)) (c .before .is-heard .ensures ∙ ap (λ i. eqb (getD (a .ears .now) i 0) 1) k)
+    ∙ ap (λ g. mustAct (a .w .now) (eqb (getD (a .ears .now) (sentOn g) 0) 1) (a .c) g) e)
 
 returns-2 : tie.Need-returns-2
 unfolding pressedBy
