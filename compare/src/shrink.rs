@@ -13,7 +13,7 @@ use timo_reference::term::Network;
 
 use crate::differ::{differ, Difference, Place};
 use crate::reading::theirs;
-use crate::timo::Settings;
+use crate::timo::{Row, Settings};
 
 /// How many changes of one script are tried.
 const MOST_TRIALS: usize = 3_000;
@@ -67,6 +67,7 @@ pub fn shrink(engine: Engine, case: Case) -> Case {
     let mut case = with_all.unwrap_or(case);
     loop {
         let before = case.size();
+        case = more_rights(engine, case);
         case = fewer_calls(engine, case);
         case = fewer_records(engine, case);
         if case.difference.place == Place::Reading {
@@ -94,6 +95,28 @@ fn fewer_calls(engine: Engine, mut case: Case) -> Case {
             end = start.min(case.calls.len());
         }
         length /= 2;
+    }
+    case
+}
+
+/// Gives rights that are withheld and not needed for the difference: those of a
+/// location, then one by one.
+fn more_rights(engine: Engine, mut case: Case) -> Case {
+    for l in 0..case.settings.rights.len() {
+        let mut trial = |change: &dyn Fn(&mut Row)| {
+            let mut settings = case.settings;
+            change(&mut settings.rights[l]);
+            if settings != case.settings {
+                let found = Case::of(engine, settings, &case.script, &case.calls);
+                case = found.unwrap_or_else(|| case.clone());
+            }
+        };
+        trial(&|row| *row = Row::ALL);
+        for number in 0..64 {
+            trial(&|row| row.send[number] = true);
+            trial(&|row| row.receive[number] = true);
+            trial(&|row| row.leave[number] = true);
+        }
     }
     case
 }
@@ -175,7 +198,8 @@ fn one_piece_less(engine: Engine, case: &Case) -> Option<Case> {
         let as_they_stand = case.with(engine, &script, &case.calls);
         as_they_stand.or_else(|| {
             let (settings, calls) = moved(case, &script)?;
-            Case::of(engine, settings, &script, &calls)
+            let by_name = Case::of(engine, settings, &script, &calls);
+            by_name.or_else(|| case.with(engine, &script, &calls))
         })
     };
     changes.iter().take(MOST_TRIALS).find_map(again)

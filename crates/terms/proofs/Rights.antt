@@ -177,7 +177,7 @@ module _ (ls cs : List Name) (r r′ : RightsOf ℕ ℕ) (a : SameRights (length
   unfolding granted
   looked-up-same (called i l) = refl
   looked-up-same (moved v l) = leaves-same l v
-  looked-up-same (sent c v l) = ap₂ _&&_ (sends-same l c) (receives-same l c)
+  looked-up-same (sent c v l) = ap₂ (λ s t. granted (record { send = λ k h. s; receive = λ k h. t; leave = λ k m. true }) (sent c v l)) (sends-same l c) (receives-same l c)
 
   granted-same : (x : Label) → granted (byName ls cs r) x ≡ granted (byName ls cs r′) x
   unfolding byName
