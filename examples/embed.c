@@ -1,7 +1,7 @@
 /* The library from C, and as it stands from C++: document 01's network read,
  * stepped and printed as timorun prints it, then the single calls, what is
- * refused, a text under both editions, and an embargo by rights. Every function of
- * timo.h is called. */
+ * refused, a text under both editions, an embargo by rights, and two index heads of
+ * which the more urgent one is served. Every function of timo.h is called. */
 #include <stdio.h>
 #include <string.h>
 #include "timo.h"
@@ -21,6 +21,10 @@ static const char pages[] =
     "Scanner[go(0,Public,out(shelf,1,Public,stop,go(inf,Scanner,stop)))] | "
     "Vault[go(0,Public,out(shelf,1,Public,stop,stop)) | go(0,Desk,go(0,Public,out(shelf,1,Public,stop,stop)))] | "
     "Public[in(shelf,inf,x,stop,stop)] .\n";
+
+/* A page and two index heads, of which the second is about to time out. */
+static const char heads[] =
+    "Index[out(page,inf,Monday,stop,stop) | in(page,3,x,stop,stop) | in(page,0,x,stop,go(0,Missed,stop))] .\n";
 
 static uint32_t script[TIMO_WORDS], other[TIMO_WORDS];
 
@@ -231,6 +235,20 @@ static void rights(void)
     rounds(read_with(pages, settings, script).state);
 }
 
+/* The step serves the head that is about to time out. A proposal may name the
+ * other one, and then the first takes its Q. */
+static void urgent(void)
+{
+    struct timo_record records[1] = {{TIMO_COMMUNICATION, 0, 1}};
+    struct timo_state state = read_text(heads, 1, script).state, proposed = state;
+
+    printf("two heads:\n");
+    step(&state, 0);
+    put_network(&state);
+    proposed.n = timo_propose(script, &proposed.c, proposed.n, 0, records, 1).n;
+    put_network(&proposed);
+}
+
 int main(void)
 {
     struct timo_reading reading = read_text(page, 1, script);
@@ -253,6 +271,7 @@ int main(void)
     refusals(reading.state, locations);
     editions();
     rights();
+    urgent();
     length = timo_printout((const uint8_t *)page, strlen(page), printed, sizeof printed);
     printf("printout: %zu bytes, %zu where none are lent\n", length, timo_printout((const uint8_t *)page, strlen(page), NULL, 0));
     fwrite(printed, 1, length, stdout);

@@ -209,7 +209,10 @@ struct timo_acted timo_action(const uint32_t script[TIMO_WORDS], struct timo_com
 struct timo_ticked timo_tick(const uint32_t script[TIMO_WORDS], struct timo_comps *c, size_t n, uint32_t l);
 
 /* The step at location l: its actions as records (kind, p, q) in the records
- * lent, then the tick, all in the components lent. Records past the count are
+ * lent, then the tick, all in the components lent. Of the ready inputs that an
+ * output may meet when its turn comes, the one with the least timer is served,
+ * inf last, the lowest position among equals; a single action and a proposal may
+ * take any of them. Records past the count are
  * unchanged; a refusal leaves components, n and records unchanged. Refusals: 17,
  * 8, 15, 13. */
 struct timo_stepped timo_step(const uint32_t script[TIMO_WORDS], struct timo_comps *c, size_t n, uint32_t l, uint32_t (*records)[3], size_t lent);

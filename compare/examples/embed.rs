@@ -20,6 +20,10 @@ const PAGES: &[u8] = b"Scanner[go(0,Public,out(shelf,1,Public,stop,go(inf,Scanne
     go(0,Desk,go(0,Public,out(shelf,1,Public,stop,stop)))] | \
     Public[in(shelf,inf,x,stop,stop)] .\n";
 
+/// A page and two index heads, of which the second is about to time out.
+const HEADS: &[u8] = b"Index[out(page,inf,Monday,stop,stop) | in(page,3,x,stop,stop) | \
+    in(page,0,x,stop,go(0,Missed,stop))] .\n";
+
 /// The bytes that a call wrote, or its refusal.
 fn put(answer: Result<usize, u32>, bytes: &[u8]) {
     match answer {
@@ -210,6 +214,19 @@ fn rights() -> Result<(), u32> {
     rounds(Table::read(PAGES, settings)?)
 }
 
+/// The step serves the head that is about to time out. A proposal may name the
+/// other one, and then the first takes its Q.
+fn urgent() -> Result<(), u32> {
+    let mut table = Table::read(HEADS, Settings::EDITION_1)?;
+    let mut proposed = table.clone();
+    println!("two heads:");
+    step(&mut table, 0)?;
+    put_network(&table);
+    proposed.propose(0, &[Record { kind: 3, p: 0, q: 1 }])?;
+    put_network(&proposed);
+    Ok(())
+}
+
 fn main() -> Result<(), u32> {
     let read = Table::read(PAGE, Settings::EDITION_1)?;
     let mut table = read.clone();
@@ -224,6 +241,7 @@ fn main() -> Result<(), u32> {
     refusals(read, locations);
     editions()?;
     rights()?;
+    urgent()?;
     let mut printed = vec![0; PRINTOUT];
     let length = printout(PAGE, &mut printed);
     let measured = printout(PAGE, &mut []);

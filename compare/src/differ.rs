@@ -211,7 +211,11 @@ impl Session {
         let theirs = theirs.map_err(|refusal| u32::from(refusal.number()));
         equal("step", &ours, &theirs)?;
         let theirs_lent: Vec<[u32; 3]> = theirs_lent.iter().map(|r| [r.kind, r.p, r.q]).collect();
-        equal("records lent to a step", &ours_lent, &theirs_lent)?;
+        equal(
+            "records lent to a step",
+            &up_to_blanks(&ours_lent),
+            &up_to_blanks(&theirs_lent),
+        )?;
         let taken = ours_lent.iter().take(ours.unwrap_or(0));
         let taken: Vec<Record> = taken.map(|[k, p, q]| Record::new(*k, *p, *q)).collect();
         self.settle(ours.is_ok(), &before, |run| {
@@ -398,6 +402,13 @@ pub fn run_by_itself(random: &mut Random, pair: Pair) -> Agreed {
 
 fn at_call(call: &Call, what: String) -> String {
     format!("{call}: {what}")
+}
+
+/// Lent records without the blank ones at the end. Of two buffers of one length the
+/// rests are equal if these are.
+fn up_to_blanks(lent: &[[u32; 3]]) -> &[[u32; 3]] {
+    let last = lent.iter().rposition(|record| *record != BLANK);
+    &lent[..last.map_or(0, |last| last + 1)]
 }
 
 fn numbers_of(label: timo::Label) -> Numbers {

@@ -1,15 +1,18 @@
 //! A smaller script and a shorter list of calls that still show a difference, with
 //! all rights where that shows it too. Definitions, located processes and parts are
 //! taken away, and parts replaced by what stands inside them or by `stop`, for as
-//! long as a difference remains.
+//! long as a difference remains. Then the network that some of the calls leave is
+//! tried as a script of its own, with the calls that are left.
 
 use std::iter::successors;
 use std::mem;
 use std::ops::Range;
 
 use timo_reference::calls::{Engine, Record};
+use timo_reference::generate::call_list;
 use timo_reference::lists::Call;
 use timo_reference::term::Network;
+use timo_reference::writing;
 
 use crate::differ::{differ, Difference, Place};
 use crate::reading::theirs;
@@ -64,7 +67,18 @@ impl Case {
 pub fn shrink(engine: Engine, case: Case) -> Case {
     let all = Settings::all(case.settings.edition);
     let with_all = Case::of(engine, all, &case.script, &case.calls);
-    let mut case = with_all.unwrap_or(case);
+    let mut case = shrunken(engine, with_all.unwrap_or(case));
+    while let Some(later) = later_start(engine, &case) {
+        let later = shrunken(engine, later);
+        if later.size() >= case.size() {
+            break;
+        }
+        case = later;
+    }
+    case
+}
+
+fn shrunken(engine: Engine, mut case: Case) -> Case {
     loop {
         let before = case.size();
         case = more_rights(engine, case);
@@ -77,6 +91,50 @@ pub fn shrink(engine: Engine, case: Case) -> Case {
         if case.size() == before {
             return case;
         }
+    }
+}
+
+/// The case that begins with the network before one of its calls, as it is written;
+/// as late as one without marks shows the difference.
+fn later_start(engine: Engine, case: &Case) -> Option<Case> {
+    let settings = theirs(&case.settings);
+    let read = |script: &[u8]| Engine::default().read(script, &settings).ok();
+    let old = read(&case.script)?;
+    let mut networks = vec![old.clone()];
+    for call in &case.calls {
+        let network = &networks[networks.len() - 1];
+        let next = call_list::next(network, call).unwrap_or_else(|| network.clone());
+        networks.push(next);
+    }
+    let begins_at = |first: usize| {
+        let network = &networks[first];
+        if network.components.iter().any(|c| c.mark.is_some()) {
+            return None;
+        }
+        let script = writing::network(network).into_bytes();
+        let new = read(&script)?;
+        let location = |l: u32| renumbered(&old, &new, l);
+        let calls = case.calls[first..].iter();
+        let calls: Vec<Call> = calls.map(|call| relocated(call, location)).collect();
+        let settings = rights_moved(&case.settings, &old, &new);
+        Case::of(engine, settings, &script, &calls)
+    };
+    (1..case.calls.len()).rev().find_map(begins_at)
+}
+
+/// A call with its location under another number.
+fn relocated(call: &Call, number: impl Fn(u32) -> u32) -> Call {
+    match call.clone() {
+        Call::Tick(l) => Call::Tick(number(l)),
+        Call::Step { location, room } => Call::Step {
+            location: number(location),
+            room,
+        },
+        Call::Proposal { location, records } => Call::Proposal {
+            location: number(location),
+            records,
+        },
+        other => other,
     }
 }
 
@@ -333,21 +391,13 @@ fn moved(case: &Case, script: &[u8]) -> Option<(Settings, Vec<Call>)> {
     };
     let record = |r: &Record| Record::new(r.kind, position(r.p), position(r.q));
     let location = |l: u32| renumbered(&old, &new, l);
-    let call = |call: &Call| match call {
-        Call::Action(r) => Call::Action(record(r)),
-        Call::Tick(l) => Call::Tick(location(*l)),
-        Call::Step { location: l, room } => Call::Step {
-            location: location(*l),
-            room: *room,
-        },
-        Call::Proposal {
-            location: l,
-            records,
-        } => Call::Proposal {
-            location: location(*l),
+    let call = |call: &Call| match relocated(call, location) {
+        Call::Action(r) => Call::Action(record(&r)),
+        Call::Proposal { location, records } => Call::Proposal {
+            location,
             records: records.iter().map(record).collect(),
         },
-        other => other.clone(),
+        other => other,
     };
     let calls = case.calls.iter().map(call).collect();
     Some((rights_moved(&case.settings, &old, &new), calls))

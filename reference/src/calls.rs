@@ -1,6 +1,6 @@
 //! The outward calls (document 01, *Actions*, *The tick at l*, *The other
-//! calls*), each with its questions in the order of *Questions, asked
-//! downward*.
+//! calls*; document 02, R-3), each with its questions in the order of *Questions,
+//! asked downward*.
 //!
 //! A network goes in as a shared reference and a new one comes out, so that a
 //! refusal leaves it as it was. Lent buffers are written only after the last
@@ -9,7 +9,7 @@
 use crate::reading::{self, Limits, MOST_COMPONENTS};
 use crate::refusal::{ask, Refusal};
 use crate::rules::{hears_on, sends_on, Action, Label, Rules, Vanish, Variant};
-use crate::term::{Component, Definition, Edition, Network, Part, Script, Settings};
+use crate::term::{Component, Definition, Edition, Network, Part, Script, Settings, Timer};
 use crate::writing;
 
 /// An action as callers hand it in, of any content.
@@ -119,7 +119,7 @@ impl Engine {
     }
 
     /// Questions 8, 15, 13. Question 12 cannot come up: one pass upward leaves
-    /// nothing that is forced.
+    /// nothing that is forced, whichever input each output meets.
     pub fn step(
         self,
         network: &Network,
@@ -131,7 +131,7 @@ impl Engine {
         let mut records = Vec::new();
         let mut labels = Vec::new();
         for position in 0..components.len() {
-            if let Some(action) = self.choice(&network.script, &components, position, location) {
+            if let Some(action) = self.choice(network, &components, position, location) {
                 labels.push(self.take(network, &mut components, action)?);
                 records.push(Record::of(action));
             }
@@ -258,14 +258,15 @@ impl Engine {
     }
 
     /// What a step fires when its pass comes to `position`: an action that has
-    /// its right.
+    /// its right. The network is the one that the pass began with.
     fn choice(
         self,
-        script: &Script,
+        network: &Network,
         components: &[Component],
         position: usize,
         location: &str,
     ) -> Option<Action> {
+        let script = &network.script;
         let part = components[position].ready_at(location)?;
         if !self.rules.lets_fire(script, location, part) {
             return None;
@@ -276,23 +277,69 @@ impl Engine {
                 Some(Action::Move(position))
             }
             Part::Out { channel, .. } => {
-                let partner = self.partner(components, location, channel)?;
+                let partner = self.partner(&network.components, components, location, channel)?;
                 Some(Action::Communication(position, partner))
             }
             _ => None,
         }
     }
 
-    /// The lowest ready input on a channel.
-    fn partner(self, components: &[Component], location: &str, channel: &str) -> Option<usize> {
-        let hears = |component: &Component| match component.ready_at(location) {
-            Some(Part::In { channel: heard, .. }) => heard == channel,
-            _ => false,
+    /// Document 02, R-3: of the inputs ready at the location on the channel the one
+    /// with the least timer, and among equal timers the one that stands lowest.
+    /// `first` are the components that the pass began with, which only a wrong
+    /// variant asks.
+    fn partner(
+        self,
+        first: &[Component],
+        now: &[Component],
+        location: &str,
+        channel: &str,
+    ) -> Option<usize> {
+        let asked = match self.rules.variant {
+            Variant::FiresReadyAtFirst => first,
+            _ => now,
         };
-        if self.is(Variant::FiresHighestInput) {
-            return components.iter().rposition(hears);
+        let any_channel = self.is(Variant::FiresLeastOfAnyChannel);
+        let input = |component: &Component| match component.ready_at(location)? {
+            Part::In {
+                channel: heard,
+                timer,
+                ..
+            } if heard == channel || any_channel => Some(*timer),
+            _ => None,
+        };
+        let inputs = asked.iter().enumerate();
+        let inputs = inputs.filter_map(|(position, c)| Some((position, input(c)?)));
+        let (partner, _) = inputs.reduce(|lower, next| {
+            if self.goes_before(next.1, lower.1) {
+                next
+            } else {
+                lower
+            }
+        })?;
+        let hears = now[partner].ready_at(location).and_then(hears_on);
+        (hears == Some(channel)).then_some(partner)
+    }
+
+    /// Whether an input with a timer is chosen before one that stands lower.
+    fn goes_before(self, timer: Timer, of_lower: Timer) -> bool {
+        match self.rules.variant {
+            Variant::FiresHighestOfEquals => !is_less(of_lower, timer),
+            Variant::FiresLowestInput => false,
+            Variant::FiresInfFirst if timer == Timer::Inf => of_lower != Timer::Inf,
+            Variant::FiresInfFirst if of_lower == Timer::Inf => false,
+            Variant::FiresGreatestTimer => is_less(of_lower, timer),
+            _ => is_less(timer, of_lower),
         }
-        components.iter().position(hears)
+    }
+}
+
+/// Numbers by their size; `inf` is greater than every number.
+fn is_less(one: Timer, other: Timer) -> bool {
+    match (one, other) {
+        (Timer::Ticks(one), Timer::Ticks(other)) => one < other,
+        (Timer::Ticks(_), Timer::Inf) => true,
+        (Timer::Inf, _) => false,
     }
 }
 

@@ -1,5 +1,5 @@
 //! A reference engine for TiMo, written from document 01, from Tables 1 and 2 of
-//! source document 001 and from document 02's.
+//! source document 001 and from document 02's.
 //!
 //! Terms carry their names as strings and own their sub-terms; values are put
 //! in by substitution; an action builds new terms. The calls know no table, no

@@ -35,8 +35,20 @@ pub enum Variant {
     SplitsEarly,
     /// Marks a moved component with its target.
     MarksMoveWithTarget,
-    /// Lets a step choose the highest ready input.
-    FiresHighestInput,
+    /// Lets a step choose the highest of the inputs with the least timer.
+    FiresHighestOfEquals,
+    /// Lets a step choose the lowest ready input, whatever its timer.
+    FiresLowestInput,
+    /// Lets a step choose an input with `inf` before those with a number.
+    FiresInfFirst,
+    /// Lets a step choose the input with the greatest timer, `inf` above all.
+    FiresGreatestTimer,
+    /// Lets a step look for the least timer on all channels; an output meets that
+    /// input or none.
+    FiresLeastOfAnyChannel,
+    /// Lets a step choose among the inputs that were ready when its pass began; one
+    /// that has met an output is chosen again, and nothing fires.
+    FiresReadyAtFirst,
     /// Leaves a Q of several parts in one component.
     ForgetsSplitOfQ,
     /// Lowers the timers of a Q in the tick that gives it.
@@ -93,14 +105,19 @@ pub enum Variant {
 
 impl Variant {
     /// Every variant with a mistake that the answers to a list can show.
-    pub const WRONG: [Variant; 29] = [
+    pub const WRONG: [Variant; 34] = [
         Variant::TimesOutPairAtZero,
         Variant::ClearsAllMarks,
         Variant::TicksMarkedByOthers,
         Variant::SubstitutesUnderBinder,
         Variant::SplitsEarly,
         Variant::MarksMoveWithTarget,
-        Variant::FiresHighestInput,
+        Variant::FiresHighestOfEquals,
+        Variant::FiresLowestInput,
+        Variant::FiresInfFirst,
+        Variant::FiresGreatestTimer,
+        Variant::FiresLeastOfAnyChannel,
+        Variant::FiresReadyAtFirst,
         Variant::ForgetsSplitOfQ,
         Variant::LowersFreshQ,
         Variant::ForcesGoAtOne,

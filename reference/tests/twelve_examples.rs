@@ -76,7 +76,7 @@ fn example_9_the_inner_binder_stops_the_value_but_not_in_its_q() {
 }
 
 #[test]
-fn example_10_a_step_fires_with_the_lowest_input() {
+fn example_10_a_step_goes_through_the_outputs_upward() {
     let text = "A[out(c,1,B,stop,stop) | out(c,1,A,stop,stop) | in(c,1,x,go(0,x,stop),stop)] .";
     let expected = "A[stop] | A[out(c,0,A,stop,stop)] | A[go(0,B,stop)] .\n";
     assert_eq!(written(&stepped(&read(text), 0)), expected);

@@ -1,14 +1,14 @@
 //! `bench [SCRIPT..]`: steps, writing, reading and `same` by the proved engine's
 //! library and by the reference engine, side by side in one run, on built-in
 //! workloads that grow and on the scripts named, under edition 1 and with all
-//! rights. Nothing is tested here.
+//! rights. Timers are equal but where they fall. Nothing is tested here.
 //!
 //! `bench --step SCRIPT`: only the time of a step of the proved engine, in µs.
 
 use std::env;
 use std::fs;
 
-use compare::load::{facing, grid, micros, nested, Ratio};
+use compare::load::{facing, grid, micros, nested, Load, Ratio, Timers};
 use compare::reading::theirs;
 use compare::timo::{read_into, words_of, Settings, State, Table};
 use timo_reference::calls::{Engine, Record};
@@ -44,6 +44,12 @@ fn main() {
         line(
             &format!("{pairs} pairs that do not"),
             &facing(pairs, "c", "d", 0),
+        );
+    }
+    for load in Load::ALL {
+        line(
+            &format!("{}, falling", load.row(128)),
+            &load.script(128, Timers::Falling, 0),
         );
     }
     for depth in [1, 2, 4, 8, 16] {

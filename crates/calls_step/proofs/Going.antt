@@ -11,10 +11,10 @@ use lib.ListN.{length, getD, set, take, drop, length-set, length-map, length-tak
 use lib.Seq.{sets, length-sets, getD-set-same, getD-set-other, take-suc-set, take-set-le, drop-set-lt, drop-drop}
 use borrow.Author.Tests.{eqb-true, eqb-false, ltb-true, ltb-false}
 use Rattle.terms.specs.Same.{every}
-use Rattle.terms.specs.Rules.{Answer, Action, _>>=_, at, seek}
+use Rattle.terms.specs.Rules.{Answer, Action, at}
 use Rattle.terms.specs.Rules as R
 use Rattle.terms.specs.Rules.Answer.{refused, accepted}
-use Rattle.terms.proofs.Answers.{clash, took}
+use Rattle.terms.proofs.Answers.{took}
 use Rattle.table.specs.declared.Comp.{Comp}
 use Rattle.table.specs.declared.State.{State}
 use Rattle.table.specs.declared.Head.{Head}
@@ -24,7 +24,7 @@ use Rattle.table.specs.Meaning.{compIn, wordsIn, PastKept, compsOf}
 use Rattle.table.specs.Valid.{scriptOk, compOk}
 use Rattle.table.specs.Fire.{ActedAt, actOn, readyAt, sentOn, mayLeave, mayMeet, valueIn, rightIn, wouldAct, mustAct}
 use Rattle.table.proofs.Tests.{comp-fine}
-use Rattle.terms.proofs.Lists.{every-at}
+use Rattle.terms.proofs.Lists.{every-at, at-within}
 use Rattle.table.proofs.Fires.{map-append}
 use Rattle.table.proofs.Kept.{okA, inActed, act-kept}
 use Rattle.calls_steady.specs.Steady.{staysOne}
@@ -33,9 +33,11 @@ use Rattle.calls_act.proofs.Positions.{at-in-use}
 use Rattle.table.proofs.InUse.{comps-length}
 use Rattle.table.proofs.Stores.{comps-put, past-put, past-none, past-then}
 use Rattle.calls_step.specs.declared.Visit.{Visit}
-use Rattle.calls_step.specs.Sweep.{tookAt, takenAt, visitAt, followedAt, choiceAt, sweepAt, hearers, Chain, Queued, recOf}
+use Rattle.calls_step.specs.Sweep.{tookAt, takenAt, visitAt, followedAt, choiceAt, sweepAt, recOf}
+use Rattle.calls_wait.specs.Waits.{hearers, Chain, Queued}
+use Rattle.calls_wait.proofs.Waiting.{foremost-of}
 use Rattle.calls_step.specs.Visit.{sendsBy, sendsAt, kindAt, kindBy, Performed, otherOf, poppedOf, recBy, kindOf}
-use Rattle.calls_step.proofs.Queues.{seek-first, sends-fits}
+use Rattle.calls_step.proofs.Queues.{sends-fits}
 use Rattle.calls_step.proofs.Sweeping.{recsOf, Turned, turned-none, turned-some}
 
 pub record Going (w : List ℕ) (l : ℕ) (st now : State) (heads nexts : List ℕ) (before acts : List (List ℕ)) (count p : ℕ) : Type 0 where
@@ -48,7 +50,7 @@ pub record Going (w : List ℕ) (l : ℕ) (st now : State) (heads nexts : List �
   pub room : length acts ≡ length before
   pub rest : drop count acts ≡ drop count before
   pub fine : every (compOk w) (compsOf now) ≡ true
-  pub queue : Queued w l 0 (compsOf now) heads nexts
+  pub queue : Queued w l (compsOf now) heads nexts
   pub actions : take count acts ++ map recOf (sweepAt w l p (st .n - p) (compsOf now) .actions) ≡ map recOf (sweepAt w l 0 (st .n) (compsOf st) .actions)
   pub comps : sweepAt w l p (st .n - p) (compsOf now) .comps ≡ sweepAt w l 0 (st .n) (compsOf st) .comps
 
@@ -74,16 +76,6 @@ pub sweep-steady : (w : List ℕ) → scriptOk w ≡ true → (l n p : ℕ) (cs 
 unfolding sweepAt
 sweep-steady w g l zero p cs o e = e
 sweep-steady w g l (suc n) p cs o e = sweep-steady w g l n (suc p) _ (visit-fine w g l p (at cs p) cs o) (visit-keeps w (staysOne w l) l p (at cs p) cs e (act-steady w l g cs o e))
-
-seek-below : {A : Type 0} (f : A → Bool) (xs : List A) (i : ℕ) → seek f xs ≡ accepted i → i < length xs
-unfolding seek
-seek-below f [] i e = clash e
-seek-below f (x ∷ xs) i e = go (f x) (seek f xs) refl e (seek-below f xs)
-  where
-    go : (b : Bool) (s : Answer ℕ) → seek f xs ≡ s → cond b (accepted 0) (s >>= λ p. accepted (suc p)) ≡ accepted i → ((j : ℕ) → seek f xs ≡ accepted j → j < length xs) → i < suc (length xs)
-    go true s q e k = let z : _≡_ {A = ℕ} 0 i = took e in omega arith
-    go false (refused n) q e k = clash e
-    go false (accepted j) q e k = let z : _≡_ {A = ℕ} (suc j) i = took e in omega (arith, k j q)
 
 -- what stands at a position put there
 set-here : (cs : List Comp) (p : ℕ) (x : Comp) → at cs p ≡ accepted x → R.set cs p x ≡ cs
@@ -160,6 +152,9 @@ module _ (w : List ℕ) (good : scriptOk w ≡ true) (l : ℕ) (st now : State) 
   pub good-at : (q : ℕ) → q < st .n → compOk w (compIn (now .c) q) ≡ true
   good-at q b = every-at (compOk w) (compsOf now) q _ (i .fine) (at-here q b)
 
+  all-few : length (compsOf now) ≤ 256
+  all-few = omega (arith, comps-length now, i .same)
+
   pub channel-fits : sendsAt w l (compIn (now .c) p) ≤ 64
   channel-fits = sends-fits w l (compIn (now .c) p) good (good-at p h)
 
@@ -173,9 +168,9 @@ module _ (w : List ℕ) (good : scriptOk w ≡ true) (l : ℕ) (st now : State) 
       by : (b : Bool) → ltb (sendsAt w l (compIn (now .c) p)) 64 ≡ b → q < st .n
       by false b = absurd (omega (arith, ltb-false (sendsAt w l (compIn (now .c) p)) 64 b, channel-fits, e, no-channel (omega (arith, ltb-false (sendsAt w l (compIn (now .c) p)) 64 b, channel-fits))))
       by true b =
-          let k = chain-some nexts q _ (subst (λ z. Chain nexts z (hearers w l (sendsAt w l (compIn (now .c) p)) 0 (compsOf now))) e (i .queue .chain _ (ltb-true _ 64 b))) in
-          let f = seek-first w l (sendsAt w l (compIn (now .c) p)) 0 (compsOf now) q (k .0) (k .1) in
-          omega (arith, f .2, seek-below _ (compsOf now) (f .0) (f .1), comps-length now, i .same)
+          let k = chain-some nexts q _ (subst (λ z. Chain nexts z (hearers w l (sendsAt w l (compIn (now .c) p)) (compsOf now))) e (i .queue .chain _ (ltb-true _ 64 b))) in
+          let f = foremost-of w l (sendsAt w l (compIn (now .c) p)) (compsOf now) all-few q (k .0) (k .1) in
+          omega (arith, at-within (compsOf now) q (f .comp) (f .here), comps-length now, i .same)
 
   pub other-fits : otherOf p (getD heads (sendsAt w l (compIn (now .c) p)) 0) < st .n
   other-fits = other-below _ refl
@@ -183,14 +178,14 @@ module _ (w : List ℕ) (good : scriptOk w ≡ true) (l : ℕ) (st now : State) 
   module _ (v : Visit) (f : Performed w (kindAt w l (compIn (now .c) p) (getD heads (sendsAt w l (compIn (now .c) p)) 0)) (compIn (now .c) p) (compIn (now .c) (otherOf p (getD heads (sendsAt w l (compIn (now .c) p)) 0))) v) where
     turned : (y : ℕ) → getD heads (sendsAt w l (compIn (now .c) p)) 0 ≡ y → Performed w (kindAt w l (compIn (now .c) p) y) (compIn (now .c) p) (compIn (now .c) (otherOf p y)) v
         → Turned w l p (otherOf p y) (kindAt w l (compIn (now .c) p) y) y (compsOf now) (compIn (now .c) p) v
-    turned zero e g = turned-none w good l p (compsOf now) c v (at-here p h) (comp-fine w c (good-at p h)) (λ b. chain-none nexts x _ (i .queue .chain s b) e) g
+    turned zero e g = turned-none w good l p (compsOf now) c v all-few (at-here p h) (comp-fine w c (good-at p h)) (λ b. chain-none nexts x _ (i .queue .chain s b) e) g
     turned (suc q) e g = by (ltb s 64) refl
       where
         by : (b : Bool) → ltb (sendsAt w l (compIn (now .c) p)) 64 ≡ b → Turned w l p q (kindAt w l (compIn (now .c) p) (suc q)) (suc q) (compsOf now) (compIn (now .c) p) v
         by false b = absurd (omega (arith, ltb-false (sendsAt w l (compIn (now .c) p)) 64 b, channel-fits, e, no-channel (omega (arith, ltb-false (sendsAt w l (compIn (now .c) p)) 64 b, channel-fits))))
         by true b =
-            let k = chain-some nexts q _ (subst (λ z. Chain nexts z (hearers w l s 0 (compsOf now))) e (i .queue .chain s (ltb-true _ 64 b))) in
-            turned-some w good l p q (compsOf now) c (compIn (now .c) q) v (at-here p h) (at-here q (other-below (suc q) e)) (comp-fine w c (good-at p h)) (λ z. sym e ∙ no-channel z) (k .0) (k .1) g
+            let k = chain-some nexts q _ (subst (λ z. Chain nexts z (hearers w l s (compsOf now))) e (i .queue .chain s (ltb-true _ 64 b))) in
+            turned-some w good l p q (compsOf now) c (compIn (now .c) q) v all-few (at-here p h) (at-here q (other-below (suc q) e)) (comp-fine w c (good-at p h)) (λ z. sym e ∙ no-channel z) (k .0) (k .1) g
 
     t : Turned w l p (otherOf p (getD heads (sendsAt w l (compIn (now .c) p)) 0)) (kindAt w l (compIn (now .c) p) (getD heads (sendsAt w l (compIn (now .c) p)) 0)) (getD heads (sendsAt w l (compIn (now .c) p)) 0) (compsOf now) (compIn (now .c) p) v
     t = turned _ refl f
@@ -221,9 +216,9 @@ module _ (w : List ℕ) (good : scriptOk w ≡ true) (l : ℕ) (st now : State) 
         by false b = getD-set-other heads s g 0 0 (eqb-false g s b)
 
     queue-next : (y : ℕ) → getD heads s 0 ≡ y → Turned w l p (otherOf p y) (kindAt w l c y) y (compsOf now) c v → compsOf next ≡ R.set (R.set (compsOf now) p (v .x)) (otherOf p y) (v .y)
-        → Queued w l 0 (compsOf next) (set heads s (poppedOf y (getD nexts (otherOf p y) 0))) nexts
+        → Queued w l (compsOf next) (set heads s (poppedOf y (getD nexts (otherOf p y) 0))) nexts
     queue-next zero e u z = record {
-      chain = λ g b. subst (λ xs. Chain nexts (getD (set heads s 0) g 0) xs) (sym (ap (hearers w l g 0) z ∙ u .still refl g)) (subst (λ m. Chain nexts m (hearers w l g 0 (compsOf now))) (sym (heads-same 0 e refl g)) (i .queue .chain g b));
+      chain = λ g b. subst (λ xs. Chain nexts (getD (set heads s 0) g 0) xs) (sym (ap (hearers w l g) z ∙ u .still refl g)) (subst (λ m. Chain nexts m (hearers w l g (compsOf now))) (sym (heads-same 0 e refl g)) (i .queue .chain g b));
       none = heads-same 0 e refl 64 ∙ i .queue .none;
       size = length-set heads s 0 ∙ i .queue .size;
       room = i .queue .room;
@@ -238,13 +233,13 @@ module _ (w : List ℕ) (good : scriptOk w ≡ true) (l : ℕ) (st now : State) 
         some : _≡_ {A = ℕ} (suc r) 0 → ⊥
         some m = omega arith
 
-        link : (g : ℕ) → g < 64 → (b : Bool) → eqb g (sendsAt w l (compIn (now .c) p)) ≡ b → Chain nexts (getD (set heads (sendsAt w l (compIn (now .c) p)) (getD nexts r 0)) g 0) (hearers w l g 0 (compsOf next))
-        link g b false m = subst (λ xs. Chain nexts (getD (set heads s (getD nexts r 0)) g 0) xs) (sym (ap (hearers w l g 0) z ∙ u .others some g m)) (subst (λ y. Chain nexts y (hearers w l g 0 (compsOf now))) (sym (getD-set-other heads s g (getD nexts r 0) 0 (eqb-false g s m))) (i .queue .chain g b))
+        link : (g : ℕ) → g < 64 → (b : Bool) → eqb g (sendsAt w l (compIn (now .c) p)) ≡ b → Chain nexts (getD (set heads (sendsAt w l (compIn (now .c) p)) (getD nexts r 0)) g 0) (hearers w l g (compsOf next))
+        link g b false m = subst (λ xs. Chain nexts (getD (set heads s (getD nexts r 0)) g 0) xs) (sym (ap (hearers w l g) z ∙ u .others some g m)) (subst (λ y. Chain nexts y (hearers w l g (compsOf now))) (sym (getD-set-other heads s g (getD nexts r 0) 0 (eqb-false g s m))) (i .queue .chain g b))
         link g b true m =
             let o = eqb-true g s m in
-            let d = chain-some nexts r _ (subst (λ y. Chain nexts y (hearers w l s 0 (compsOf now))) e (i .queue .chain s (omega (arith, o, b)))) in
-            subst (λ y. Chain nexts (getD (set heads s (getD nexts r 0)) y 0) (hearers w l y 0 (compsOf next))) (sym o)
-            (subst (λ xs. Chain nexts (getD (set heads s (getD nexts r 0)) s 0) xs) (sym (ap (hearers w l s 0) z ∙ u .first some (d .0) (d .1)))
+            let d = chain-some nexts r _ (subst (λ y. Chain nexts y (hearers w l s (compsOf now))) e (i .queue .chain s (omega (arith, o, b)))) in
+            subst (λ y. Chain nexts (getD (set heads s (getD nexts r 0)) y 0) (hearers w l y (compsOf next))) (sym o)
+            (subst (λ xs. Chain nexts (getD (set heads s (getD nexts r 0)) s 0) xs) (sym (ap (hearers w l s) z ∙ u .first some (d .0) (d .1)))
             (subst (λ y. Chain nexts y (d .0)) (sym (getD-set-same heads s (getD nexts r 0) 0 (omega (arith, i .queue .size, channel-fits)))) (d .2)))
 
     -- the sweep over the positions left
@@ -332,7 +327,7 @@ module _ (w : List ℕ) (good : scriptOk w ≡ true) (l : ℕ) (st now : State) 
           comps = subst (λ cs. sweepAt w l (p + 1) (st .n - (p + 1)) cs .comps ≡ sweepAt w l 0 (st .n) (compsOf st) .comps) z (turn-comps stays (performed _ idle));
         }
 
-pub going-begin : (w : List ℕ) (l : ℕ) (st : State) (heads nexts : List ℕ) (acts : List (List ℕ)) → length (st .c) ≡ stateWords → st .n ≤ length acts → every (compOk w) (compsOf st) ≡ true → Queued w l 0 (compsOf st) heads nexts → Going w l st st heads nexts acts acts 0 0
+pub going-begin : (w : List ℕ) (l : ℕ) (st : State) (heads nexts : List ℕ) (acts : List (List ℕ)) → length (st .c) ≡ stateWords → st .n ≤ length acts → every (compOk w) (compsOf st) ≡ true → Queued w l (compsOf st) heads nexts → Going w l st st heads nexts acts acts 0 0
 going-begin w l st heads nexts acts e r f q =
     let z : st .n - 0 ≡ st .n = omega arith in
     record { few-p = omega arith; few-count = omega arith; size = e; same = refl; past = past-none (st .n) (st .c); enough = r; room = refl; rest = refl; fine = f; queue = q; actions = ap (λ n. map recOf (sweepAt w l 0 n (compsOf st) .actions)) z; comps = ap (λ n. sweepAt w l 0 n (compsOf st) .comps) z }

@@ -1,14 +1,14 @@
 -- One position of the sweep in code is one position of the sweep on the table, and the chains stay those of who still waits.
 -- By cases on the head of the component there: none, a call, a move, or a communication with the first of the chain.
-use Prim.Native.Nat.{ℕ, zero, suc, _-_, _<_}
+use Prim.Native.Nat.{ℕ, zero, suc, _<_, _≤_}
 use native.Mathlib.Omega.{arith}
 use mathlib.Core.List.{List, [], _∷_, map}
 use mathlib.Core.Bool.{Bool, true, false, cond, _&&_, not, false≢true}
 use mathlib.Core.Path.{_≡_, refl, sym, ap, subst, _∙_}
 use lib.Dec.{eqb, ltb}
-use lib.ListN.{set}
-use borrow.Author.Tests.{ltb-true, ltb-false, lt-ltb, eqb-true, eq-eqb, ne-eqb}
-use Rattle.terms.specs.Rules.{Answer, Kind, _>>=_, at, setAll, positions, seek}
+use lib.ListN.{length, set}
+use borrow.Author.Tests.{ltb-true, ltb-false, lt-ltb, eqb-true, eq-eqb}
+use Rattle.terms.specs.Rules.{Kind, _>>=_, at, setAll, positions}
 use Rattle.terms.specs.Rules as R
 use Rattle.terms.specs.Rules.Answer.{refused, accepted}
 use Rattle.terms.specs.Rules.Kind.{calls, moves}
@@ -28,9 +28,10 @@ use Rattle.calls_act.specs.declared.Fired.{Fired}
 use Rattle.calls_act.specs.declared.Met.{Met}
 use Rattle.calls_act.specs.Fired.{tagOf, oneOf, twoOf}
 use Rattle.calls_step.specs.declared.Visit.{Visit}
-use Rattle.calls_step.specs.Sweep.{chosenBy, choiceAt, visitAt, hearers, recOf}
+use Rattle.calls_step.specs.Sweep.{chosenBy, choiceAt, visitAt, recOf}
 use Rattle.calls_step.specs.Visit.{sendsBy, sendsAt, kindBy, kindAt, Performed, recBy, kindOf}
-use Rattle.calls_step.proofs.Queues.{seek-first, seek-nobody, hearers-other, hearers-first}
+use Rattle.calls_wait.specs.Waits.{waits, hearers}
+use Rattle.calls_wait.proofs.Waiting.{foremost-of, first-partner, first-gone, nobody-waits, hearers-other}
 
 -- ── lists ──
 pub put-same : {A : Type 0} (xs : List A) (p : ℕ) (x : A) → at xs p ≡ accepted x → R.set xs p x ≡ xs
@@ -53,18 +54,11 @@ at-put-other (x ∷ xs) zero (suc q) z y e n = e
 at-put-other (x ∷ xs) (suc p) zero z y e n = e
 at-put-other (x ∷ xs) (suc p) (suc q) z y e n = at-put-other xs p q z y e (λ h. n (ap suc h))
 
-seek-at : {A : Type 0} (f : A → Bool) (xs : List A) (p : ℕ) (x : A) → seek f xs ≡ accepted p → at xs p ≡ accepted x → f x ≡ true
-unfolding seek at
-seek-at f [] p x e h = clash e
-seek-at {A} f (y ∷ xs) p x e h = go (f y) refl (seek f xs) refl p e h (seek-at f xs)
-  where
-    go : (b : Bool) → f y ≡ b → (s : Answer ℕ) → seek f xs ≡ s → (p : ℕ) → cond b (accepted 0) (s >>= λ p. accepted (suc p)) ≡ accepted p → at (y ∷ xs) p ≡ accepted x
-        → ((m : ℕ) (x : A) → seek f xs ≡ accepted m → at xs m ≡ accepted x → f x ≡ true) → f x ≡ true
-    go true q s t zero e h k = rw (← took h) q
-    go true q s t (suc p) e h k = let z : _≡_ {A = ℕ} 0 (suc p) = took e in absurd (omega arith)
-    go false q (refused n) t p e h k = clash e
-    go false q (accepted m) t zero e h k = let z : _≡_ {A = ℕ} (suc m) 0 = took e in absurd (omega arith)
-    go false q (accepted m) t (suc p) e h k = let z : _≡_ {A = ℕ} (suc m) (suc p) = took e in let y : m ≡ p = omega arith in k p x (t ∙ ap accepted y) h
+length-put : {A : Type 0} (xs : List A) (p : ℕ) (y : A) → length (R.set xs p y) ≡ length xs
+unfolding R.set
+length-put [] p y = refl
+length-put (x ∷ xs) zero y = refl
+length-put (x ∷ xs) (suc p) y = ap suc (length-put xs p y)
 
 -- ── what an action leaves is marked ──
 left-unready : (w : List ℕ) (l k m i : ℕ) (vs : List ℕ) → scriptOk w ≡ true → k < locsIn w → readyAt l (leftAt k m i vs) ≡ false
@@ -105,16 +99,16 @@ recsOf (suc k) p q = recBy (suc k) p q ∷ []
 pub record Turned (w : List ℕ) (l p q k x : ℕ) (cs : List Comp) (c : Comp) (v : Visit) : Type 0 where
   pub actions : map recOf (visitAt w l p (at cs p) cs .actions) ≡ recsOf k p q
   pub comps : visitAt w l p (at cs p) cs .comps ≡ R.set (R.set cs p (v .x)) q (v .y)
-  pub still : x ≡ 0 → (h : ℕ) → hearers w l h 0 (R.set (R.set cs p (v .x)) q (v .y)) ≡ hearers w l h 0 cs
-  pub others : (x ≡ 0 → ⊥) → (h : ℕ) → eqb h (sendsAt w l c) ≡ false → hearers w l h 0 (R.set (R.set cs p (v .x)) q (v .y)) ≡ hearers w l h 0 cs
-  pub first : (x ≡ 0 → ⊥) → (qs : List ℕ) → hearers w l (sendsAt w l c) 0 cs ≡ q ∷ qs → hearers w l (sendsAt w l c) 0 (R.set (R.set cs p (v .x)) q (v .y)) ≡ qs
+  pub still : x ≡ 0 → (h : ℕ) → hearers w l h (R.set (R.set cs p (v .x)) q (v .y)) ≡ hearers w l h cs
+  pub others : (x ≡ 0 → ⊥) → (h : ℕ) → eqb h (sendsAt w l c) ≡ false → hearers w l h (R.set (R.set cs p (v .x)) q (v .y)) ≡ hearers w l h cs
+  pub first : (x ≡ 0 → ⊥) → (qs : List ℕ) → hearers w l (sendsAt w l c) cs ≡ q ∷ qs → hearers w l (sendsAt w l c) (R.set (R.set cs p (v .x)) q (v .y)) ≡ qs
 
 -- nothing fires
 rests : (w : List ℕ) (l p : ℕ) (cs : List Comp) (c : Comp) (v : Visit) (n : ℕ) → at cs p ≡ accepted c → choiceAt w l p c cs ≡ refused n → v .x ≡ c → v .y ≡ c → Turned w l p p 0 0 cs c v
 rests w l p cs c v n e a x y = record {
   actions = rw (e, a);
   comps = rw (e, a) (sym same);
-  still = λ z h. ap (hearers w l h 0) same;
+  still = λ z h. ap (hearers w l h) same;
   others = λ z. absurd (z refl);
   first = λ z. absurd (z refl);
 }
@@ -128,7 +122,7 @@ unfolding actOn leftBy
 lacks w l p cs c v n e a b x y = record {
   actions = rw (e, a, e, b);
   comps = rw (e, a, e, b) (sym same);
-  still = λ z h. ap (hearers w l h 0) same;
+  still = λ z h. ap (hearers w l h) same;
   others = λ z. absurd (z refl);
   first = λ z. absurd (z refl);
 }
@@ -167,7 +161,7 @@ unfolding actOn leftBy positions setAll
 fires-one w l p k cs c v f g e a b o u n x y = record {
   actions = rw (e, a, e, b) (rec-one k p);
   comps = rw (e, a, e, b, after) (sym once);
-  still = λ z h. ap (hearers w l h 0) once ∙ hearers-other w l h 0 cs p c (f .comp) e (rw (n h) (and-none (readyAt l c))) (subst (unready l) after u .0);
+  still = λ z h. ap (hearers w l h) once ∙ hearers-other w l h cs p c (f .comp) e (rw (n h) (and-none (readyAt l c))) (subst (unready l) after u .0);
   others = λ z. absurd (z refl);
   first = λ z. absurd (z refl);
 }
@@ -183,19 +177,22 @@ fires-one w l p k cs c v f g e a b o u n x y = record {
     and-none false = refl
 
 -- a communication fires
-fires-two : (w : List ℕ) (l p q d : ℕ) (cs : List Comp) (c e : Comp) (v : Visit) (m : Met) (g : Left) → at cs p ≡ accepted c → at cs q ≡ accepted e → choiceAt w l p c cs ≡ accepted (pair p q) → togetherAt w c e ≡ accepted g → twoOf m ≡ togetherAt w c e
+fires-two : (w : List ℕ) (l p q d : ℕ) (cs : List Comp) (c e : Comp) (v : Visit) (m : Met) (g : Left) → length cs ≤ 256 → at cs p ≡ accepted c → at cs q ≡ accepted e → choiceAt w l p c cs ≡ accepted (pair p q) → togetherAt w c e ≡ accepted g → twoOf m ≡ togetherAt w c e
     → unready l (g .after) → sendsAt w l c ≡ d → ((h : ℕ) → hears h (headAt w (c .place)) ≡ false) → ((h : ℕ) → hears h (headAt w (e .place)) ≡ eqb h d) → v .x ≡ m .sender → v .y ≡ m .receiver → Turned w l p q 3 (suc q) cs c v
 unfolding actOn leftBy positions setAll
-fires-two w l p q d cs c e v m g i j a b o u s n r x y = record {
+fires-two w l p q d cs c e v m g few i j a b o u s n r x y = record {
   actions = rw (i, a, i, j, b);
   comps = rw (i, a, i, j, b, after) (sym (rw (x, y)));
   still = λ z. absurd (omega arith);
-  others = λ z h k. put x y h ∙ hearers-other w l h 0 cs₁ q e (m .receiver) there (rw (r h, sym (ap (eqb h) s) ∙ k) (and-none (readyAt l e))) (marks .1 .0) ∙ sender h;
-  first = λ z qs k. put x y (sendsAt w l c) ∙ hearers-first w l (sendsAt w l c) 0 cs₁ q (m .receiver) qs (sender (sendsAt w l c) ∙ k ∙ ap (λ y. y ∷ qs) (omega arith)) (marks .1 .0);
+  others = λ z h k. put x y h ∙ hearers-other w l h cs₁ q e (m .receiver) there (rw (r h, sym (ap (eqb h) s) ∙ k) (and-none (readyAt l e))) (marks .1 .0) ∙ sender h;
+  first = λ z qs k. put x y (sendsAt w l c) ∙ first-gone w l (sendsAt w l c) cs₁ few₁ q qs (foremost-of w l (sendsAt w l c) cs₁ few₁ q qs (sender (sendsAt w l c) ∙ k)) (m .receiver) (marks .1 .0);
 }
   where
     cs₁ : List Comp
     cs₁ = R.set cs p (m .sender)
+
+    few₁ : length (R.set cs p (m .sender)) ≤ 256
+    few₁ = omega (arith, length-put cs p (m .sender))
 
     after : g .after ≡ m .sender ∷ m .receiver ∷ []
     after = two-inv m g (o ∙ b)
@@ -207,11 +204,11 @@ fires-two w l p q d cs c e v m g i j a b o u s n r x y = record {
     and-none true = refl
     and-none false = refl
 
-    put : v .x ≡ m .sender → v .y ≡ m .receiver → (h : ℕ) → hearers w l h 0 (R.set (R.set cs p (v .x)) q (v .y)) ≡ hearers w l h 0 (R.set (R.set cs p (m .sender)) q (m .receiver))
+    put : v .x ≡ m .sender → v .y ≡ m .receiver → (h : ℕ) → hearers w l h (R.set (R.set cs p (v .x)) q (v .y)) ≡ hearers w l h (R.set (R.set cs p (m .sender)) q (m .receiver))
     put x y h = rw (x, y)
 
-    sender : (h : ℕ) → hearers w l h 0 (R.set cs p (m .sender)) ≡ hearers w l h 0 cs
-    sender h = hearers-other w l h 0 cs p c (m .sender) i (rw (n h) (and-none (readyAt l c))) (subst (unready l) (two-inv m g (o ∙ b)) u .0)
+    sender : (h : ℕ) → hearers w l h (R.set cs p (m .sender)) ≡ hearers w l h cs
+    sender h = hearers-other w l h cs p c (m .sender) i (rw (n h) (and-none (readyAt l c))) (subst (unready l) (two-inv m g (o ∙ b)) u .0)
 
     -- the input stands somewhere else than the output
     apart : p ≡ q → ⊥
@@ -237,7 +234,7 @@ alone-free : (w : List ℕ) (k : Kind) (l : ℕ) (c : Comp) (h : Head) → ready
 unfolding aloneAt fitsAlone
 alone-free w k l c h r e = rw (ready-free l c r .0, e)
 
-module _ (w : List ℕ) (good : scriptOk w ≡ true) (l p : ℕ) (cs : List Comp) (c : Comp) (v : Visit) (at-p : at cs p ≡ accepted c) (fine : CompFine w c) where
+module _ (w : List ℕ) (good : scriptOk w ≡ true) (l p : ℕ) (cs : List Comp) (c : Comp) (v : Visit) (few : length cs ≤ 256) (at-p : at cs p ≡ accepted c) (fine : CompFine w c) where
   -- no link: the component is its own partner
   rest-case : kindAt w l c 0 ≡ 0 → (n : ℕ) → choiceAt w l p c cs ≡ refused n → Performed w (kindAt w l c 0) c c v → Turned w l p p (kindAt w l c 0) 0 cs c v
   rest-case k n a f = subst (λ z. Turned w l p p z 0 cs c v) (sym k) (rests w l p cs c v n at-p a (f .none k .0) (f .none k .1))
@@ -271,16 +268,16 @@ module _ (w : List ℕ) (good : scriptOk w ≡ true) (l p : ℕ) (cs : List Comp
           (lacks w l p cs c v 20 at-p (choice-ready w l p c cs _ r e ∙ rw z) (alone-free w moves l c _ r e ∙ rw m) (f .none k .0) (f .none k .1))
       by-timer false z a m = rest-case (kind-ready w l c 0 _ r e ∙ rw z) 0 (choice-ready w l p c cs _ r e ∙ rw z) f
 
-  out-case : (d t y q s : ℕ) → readyAt l c ≡ true → headAt w (c .place) ≡ Out d t y q s → (sendsAt w l c < 64 → hearers w l (sendsAt w l c) 0 cs ≡ []) → Performed w (kindAt w l c 0) c c v → (b : Bool) → ltb d 64 ≡ b → (m : Bool) → mayMeet w (c .loc) d ≡ m → Turned w l p p (kindAt w l c 0) 0 cs c v
+  out-case : (d t y q s : ℕ) → readyAt l c ≡ true → headAt w (c .place) ≡ Out d t y q s → (sendsAt w l c < 64 → hearers w l (sendsAt w l c) cs ≡ []) → Performed w (kindAt w l c 0) c c v → (b : Bool) → ltb d 64 ≡ b → (m : Bool) → mayMeet w (c .loc) d ≡ m → Turned w l p p (kindAt w l c 0) 0 cs c v
   unfolding kindBy kindOf mustAct wouldAct rightIn chosenBy sendsBy sentOn
   out-case d t y q s r e nobody f true b true m =
       let z : sendsAt w l c ≡ d = sends-ready w l c _ r e ∙ rw m in
-      let n : hearers w l d 0 cs ≡ [] = subst (λ k. hearers w l k 0 cs ≡ []) z (nobody (rw z (ltb-true d 64 b))) in
-      rest-case (kind-ready w l c 0 _ r e) 8 (choice-ready w l p c cs _ r e ∙ rw (m, seek-nobody w l d 0 cs n)) f
+      let n : hearers w l d cs ≡ [] = subst (λ k. hearers w l k cs ≡ []) z (nobody (rw z (ltb-true d 64 b))) in
+      rest-case (kind-ready w l c 0 _ r e) 8 (choice-ready w l p c cs _ r e ∙ rw (m, nobody-waits w l d cs few n)) f
   out-case d t y q s r e nobody f true b false m = rest-case (kind-ready w l c 0 _ r e) 8 (choice-ready w l p c cs _ r e ∙ rw m) f
   out-case d t y q s r e nobody f false b x m = absurd (omega (arith, ltb-false d 64 b, subst (inEar 64) e (ear-fits w c good (comp-ok w c fine))))
 
-  pub turned-none : (sendsAt w l c < 64 → hearers w l (sendsAt w l c) 0 cs ≡ []) → Performed w (kindAt w l c 0) c c v → Turned w l p p (kindAt w l c 0) 0 cs c v
+  pub turned-none : (sendsAt w l c < 64 → hearers w l (sendsAt w l c) cs ≡ []) → Performed w (kindAt w l c 0) c c v → Turned w l p p (kindAt w l c 0) 0 cs c v
   turned-none nobody f = by-ready (readyAt l c) refl (headAt w (c .place)) refl
     where
       by-ready : (b : Bool) → readyAt l c ≡ b → (h : Head) → headAt w (c .place) ≡ h → Turned w l p p (kindAt w l c 0) 0 cs c v
@@ -312,26 +309,25 @@ meet-free w l c e d t y p q d₂ t₂ k p₂ q₂ r s a b z m =
     let g = ready-free l e s in
     rw (f .0, g .0, a, b, z, eq-eqb (c .loc) (e .loc) (f .1 ∙ sym (g .1)), m)
 
-module _ (w : List ℕ) (good : scriptOk w ≡ true) (l p q : ℕ) (cs : List Comp) (c e : Comp) (v : Visit) (at-p : at cs p ≡ accepted c) (at-q : at cs q ≡ accepted e) (fine : CompFine w c) where
-  two-case : (d t y a b : ℕ) (qs : List ℕ) → readyAt l c ≡ true → headAt w (c .place) ≡ Out d t y a b → mayMeet w (c .loc) d ≡ true → hearers w l d 0 cs ≡ q ∷ qs → Performed w (kindAt w l c (suc q)) c e v → Turned w l p q (kindAt w l c (suc q)) (suc q) cs c v
+module _ (w : List ℕ) (good : scriptOk w ≡ true) (l p q : ℕ) (cs : List Comp) (c e : Comp) (v : Visit) (few : length cs ≤ 256) (at-p : at cs p ≡ accepted c) (at-q : at cs q ≡ accepted e) (fine : CompFine w c) where
+  two-case : (d t y a b : ℕ) (qs : List ℕ) → readyAt l c ≡ true → headAt w (c .place) ≡ Out d t y a b → mayMeet w (c .loc) d ≡ true → hearers w l d cs ≡ q ∷ qs → Performed w (kindAt w l c (suc q)) c e v → Turned w l p q (kindAt w l c (suc q)) (suc q) cs c v
   unfolding kindBy kindOf mustAct wouldAct rightIn chosenBy sendsBy sentOn hears
   two-case d t y a b qs r h o′ k f =
-      let s = seek-first w l d 0 cs q qs k in
-      let z : s .0 ≡ q = omega (arith, s .2) in
-      let u : seek (λ x. readyAt l x && hears d (headAt w (x .place))) cs ≡ accepted q = s .1 ∙ ap accepted z in
-      let m = seek-at (λ x. readyAt l x && hears d (headAt w (x .place))) cs q e u at-q in
+      let s = foremost-of w l d cs few q qs k in
+      let u = first-partner w l d cs few q qs s in
+      let m : waits w l d e ≡ true = subst (λ x. waits w l d x ≡ true) (took (sym (s .here) ∙ at-q)) (s .waiting) in
       let i = hears-in w l d e (headAt w (e .place)) refl m in
       let o : kindAt w l c (suc q) ≡ 3 = kind-ready w l c (suc q) _ r h ∙ rw (lt-ltb 0 (suc q) (omega arith), o′) in
       let g = f .pair o in
       let j = meet-free w l c e d t y a b (i .0) (i .1) (i .2) (i .3) (i .4) r (and-inv (readyAt l e) _ m .0) h (i .5) (i .6) o′ in
       subst (λ z. Turned w l p q z (suc q) cs c v) (sym o)
-      (fires-two w l p q d cs c e v (g .0) _ at-p at-q (choice-ready w l p c cs _ r h ∙ rw (o′, u)) j (g .1) (handed-unready w l c e d (valueIn (c .vals) y) a (i .2) (i .3) good fine)
+      (fires-two w l p q d cs c e v (g .0) _ few at-p at-q (choice-ready w l p c cs _ r h ∙ rw (o′, u)) j (g .1) (handed-unready w l c e d (valueIn (c .vals) y) a (i .2) (i .3) good fine)
       (sends-ready w l c _ r h ∙ rw o′) (λ x. rw h) (λ x. rw (i .5) (ap (eqb x) (sym (eqb-true d (i .0) (i .6))))) (g .2) (g .3))
 
   not-sent : (h : Head) → sendsBy w c h ≡ 64 → readyAt l c ≡ true → headAt w (c .place) ≡ h → (sendsAt w l c ≡ 64 → _≡_ {A = ℕ} (suc q) 0) → ⊥
   not-sent h z r e k = omega (arith, k (sends-ready w l c h r e ∙ z))
 
-  pub turned-some : (sendsAt w l c ≡ 64 → _≡_ {A = ℕ} (suc q) 0) → (qs : List ℕ) → hearers w l (sendsAt w l c) 0 cs ≡ q ∷ qs → Performed w (kindAt w l c (suc q)) c e v → Turned w l p q (kindAt w l c (suc q)) (suc q) cs c v
+  pub turned-some : (sendsAt w l c ≡ 64 → _≡_ {A = ℕ} (suc q) 0) → (qs : List ℕ) → hearers w l (sendsAt w l c) cs ≡ q ∷ qs → Performed w (kindAt w l c (suc q)) c e v → Turned w l p q (kindAt w l c (suc q)) (suc q) cs c v
   unfolding sendsBy rightIn sentOn
   turned-some nope qs k f = by-ready (readyAt l c) refl (headAt w (c .place)) refl
     where
@@ -340,7 +336,7 @@ module _ (w : List ℕ) (good : scriptOk w ≡ true) (l p q : ℕ) (cs : List Co
       either false = refl
 
       by-right : (d t y a b : ℕ) → readyAt l c ≡ true → headAt w (c .place) ≡ Out d t y a b → (m : Bool) → mayMeet w (c .loc) d ≡ m → Turned w l p q (kindAt w l c (suc q)) (suc q) cs c v
-      by-right d t y a b r e true m = two-case d t y a b qs r e m (subst (λ z. hearers w l z 0 cs ≡ q ∷ qs) (sends-ready w l c _ r e ∙ rw m) k) f
+      by-right d t y a b r e true m = two-case d t y a b qs r e m (subst (λ z. hearers w l z cs ≡ q ∷ qs) (sends-ready w l c _ r e ∙ rw m) k) f
       by-right d t y a b r e false m = absurd (not-sent (Out d t y a b) (rw m) r e nope)
 
       by-ready : (b : Bool) → readyAt l c ≡ b → (h : Head) → headAt w (c .place) ≡ h → Turned w l p q (kindAt w l c (suc q)) (suc q) cs c v

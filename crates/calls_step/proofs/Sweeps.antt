@@ -1,19 +1,18 @@
 -- The sweep on a valid table stands for the sweep of the rules: the same actions, and components that stand for the rules' ones.
 -- By induction on the positions; at each the choice is the same, whatever number says that there is none.
 use Prim.Native.Nat.{ℕ, zero, suc, _+_, _<_}
-use mathlib.Core.List.{List, [], _∷_, _++_, map}
+use mathlib.Core.List.{List, _++_, map}
 use mathlib.Core.Bool.{Bool, true, false, cond, _&&_}
 use mathlib.Core.Path.{_≡_, refl, sym, ap, subst, _∙_, fun-ext}
-use lib.Dec.{eqb, ltb}
+use lib.Dec.{ltb}
 use lib.ListN.{length, length-map}
 use Rattle.terms.specs.Same.{every}
-use Rattle.terms.specs.Rules.{Answer, Action, _>>=_, ok, at, seek, fire, ready, dueGo}
+use Rattle.terms.specs.Rules.{Answer, Action, _>>=_, ok, at, fire, ready, dueGo}
 use Rattle.terms.specs.Rules.Answer.{refused, accepted}
 use Rattle.terms.specs.Rules.Kind.{calls, moves}
-use Rattle.terms.specs.Rules.Firing.{alone, together}
+use Rattle.terms.specs.Rules.Firing.{alone}
 use Rattle.terms.specs.Rules.Action.{single, pair}
-use Rattle.terms.specs.Step.{Swept, choice, idle, tookPlace, taken, followed, visit, sweep, fires}
-use Rattle.terms.proofs.Names.{and-inv}
+use Rattle.terms.specs.Step.{Swept, foremost, partner, choice, idle, tookPlace, taken, followed, visit, sweep, fires}
 use Rattle.table.specs.declared.Comp.{Comp}
 use Rattle.table.specs.declared.Head.{Head}
 use Rattle.table.specs.declared.Head.the-variants.{Stop, Go, Out, In, Call}
@@ -26,8 +25,11 @@ use Rattle.table.proofs.Tests.{CompFine, comp-fine}
 use Rattle.terms.proofs.Lists.{every-at}
 use Rattle.table.proofs.Fires.{mapA, actedOf, at-map}
 use Rattle.table.proofs.Granted.{act-means}
-use Rattle.table.proofs.Ticks.{ready-means, alone-ok, due-here, isDue, partner-means, Ready, is-ready, meets}
+use Rattle.table.proofs.ValidBool.{and-true, and-false}
+use Rattle.table.proofs.Ticks.{ready-means, alone-ok, due-here, isDue, is-ready, meets}
 use Rattle.table.proofs.Kept.{okA, goodActed, act-kept}
+use Rattle.calls_wait.specs.Waits.{waits, beforeAt, partnerAt}
+use Rattle.calls_wait.proofs.Partners.{foremost-nothing, partner-stands}
 use Rattle.calls_step.specs.Sweep.{chosenBy, choiceAt, SweptAt, idleAt, tookAt, takenAt, visitAt, followedAt, sweepAt}
 
 -- ── the choice ──
@@ -38,40 +40,6 @@ Agree (refused m) (accepted b) = ⊥
 Agree (accepted a) (refused n) = ⊥
 Agree (accepted a) (accepted b) = a ≡ b
 
-seek-map : {A B : Type 0} (f : B → Bool) (g : A → B) (xs : List A) → seek f (map g xs) ≡ seek (λ x. f (g x)) xs
-unfolding seek
-seek-map f g [] = refl
-seek-map f g (x ∷ xs) = rw (seek-map f g xs)
-
-seek-same : {A : Type 0} (f g ok : A → Bool) (xs : List A) → every ok xs ≡ true → ((x : A) → ok x ≡ true → f x ≡ g x) → seek f xs ≡ seek g xs
-unfolding seek every
-seek-same f g ok [] e k = refl
-seek-same f g ok (x ∷ xs) e k = let a = and-inv (ok x) (every ok xs) e in rw (k x (a .0), seek-same f g ok xs (a .1) k)
-
-seek-never : {A : Type 0} (f : A → Bool) (xs : List A) → seek (λ x. f x && false) xs ≡ refused 8
-unfolding seek
-seek-never f [] = refl
-seek-never f (x ∷ xs) = go (f x) (seek-never f xs)
-  where
-    go : (b : Bool) → seek (λ x. f x && false) xs ≡ refused 8 → cond (b && false) (accepted 0) (seek (λ x. f x && false) xs >>= λ p. accepted (suc p)) ≡ refused 8
-    go true h = rw h
-    go false h = rw h
-
--- a right that is the same for all
-seek-true : {A : Type 0} (f g : A → Bool) (xs : List A) → seek (λ x. f x && (g x && true)) xs ≡ seek (λ x. f x && g x) xs
-seek-true f g xs = ap (λ k. seek k xs) (fun-ext (λ x. ap (_&&_ (f x)) (go (g x))))
-  where
-    go : (a : Bool) → (a && true) ≡ a
-    go true = refl
-    go false = refl
-
-seek-false : {A : Type 0} (f g : A → Bool) (xs : List A) → seek (λ x. f x && (g x && false)) xs ≡ refused 8
-seek-false f g xs = ap (λ k. seek k xs) (fun-ext (λ x. ap (_&&_ (f x)) (go (g x)))) ∙ seek-never f xs
-  where
-    go : (a : Bool) → (a && false) ≡ false
-    go true = refl
-    go false = refl
-
 agree-refl : (x : Answer Action) → Agree x x
 agree-refl (refused n) = tt
 agree-refl (accepted a) = refl
@@ -79,40 +47,35 @@ agree-refl (accepted a) = refl
 module _ (w : List ℕ) (good : scriptOk w ≡ true) (l : ℕ) (inl : l < locsIn w) where
   -- what the rules choose at a component ready at l, by its head
   by-head : (p : ℕ) (c : Comp) (cs : List Comp) (h : Head)
-      → Agree (cond (ok (becomesAt w calls c h >>= rightly w)) (accepted (single calls p)) (cond (isDue c h) (accepted (single moves p)) (seek (λ e. readyAt l e && (meets h (headAt w (e .place)) && rightIn w c h)) cs >>= λ q. accepted (pair p q))))
+      → Agree (cond (ok (becomesAt w calls c h >>= rightly w)) (accepted (single calls p)) (cond (isDue c h) (accepted (single moves p)) (foremost beforeAt (λ e. readyAt l e && (meets h (headAt w (e .place)) && rightIn w c h)) cs >>= λ q. accepted (pair p q))))
       (chosenBy w l p c cs h)
   unfolding becomesAt rightly grantedAt isDue meets rightIn chosenBy
-  by-head p c cs Stop = rw (seek-never (readyAt l) cs) tt
+  by-head p c cs Stop = rw (foremost-nothing beforeAt _ cs (λ e. and-false (readyAt l e))) tt
   by-head p c cs (Go t v q) = go (dueAt c)
     where
-      go : (b : Bool) → Agree (cond b (accepted (single moves p)) (seek (λ e. readyAt l e && false) cs >>= λ q. accepted (pair p q))) (cond b (accepted (single moves p)) (refused 0))
+      go : (b : Bool) → Agree (cond b (accepted (single moves p)) (foremost beforeAt (λ e. readyAt l e && false) cs >>= λ q. accepted (pair p q))) (cond b (accepted (single moves p)) (refused 0))
       go true = refl
-      go false = rw (seek-never (readyAt l) cs) tt
+      go false = rw (foremost-nothing beforeAt _ cs (λ e. and-false (readyAt l e))) tt
   by-head p c cs (Out h t v q r) = go (mayMeet w (c .loc) h)
     where
-      go : (b : Bool) → Agree (seek (λ e. readyAt l e && (hears h (headAt w (e .place)) && b)) cs >>= λ q. accepted (pair p q)) (cond b (seek (λ e. readyAt l e && hears h (headAt w (e .place))) cs >>= λ q. accepted (pair p q)) (refused 8))
-      go true = rw (seek-true (readyAt l) (λ e. hears h (headAt w (e .place))) cs) (agree-refl (seek (λ e. readyAt l e && hears h (headAt w (e .place))) cs >>= λ q. accepted (pair p q)))
-      go false = rw (seek-false (readyAt l) (λ e. hears h (headAt w (e .place))) cs) tt
-  by-head p c cs (In h t k q r) = rw (seek-never (readyAt l) cs) tt
+      go : (b : Bool) → Agree (foremost beforeAt (λ e. readyAt l e && (hears h (headAt w (e .place)) && b)) cs >>= λ q. accepted (pair p q)) (cond b (partnerAt w l h cs >>= λ q. accepted (pair p q)) (refused 8))
+      go true = unfold partnerAt in rw (ap (λ k. foremost beforeAt k cs) (fun-ext (λ e. ap (_&&_ (readyAt l e)) (and-true (hears h (headAt w (e .place))))))) (agree-refl (foremost beforeAt (waits w l h) cs >>= λ q. accepted (pair p q)))
+      go false = rw (foremost-nothing beforeAt _ cs (λ e. ap (_&&_ (readyAt l e)) (and-false (hears h (headAt w (e .place)))) ∙ and-false (readyAt l e))) tt
+  by-head p c cs (In h t k q r) = rw (foremost-nothing beforeAt _ cs (λ e. and-false (readyAt l e))) tt
   by-head p c cs (Call d n) = refl
 
   choice-agrees : (p : ℕ) (c : Comp) (cs : List Comp) → CompFine w c → every (compOk w) cs ≡ true → Agree (choice (contextOf w) (locName w l) p (means w c) (map (means w) cs)) (choiceAt w l p c cs)
   unfolding choice choiceAt
   choice-agrees p c cs f e = rw (ready-means w good l c inl f) (go (readyAt l c) refl)
     where
-      partners : Ready w good l c → seek (λ x. ready (locName w l) x && ok (fire (contextOf w) (together (means w c) x))) (map (means w) cs) ≡ seek (λ x. readyAt l x && (meets (headAt w (c .place)) (headAt w (x .place)) && rightIn w c (headAt w (c .place)))) cs
-      partners r =
-          seek-map (λ x. ready (locName w l) x && ok (fire (contextOf w) (together (means w c) x))) (means w) cs
-          ∙ seek-same _ _ (compOk w) cs e (λ x g. partner-means w good l c x inl f (comp-fine w x g) r)
-
       go : (b : Bool) → readyAt l c ≡ b
-          → Agree (cond b (cond (ok (fire (contextOf w) (alone calls (means w c)))) (accepted (single calls p)) (cond (dueGo (means w c)) (accepted (single moves p)) (seek (λ x. ready (locName w l) x && ok (fire (contextOf w) (together (means w c) x))) (map (means w) cs) >>= λ q. accepted (pair p q)))) (refused 0))
+          → Agree (cond b (cond (ok (fire (contextOf w) (alone calls (means w c)))) (accepted (single calls p)) (cond (dueGo (means w c)) (accepted (single moves p)) (partner (contextOf w) (locName w l) (means w c) (map (means w) cs) >>= λ q. accepted (pair p q)))) (refused 0))
           (cond b (chosenBy w l p c cs (headAt w (c .place))) (refused 0))
       go false q = tt
       go true q =
           let r = is-ready w good l c q in
           let a : ok (fire (contextOf w) (alone calls (means w c))) ≡ ok (becomesAt w calls c (headAt w (c .place)) >>= rightly w) = alone-ok w good calls c f ∙ (free-alone c (r .free)) in
-          rw (a, due-here w good c (r .free), partners r) (by-head p c cs (headAt w (c .place)))
+          rw (a, due-here w good c (r .free), partner-stands w good l inl c cs f e r) (by-head p c cs (headAt w (c .place)))
         where
           free-alone : (c : Comp) → ltb (c .mark) 64 ≡ false → ok (aloneAt w calls c) ≡ ok (becomesAt w calls c (headAt w (c .place)) >>= rightly w)
           free-alone c e = unfold aloneAt fitsAlone in rw e

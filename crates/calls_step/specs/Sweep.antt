@@ -1,12 +1,9 @@
--- The actions of a step on the table, and the inputs that wait on each channel: what the contracts of `sweep` cite.
+-- The actions of a step on the table: what the contracts of `sweep` cite.
 -- proofs/Sweeps says that this is the step's sweep of the rules (Step of the crate terms).
-use Prim.Native.Nat.{ℕ, zero, suc, _<_}
+use Prim.Native.Nat.{ℕ, zero, suc}
 use mathlib.Core.List.{List, [], _∷_, _++_}
-use mathlib.Core.Bool.{cond, _&&_}
-use mathlib.Core.Path.{_≡_}
-use lib.Dec.{eqb}
-use lib.ListN.{length, getD}
-use Rattle.terms.specs.Rules.{Answer, Action, _>>=_, at, seek}
+use mathlib.Core.Bool.{cond}
+use Rattle.terms.specs.Rules.{Answer, Action, _>>=_, at}
 use Rattle.terms.specs.Rules.Answer.{refused, accepted}
 use Rattle.terms.specs.Rules.Kind.{calls, moves}
 use Rattle.terms.specs.Rules.Action.{single, pair}
@@ -15,14 +12,15 @@ use Rattle.table.specs.declared.Head.{Head}
 use Rattle.table.specs.declared.Head.the-variants.{Stop, Go, Out, In, Call}
 use Rattle.table.specs.Words.{headAt}
 use Rattle.table.specs.Split.{dueAt}
-use Rattle.table.specs.Fire.{ActedAt, mayMeet, actOn, readyAt, hears}
+use Rattle.table.specs.Fire.{ActedAt, mayMeet, actOn, readyAt}
+use Rattle.calls_wait.specs.Waits.{partnerAt}
 
 -- ── which action fires at a component that stands at p ──
 -- of a component ready at l with this head; a `go` that is due and lacks its right is refused when it is fired, and then nothing is
 unfoldable pub chosenBy : List ℕ → ℕ → ℕ → Comp → List Comp → Head → Answer Action
 chosenBy w l p c cs Stop = refused 0
 chosenBy w l p c cs (Go u v q) = cond (dueAt c) (accepted (single moves p)) (refused 0)
-chosenBy w l p c cs (Out h u v q r) = cond (mayMeet w (c .loc) h) (seek (λ e. readyAt l e && hears h (headAt w (e .place))) cs >>= λ q. accepted (pair p q)) (refused 8)
+chosenBy w l p c cs (Out h u v q r) = cond (mayMeet w (c .loc) h) (partnerAt w l h cs >>= λ q. accepted (pair p q)) (refused 8)
 chosenBy w l p c cs (In h u k q r) = refused 0
 chosenBy w l p c cs (Call d n) = accepted (single calls p)
 
@@ -56,24 +54,6 @@ followedAt r k = record { actions = r .actions ++ k (r .comps) .actions; comps =
 unfoldable pub sweepAt : List ℕ → ℕ → ℕ → ℕ → List Comp → SweptAt
 sweepAt w l p zero cs = idleAt cs
 sweepAt w l p (suc n) cs = followedAt (visitAt w l p (at cs p) cs) (sweepAt w l (suc p) n)
-
--- ── the inputs that wait on a channel ──
--- the positions, from k on, of the components ready at l that hear h
-unfoldable pub hearers : List ℕ → ℕ → ℕ → ℕ → List Comp → List ℕ
-hearers w l h k [] = []
-hearers w l h k (c ∷ cs) = cond (readyAt l c && hears h (headAt w (c .place))) (k ∷ hearers w l h (suc k) cs) (hearers w l h (suc k) cs)
-
--- x is 0, or the first position and one; the table of next ones leads from each to the one after it
-abbrev pub Chain : List ℕ → ℕ → List ℕ → Type 0
-Chain nexts x [] = x ≡ 0
-Chain nexts x (q ∷ qs) = (x ≡ suc q) × Chain nexts (getD nexts q 0) qs
-
--- for every channel the chain of those who hear it; 64 is no channel
-pub record Queued (w : List ℕ) (l k : ℕ) (cs : List Comp) (heads nexts : List ℕ) : Type 0 where
-  pub chain : (h : ℕ) → h < 64 → Chain nexts (getD heads h 0) (hearers w l h k cs)
-  pub none : getD heads 64 0 ≡ 0
-  pub size : length heads ≡ 65
-  pub room : length nexts ≡ 256
 
 -- ── records ──
 -- a record has the kind and the positions; q is 0 for kinds 1 and 2

@@ -28,10 +28,6 @@ sendsBy w c h = cond (rightIn w c h) (sentOn h) 64
 unfoldable pub sendsAt : List ℕ → ℕ → Comp → ℕ
 sendsAt w l c = cond (readyAt l c) (sendsBy w c (headAt w (c .place))) 64
 
--- the link to the position i, for a channel; 64 is none
-abbrev pub link : ℕ → ℕ → ℕ
-link h i = cond (ltb h 64) (suc i) 0
-
 -- the kind of the action of a part; 0 where it has none of its own
 unfoldable pub kindOf : Head → ℕ
 kindOf Stop = 0
@@ -40,7 +36,7 @@ kindOf (Out h t v p q) = 3
 kindOf (In h t k p q) = 0
 kindOf (Call d n) = 1
 
--- the kind of the action that fires, 0 for none, where x is the link to the lowest that hears: what must act does
+-- the kind of the action that fires, 0 for none, where x is the link to the first that hears: what must act does
 unfoldable pub kindBy : List ℕ → ℕ → Comp → Head → ℕ
 kindBy w x c h = cond (mustAct w (ltb 0 x) c h) (kindOf h) 0
 

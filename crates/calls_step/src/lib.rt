@@ -1,6 +1,6 @@
 // Layer 3, calls: the step at a location.
 //
-//   specs/Sweep   the actions of a step on the table, and who waits on each channel
+//   specs/Sweep   the actions of a step on the table
 //   specs/Visit   one position of the sweep, in numbers
 //   specs/Stepped what the answer of a step stands for
 //   sweep         the actions of a step
@@ -15,12 +15,6 @@ pub mod step;
 mod sweep;
 
 use table::Comp;
-
-// For each channel the link to the lowest position that hears it, and from each position the link to the next. A link is 0, or a position and one.
-pub struct Queue {
-    pub heads: [u32; 65],
-    pub nexts: [u32; 256],
-}
 
 // What becomes of the component at a position, and of its partner.
 pub struct Visit {

@@ -1,16 +1,17 @@
-// The actions of a step: through the positions upward once. Who hears a channel is found beforehand, as a chain of positions for each channel.
+// The actions of a step: through the positions upward once. Who hears a channel is found beforehand, as a chain of positions for each channel, the partner of
+// the next output in front.
 ghost use mathlib.Core.Path.{_≡_};
 ghost use mathlib.Core.Bool.{true};
 ghost use Prim.Native.Nat.{_<_, _≤_};
 ghost use lib.ListN.{length};
 ghost use Rattle.table.specs.Valid.{scriptOk, compOk, valid};
-ghost use Rattle.calls_step.specs.Visit.{sendsBy, sendsAt, link, kindOf, kindBy, kindAt, Performed, otherOf, poppedOf, recBy, SweepsAs};
+ghost use Rattle.calls_step.specs.Visit.{sendsBy, sendsAt, kindOf, kindBy, kindAt, Performed, otherOf, poppedOf, recBy, SweepsAs};
 ghost use Rattle.table.specs.Words.{stateWords};
-use super::Queue;
 use super::Visit;
 use calls_act::fire;
 use calls_act::rights::right_in;
 use calls_tick::forced;
+use calls_wait::wait_all;
 use table::Comp;
 use table::Head;
 use table::Script;
@@ -39,16 +40,6 @@ fn sends_at(w: &Script, l: u32, c: Comp) -> u32
     64
 }
 
-fn link_to(h: usize, i: usize) -> u32
-    requires { ⌜ i < 256 ⌝ }
-    ensures { λ r. ⌜ r ≡ link h i ⌝ }
-{
-    if h < 64 {
-        return (i + 1) as u32;
-    }
-    0
-}
-
 fn kind_of(h: Head) -> u32
     ensures { λ r. ⌜ r ≡ kindOf h ⌝ }
 {
@@ -61,7 +52,7 @@ fn kind_of(h: Head) -> u32
     }
 }
 
-// The kind of the action that a ready component with the head h performs, 0 for none; x is the link to the lowest that hears its channel.
+// The kind of the action that a ready component with the head h performs, 0 for none; x is the link to the first that hears its channel.
 fn kind_by(w: &Script, x: u32, c: Comp, h: Head) -> u32
     ensures { λ r. ⌜ r ≡ kindBy (now (w .entry)) x c h ⌝ }
 {
@@ -138,26 +129,15 @@ pub(crate) fn sweep(w: &Script, c: &mut Words, n: usize, l: u32, acts: &mut [[u3
     requires { ⌜ (valid (now w) (record { c = now c; n = n }) ≡ true) × (length (now c) ≡ stateWords) × (n ≤ length (now acts)) ⌝ }
     ensures { λ r. ⌜ SweepsAs (now (w .entry)) l (record { c = now (c .entry); n = n }) (now (c .exit)) (now (acts .entry)) (now (acts .exit)) r ⌝ }
 {
-    let mut queue = Queue {
-        heads: [0u32; 65],
-        nexts: [0u32; 256],
-    };
-    let mut j = n;
-    while 0 < j {
-        let i = j - 1;
-        let x = comp_at(c, i);
-        let h = words::wide(forced::hears_at(w, l, x));
-        let old = queue.heads[h];
-        queue.nexts[i] = old;
-        queue.heads[h] = link_to(h, i);
-        j = i;
-    }
+    let mut heads = [0u32; 65];
+    let mut nexts = [0u32; 256];
+    wait_all(w, c, n, l, &mut heads, &mut nexts);
     let mut count: usize = 0;
     let mut p: usize = 0;
     while p < n {
         let d = comp_at(c, p);
         let s = words::wide(sends_at(w, l, d));
-        let x = queue.heads[s];
+        let x = heads[s];
         let k = kind_at(w, l, d, x);
         if k == 0 {
             p += 1;
@@ -173,8 +153,8 @@ pub(crate) fn sweep(w: &Script, c: &mut Words, n: usize, l: u32, acts: &mut [[u3
         let r = rec_by(k, p, q);
         acts[count] = r;
         count += 1;
-        let nx = queue.nexts[q];
-        queue.heads[s] = popped_of(x, nx);
+        let nx = nexts[q];
+        heads[s] = popped_of(x, nx);
         p += 1;
     }
     count

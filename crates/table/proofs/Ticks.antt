@@ -43,12 +43,12 @@ map-flatMap f g h ok (x ∷ xs) e k =
     let a = and-inv (ok x) (every ok xs) e in
     rw (map-append f (g x) (flatMap g xs), k x (a .0), map-flatMap f g h ok xs (a .1) k)
 
-some-map : {A B : Type 0} (f : B → Bool) (g : A → B) (xs : List A) → some f (map g xs) ≡ some (λ x. f (g x)) xs
+pub some-map : {A B : Type 0} (f : B → Bool) (g : A → B) (xs : List A) → some f (map g xs) ≡ some (λ x. f (g x)) xs
 unfolding some
 some-map f g [] = refl
 some-map f g (x ∷ xs) = rw (some-map f g xs)
 
-some-same : {A : Type 0} (f g ok : A → Bool) (xs : List A) → every ok xs ≡ true → ((x : A) → ok x ≡ true → f x ≡ g x) → some f xs ≡ some g xs
+pub some-same : {A : Type 0} (f g ok : A → Bool) (xs : List A) → every ok xs ≡ true → ((x : A) → ok x ≡ true → f x ≡ g x) → some f xs ≡ some g xs
 unfolding some every
 some-same f g ok [] e k = refl
 some-same f g ok (x ∷ xs) e k = let a = and-inv (ok x) (every ok xs) e in rw (k x (a .0), some-same f g ok xs (a .1) k)

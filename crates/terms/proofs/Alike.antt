@@ -12,12 +12,12 @@ use Rattle.terms.specs.Terms.Part.{stop, go, out, inp, call}
 use Rattle.terms.specs.Terms.Process.{one, _∥_}
 use Rattle.terms.specs.Terms.Mark.{none, by}
 use Rattle.terms.specs.Terms.Component.{comp}
-use Rattle.terms.specs.Rules.{Answer, Kind, Firing, Action, _>>=_, ok, at, seek, some, only, setAll, becomes, fits, fire, positions, firingAt, act, ready, dueGo, urgent, pressing, forced}
+use Rattle.terms.specs.Rules.{Answer, Kind, Firing, Action, _>>=_, ok, at, some, only, setAll, becomes, fits, fire, positions, firingAt, act, ready, dueGo, urgent, pressing, forced}
 use Rattle.terms.specs.Rules.Answer.{refused, accepted}
 use Rattle.terms.specs.Rules.Kind.{calls, moves}
 use Rattle.terms.specs.Rules.Firing.{alone, together}
 use Rattle.terms.specs.Rules.Action.{single, pair}
-use Rattle.terms.specs.Step.{choice, tookPlace, taken, followed, visit, sweep, fires}
+use Rattle.terms.specs.Step.{earlier, foremost, partner, choice, tookPlace, taken, followed, visit, sweep, fires}
 
 module _ (ds : List Def) (e f : Edition) (r q : Rights) where
   abbrev D : Context
@@ -65,9 +65,9 @@ module _ (D E : Context) (alike : fire D ≡ fire E) where
 
   -- the actions of a step, their labels and what they leave
   choice-alike : (l : Name) (p : ℕ) (c : Component) (net : List Component) → choice D l p c net ≡ choice E l p c net
-  unfolding choice
+  unfolding choice partner
   choice-alike l p c net =
-      ap (λ F. cond (ready l c) (cond (ok (F (alone calls c))) (accepted (single calls p)) (cond (dueGo c) (accepted (single moves p)) (seek (λ b. ready l b && ok (F (together c b))) net >>= λ q. accepted (pair p q)))) (refused 0)) alike
+      ap (λ F. cond (ready l c) (cond (ok (F (alone calls c))) (accepted (single calls p)) (cond (dueGo c) (accepted (single moves p)) (foremost earlier (λ b. ready l b && ok (F (together c b))) net >>= λ q. accepted (pair p q)))) (refused 0)) alike
 
   taken-alike : (x : Answer Action) (net : List Component) → taken D x net ≡ taken E x net
   unfolding taken

@@ -5,10 +5,11 @@ pub mod Answers
 pub mod Sums
 pub mod Mixed
 pub mod Forced
+pub mod Lists
+pub mod Partner
 pub mod Steps
 pub mod Same
 pub mod Clock
-pub mod Lists
 pub mod Alike
 pub mod Editions
 pub mod Rights

@@ -3,7 +3,7 @@
 use Prim.Native.Nat.{ℕ, zero, suc, _<_}
 use mathlib.Core.List.{List, [], _∷_, flatMap}
 use mathlib.Core.Bool.{Bool, true, false, cond, not, _&&_, _||_, false≢true}
-use mathlib.Core.Path.{_≡_, refl, sym, ap, ap₂, subst, _∙_, fun-ext}
+use mathlib.Core.Path.{_≡_, refl, sym, ap, ap₂, _∙_, fun-ext}
 use lib.Dec.{eqb}
 use lib.ListN.{length}
 use borrow.Author.Tests.{eqb-true, eqb-false}
@@ -16,14 +16,13 @@ use Rattle.terms.specs.Rules.Answer.{refused, accepted}
 use Rattle.terms.specs.Rules.Kind.{calls, moves}
 use Rattle.terms.specs.Rules.Firing.{alone, together}
 use Rattle.terms.specs.Rules.Action.{single, pair}
-use Rattle.terms.specs.Step.{choice}
+use Rattle.terms.specs.Step.{earlier, foremost, partner, choice}
 use Rattle.terms.specs.Rights.{numberOf, rightBy, lookedUp, allGiven, byName, Full, SameRights}
 use Rattle.terms.specs.Descent.{Closed, closedIn}
 use Rattle.terms.proofs.Names.{name-eq, name-refl, and-in}
 use Rattle.terms.proofs.Answers.{clash, took}
 use Rattle.terms.proofs.Forced.{or-right}
-use Rattle.terms.proofs.Steps.{seek-some}
-use Rattle.terms.proofs.Lists.{every-in, every-at, at-within}
+use Rattle.terms.proofs.Lists.{every-in, every-at, at-within, seek-some}
 use Rattle.terms.proofs.Alike.{fits-defs}
 
 all-granted : (x : Label) → granted allRights x ≡ true
@@ -58,10 +57,10 @@ module _ (ds : List Def) (e : Edition) where
       ap (λ F. some (λ c. (ok (F (alone calls c)) || (dueGo c && ok (F (alone moves c)))) || some (λ b. ok (F (together c b))) cs) cs) (all-fire ds e)
 
   pub all-choice : (l : Name) (p : ℕ) (c : Component) (net : List Component)
-      → choice All l p c net ≡ cond (ready l c) (cond (ok (fits All (alone calls c))) (accepted (single calls p)) (cond (dueGo c) (accepted (single moves p)) (seek (λ b. ready l b && ok (fits All (together c b))) net >>= λ q. accepted (pair p q)))) (refused 0)
-  unfolding choice
+      → choice All l p c net ≡ cond (ready l c) (cond (ok (fits All (alone calls c))) (accepted (single calls p)) (cond (dueGo c) (accepted (single moves p)) (foremost earlier (λ b. ready l b && ok (fits All (together c b))) net >>= λ q. accepted (pair p q)))) (refused 0)
+  unfolding choice partner
   all-choice l p c net =
-      ap (λ F. cond (ready l c) (cond (ok (F (alone calls c))) (accepted (single calls p)) (cond (dueGo c) (accepted (single moves p)) (seek (λ b. ready l b && ok (F (together c b))) net >>= λ q. accepted (pair p q)))) (refused 0)) (all-fire ds e)
+      ap (λ F. cond (ready l c) (cond (ok (F (alone calls c))) (accepted (single calls p)) (cond (dueGo c) (accepted (single moves p)) (foremost earlier (λ b. ready l b && ok (F (together c b))) net >>= λ q. accepted (pair p q)))) (refused 0)) (all-fire ds e)
 
 -- it fits and lacks its right
 pub no-right : (d : Context) (x : Firing) (f : Fired) → fits d x ≡ accepted f → granted (d .rights) (f .label) ≡ false → fire d x ≡ refused 20

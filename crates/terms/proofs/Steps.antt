@@ -16,17 +16,18 @@ use Rattle.terms.specs.Terms.Process.{one, _∥_}
 use Rattle.terms.specs.Terms.Value.{loc, var}
 use Rattle.terms.specs.Terms.Mark.{none, by}
 use Rattle.terms.specs.Terms.Component.{comp}
-use Rattle.terms.specs.Rules.{Answer, Kind, Firing, Fired, Action, Acted, ok, _>>=_, at, set, setAll, seek, some, locations, body, becomes, meet, fits, fire, positions, firingAt, act, ready, dueGo, urgent, forced, tickWith, tick, pass}
+use Rattle.terms.specs.Rules.{Answer, Kind, Firing, Fired, Action, Acted, ok, _>>=_, at, set, setAll, some, locations, body, becomes, meet, fits, fire, positions, firingAt, act, ready, dueGo, urgent, forced, tickWith, tick, pass}
 use Rattle.terms.specs.Rules.Answer.{refused, accepted}
 use Rattle.terms.specs.Rules.Kind.{calls, moves}
 use Rattle.terms.specs.Rules.Firing.{alone, together}
 use Rattle.terms.specs.Rules.Action.{single, pair}
 use Rattle.terms.specs.Runs.{here, placeOf}
-use Rattle.terms.specs.Step.{Done, Swept, actAt, actAll, wholeStep, choice, idle, tookPlace, taken, followed, visit, sweep, fires, step}
+use Rattle.terms.specs.Step.{Done, Swept, actAt, actAll, wholeStep, partner, choice, idle, tookPlace, taken, followed, visit, sweep, fires, step}
 use Rattle.terms.proofs.Names.{and-inv, name-refl}
 use Rattle.terms.proofs.Answers.{clash, took, bind-inv, cond-inv, fire-fits, unfit}
 use Rattle.terms.proofs.Mixed.{Shape, shape-of, act-ok}
 use Rattle.terms.proofs.Mixed.Shape.{one-shape, two-shape}
+use Rattle.terms.proofs.Partner.{partner-some, partner-none}
 use Rattle.terms.proofs.Forced.{presses, forced-is, ok-inv, ready-place, some-at, some-find}
 
 -- ── where an action fires ──
@@ -124,21 +125,21 @@ true-or-false false = inr refl
 abbrev pub Quiet : Context → Name → ℕ → List Component → Type 0
 Quiet d l n net = (p : ℕ) (c : Component) → p < n → at net p ≡ accepted c → presses d l net c ≡ false
 
-abbrev partner : Context → Name → Component → Component → Bool
-partner d l c e = ready l e && ok (fire d (together c e))
+abbrev fitting : Context → Name → Component → Component → Bool
+fitting d l c e = ready l e && ok (fire d (together c e))
 
-partner-fewer : (d : Context) (l : Name) (net net′ : List Component) (c : Component) → Fewer net net′ → some (partner d l c) net′ ≡ true → some (partner d l c) net ≡ true
-partner-fewer d l net net′ c f s = let r = some-find (partner d l c) net′ s in there (r .0) (r .1) (r .3) (f (r .0) (r .1) (r .2))
+partner-fewer : (d : Context) (l : Name) (net net′ : List Component) (c : Component) → Fewer net net′ → some (fitting d l c) net′ ≡ true → some (fitting d l c) net ≡ true
+partner-fewer d l net net′ c f s = let r = some-find (fitting d l c) net′ s in there (r .0) (r .1) (r .3) (f (r .0) (r .1) (r .2))
   where
-    there : (p : ℕ) (x : Component) → partner d l c x ≡ true → (at net p ≡ accepted x) ⊎ ((l : Name) → ready l x ≡ false) → some (partner d l c) net ≡ true
-    there p x t (inl h) = some-at (partner d l c) net p x h t
+    there : (p : ℕ) (x : Component) → fitting d l c x ≡ true → (at net p ≡ accepted x) ⊎ ((l : Name) → ready l x ≡ false) → some (fitting d l c) net ≡ true
+    there p x t (inl h) = some-at (fitting d l c) net p x h t
     there p x t (inr h) = absurd (not-both _ (and-inv (ready l x) _ t .0) (h l))
 
 presses-fewer : (d : Context) (l : Name) (net net′ : List Component) (c : Component) → Fewer net net′ → presses d l net c ≡ false → presses d l net′ c ≡ false
 unfolding presses
-presses-fewer d l net net′ c f e = go (ready l c) (urgent d c) e (true-or-false (some (partner d l c) net′))
+presses-fewer d l net net′ c f e = go (ready l c) (urgent d c) e (true-or-false (some (fitting d l c) net′))
   where
-    go : (a b : Bool) → (a && (b || some (partner d l c) net)) ≡ false → (some (partner d l c) net′ ≡ true) ⊎ (some (partner d l c) net′ ≡ false) → (a && (b || some (partner d l c) net′)) ≡ false
+    go : (a b : Bool) → (a && (b || some (fitting d l c) net)) ≡ false → (some (fitting d l c) net′ ≡ true) ⊎ (some (fitting d l c) net′ ≡ false) → (a && (b || some (fitting d l c) net′)) ≡ false
     go false b e s = refl
     go true true e s = e
     go true false e (inl s) = absurd (not-both _ (partner-fewer d l net net′ c f s) e)
@@ -156,29 +157,6 @@ quiet-fewer d l n net net′ f q p c h e = go (f p c e)
     go (inr r) = presses-ready d l net′ c (r l)
 
 -- ── one position of the sweep ──
-seek-none : {A : Type 0} (f : A → Bool) (xs : List A) (n : ℕ) → seek f xs ≡ refused n → some f xs ≡ false
-unfolding seek some
-seek-none f [] n e = refl
-seek-none f (x ∷ xs) n e = go (f x) (seek f xs) refl e (seek-none f xs)
-  where
-    go : (b : Bool) (s : Answer ℕ) → seek f xs ≡ s → cond b (accepted 0) (s >>= λ p. accepted (suc p)) ≡ refused n → ((m : ℕ) → seek f xs ≡ refused m → some f xs ≡ false) → (b || some f xs) ≡ false
-    go true s q e k = clash (sym e)
-    go false (refused m) q e k = k m q
-    go false (accepted p) q e k = clash (sym e)
-
-pub seek-some : {A : Type 0} (f : A → Bool) (xs : List A) (p : ℕ) → seek f xs ≡ accepted p → (x : A) × (at xs p ≡ accepted x) × (f x ≡ true)
-unfolding seek at
-seek-some f [] p e = clash e
-seek-some {A} f (x ∷ xs) p e = go (f x) refl (seek f xs) refl p e (seek-some f xs)
-  where
-    go : (b : Bool) → f x ≡ b → (s : Answer ℕ) → seek f xs ≡ s → (p : ℕ) → cond b (accepted 0) (s >>= λ p. accepted (suc p)) ≡ accepted p
-        → ((m : ℕ) → seek f xs ≡ accepted m → (y : A) × (at xs m ≡ accepted y) × (f y ≡ true)) → (y : A) × (at (x ∷ xs) p ≡ accepted y) × (f y ≡ true)
-    go true q s h zero e k = (x, refl, q)
-    go true q s h (suc p) e k = let z : _≡_ {A = ℕ} 0 (suc p) = took e in absurd (omega arith)
-    go false q (refused n) h p e k = clash e
-    go false q (accepted m) h zero e k = let z : _≡_ {A = ℕ} (suc m) 0 = took e in absurd (omega arith)
-    go false q (accepted m) h (suc p) e k = let z : _≡_ {A = ℕ} (suc m) (suc p) = took e in let w : m ≡ p = omega arith in k p (h ∙ ap accepted w)
-
 -- an action that the step chooses at c, which stands at p: what it is
 pub data Chosen (d : Context) (l : Name) (p : ℕ) (c : Component) (net : List Component) : Answer Action → Type 0 where
   called-there : {f : Fired} → ready l c ≡ true → fire d (alone calls c) ≡ accepted f → Chosen d l p c net (accepted (single calls p))
@@ -191,24 +169,24 @@ and-none true = refl
 and-none false = refl
 
 -- no call, no move with timer 0 and no partner
-quiet : (d : Context) (l : Name) (c : Component) (net : List Component) → ok (fire d (alone calls c)) ≡ false → (dueGo c && ok (fire d (alone moves c))) ≡ false → some (partner d l c) net ≡ false → presses d l net c ≡ false
+quiet : (d : Context) (l : Name) (c : Component) (net : List Component) → ok (fire d (alone calls c)) ≡ false → (dueGo c && ok (fire d (alone moves c))) ≡ false → some (fitting d l c) net ≡ false → presses d l net c ≡ false
 unfolding presses urgent
 quiet d l c net k u s = rw (k, u, s) (and-none (ready l c))
 
 chosen : (d : Context) (l : Name) (p : ℕ) (c : Component) (net : List Component) → Chosen d l p c net (choice d l p c net)
 unfolding choice
-chosen d l p c net = go (ready l c) refl (fire d (alone calls c)) refl (dueGo c) refl (seek (partner d l c) net) refl
+chosen d l p c net = go (ready l c) refl (fire d (alone calls c)) refl (dueGo c) refl (partner d l c net) refl
   where
-    go : (a : Bool) → ready l c ≡ a → (k : Answer Fired) → fire d (alone calls c) ≡ k → (u : Bool) → dueGo c ≡ u → (s : Answer ℕ) → seek (partner d l c) net ≡ s
+    go : (a : Bool) → ready l c ≡ a → (k : Answer Fired) → fire d (alone calls c) ≡ k → (u : Bool) → dueGo c ≡ u → (s : Answer ℕ) → partner d l c net ≡ s
         → Chosen d l p c net (cond a (cond (ok k) (accepted (single calls p)) (cond u (accepted (single moves p)) (s >>= λ q. accepted (pair p q)))) (refused 0))
     go false r k ek u eu s es = nothing-there (presses-ready d l net c r)
     go true r (accepted f) ek u eu s es = called-there r ek
     go true r (refused m) ek true eu s es = due-there r eu
     go true r (refused m) ek false eu (accepted q) es =
-        let t = seek-some (partner d l c) net q es in
+        let t = partner-some d l c net q es in
         let o = ok-inv (fire d (together c (t .0))) (and-inv (ready l (t .0)) _ (t .2) .1) in
         sent-there r (t .1) (o .1)
-    go true r (refused m) ek false eu (refused n) es = nothing-there (quiet d l c net (ap ok ek) (rw eu) (seek-none (partner d l c) net n es))
+    go true r (refused m) ek false eu (refused n) es = nothing-there (quiet d l c net (ap ok ek) (rw eu) (partner-none d l c net n es))
 
 -- a `go` is no call, and no output
 due-only : (d : Context) (l : Name) (c : Component) (net : List Component) → dueGo c ≡ true → ok (fire d (alone moves c)) ≡ false → presses d l net c ≡ false
@@ -221,15 +199,15 @@ due-only d l (comp h none (one (inp c t y p q))) net e f = absurd (false≢true 
 due-only d l (comp h none (one (call i vs))) net e f = absurd (false≢true e)
 due-only d l (comp h none (one (go t v p))) net e f = quiet d l _ net (unfit d _ refl) (rw (e, f)) (lonely net)
   where
-    alone : (x : Component) → ok (fits d (together (comp h none (one (go t v p))) x)) ≡ false → partner d l (comp h none (one (go t v p))) x ≡ false
+    alone : (x : Component) → ok (fits d (together (comp h none (one (go t v p))) x)) ≡ false → fitting d l (comp h none (one (go t v p))) x ≡ false
     alone x e = rw (unfit d _ e) (and-none (ready l x))
 
-    nobody : (x : Component) → partner d l (comp h none (one (go t v p))) x ≡ false
+    nobody : (x : Component) → fitting d l (comp h none (one (go t v p))) x ≡ false
     nobody (comp k (by m) q) = alone _ refl
     nobody (comp k none (a ∥ q)) = alone _ refl
     nobody (comp k none (one a)) = alone _ refl
 
-    lonely : (net : List Component) → some (partner d l (comp h none (one (go t v p)))) net ≡ false
+    lonely : (net : List Component) → some (fitting d l (comp h none (one (go t v p)))) net ≡ false
     lonely [] = refl
     lonely (x ∷ xs) = rw (nobody x) (lonely xs)
 

@@ -151,6 +151,40 @@ example10 : step bare A ((A $ out c (ticks 1) (loc B) halt halt) ∷ (A $ out c 
 unfolding rules
 example10 = refl
 
+-- ── document 02, R-3: the most urgent reader first ──
+abbrev reads : Timer → Component
+reads t = A $ inp c t x halt halt
+
+abbrev hands : Name → Component
+hands v = A $ out c inf (loc v) halt halt
+
+abbrev other : Name
+other = bytes "other"
+
+-- the actions of the step at A
+abbrev served : List Component → Answer (List Action)
+served net = step bare A net >>= λ s. accepted (s .actions)
+
+-- two index heads: the one about to time out is served, though it stands higher
+urgent-reader : served (hands B ∷ reads (ticks 3) ∷ reads (ticks 0) ∷ []) ≡ accepted (pair 0 2 ∷ [])
+unfolding rules
+urgent-reader = refl
+
+-- inf last, and the lowest position among equals
+urgent-order : served (hands B ∷ hands A ∷ hands B ∷ hands A ∷ reads inf ∷ reads (ticks 1_000_000) ∷ reads (ticks 2) ∷ reads (ticks 2) ∷ []) ≡ accepted (pair 0 6 ∷ pair 1 7 ∷ pair 2 5 ∷ pair 3 4 ∷ [])
+unfolding rules
+urgent-order = refl
+
+-- an input of another channel or at another location is not looked at
+urgent-own : served (hands B ∷ (A $ inp other (ticks 0) x halt halt) ∷ (B $ inp c (ticks 0) x halt halt) ∷ reads (ticks 5) ∷ []) ≡ accepted (pair 0 3 ∷ [])
+unfolding rules
+urgent-own = refl
+
+-- a single action and a proposal may take any input
+urgent-any : ok (act bare (pair 0 1) (hands B ∷ reads (ticks 3) ∷ reads (ticks 0) ∷ [])) ≡ true
+unfolding rules
+urgent-any = refl
+
 -- ── 11: by the rules the tick gives 257 components; question 13 is the table's ──
 example11 : (tick bare A (comp A (by A) (stop ∥ halt) ∷ replicate 255 (A $ stop)) >>= λ n. accepted (length n)) ≡ accepted 257
 unfolding rules

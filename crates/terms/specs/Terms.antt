@@ -2,10 +2,10 @@
 use Prim.Native.Nat.{ℕ, _-_}
 use mathlib.Core.List.{List}
 use mathlib.Core.Bool.{Bool, true, false}
-use lib.Dec.{eqb, leb}
+use lib.Dec.{eqb, leb, ltb}
 use Rattle.terms.specs.Names.{Name}
 
--- A timer is a number of ticks or inf. Nothing looks into a timer but the three functions below.
+-- A timer is a number of ticks or inf. Nothing looks into a timer but the four functions below.
 pub data Timer : Type 0 where
   ticks : ℕ → Timer
   inf : Timer
@@ -31,6 +31,12 @@ expired edition2 inf = false
 unfoldable pub due : Timer → Bool
 due (ticks n) = eqb n 0
 due inf = false
+
+-- it runs out before the other one: the lesser number, and any number before inf (document 02, R-3)
+unfoldable pub sooner : Timer → Timer → Bool
+sooner (ticks m) (ticks n) = ltb m n
+sooner (ticks m) inf = true
+sooner inf u = false
 
 -- what stands in a value's place: a location or a variable
 pub data Value : Type 0 where

@@ -8,15 +8,19 @@ use crate::calls::{Engine, Record};
 use crate::lists::Call;
 use crate::random::Random;
 use crate::rules::{Action, Rules};
-use crate::term::{Component, Network, Part, Script};
+use crate::term::{Component, Network, Part, Script, Timer};
 use crate::writing;
 
-/// That many calls from a network just read.
+/// That many calls from a network just read. One list in four begins with a step.
 pub fn calls(random: &mut Random, network: Network, count: usize) -> Vec<Call> {
     let mut network = network;
     let mut calls = Vec::new();
-    for _ in 0..count {
-        let call = call(random, &network);
+    for index in 0..count {
+        let call = if index == 0 && random.chance(1, 4) {
+            step(random, &network)
+        } else {
+            call(random, &network)
+        };
         if let Some(next) = next(&network, &call) {
             network = next;
         }
@@ -26,7 +30,7 @@ pub fn calls(random: &mut Random, network: Network, count: usize) -> Vec<Call> {
 }
 
 /// The network after a call, if the call changes it.
-fn next(network: &Network, call: &Call) -> Option<Network> {
+pub fn next(network: &Network, call: &Call) -> Option<Network> {
     let engine = Engine::default();
     match call {
         Call::Action(record) => engine.action(network, *record).ok().map(|(next, _)| next),
@@ -47,7 +51,7 @@ fn next(network: &Network, call: &Call) -> Option<Network> {
 }
 
 fn call(random: &mut Random, network: &Network) -> Call {
-    match random.weighted(&[38, 8, 12, 16, 6, 10, 4, 4, 2, 4, 4]) {
+    match random.weighted(&[38, 8, 12, 16, 6, 10, 9, 4, 2, 4, 4, 3]) {
         0 => enabled_action(random, network),
         1 => Call::Action(any_record(random, network)),
         2 => Call::Action(fitting_record(random, network)),
@@ -58,7 +62,8 @@ fn call(random: &mut Random, network: &Network) -> Call {
         7 => Call::Forced,
         8 => Call::Keep,
         9 => same(random, network),
-        _ => write(random, network),
+        10 => write(random, network),
+        _ => Call::Tick(location_of_a_last_chance(random, network)),
     }
 }
 
@@ -207,12 +212,52 @@ fn quiet_location(random: &mut Random, network: &Network) -> u32 {
     }
 }
 
+/// A location where a pair may meet of which one has timer 0, if there is one.
+fn location_of_a_last_chance(random: &mut Random, network: &Network) -> u32 {
+    let components = &network.components;
+    let at_zero = |position: usize| match components[position].ready_part() {
+        Some(Part::In { timer, .. } | Part::Out { timer, .. }) => *timer == Timer::Ticks(0),
+        _ => false,
+    };
+    let (enabled, _) = fitting(&network.script, components, None);
+    let last = enabled.iter().filter_map(|action| match action {
+        Action::Communication(p, q) if at_zero(*p) || at_zero(*q) => Some(*p),
+        _ => None,
+    });
+    location_of_one(random, network, &last.collect::<Vec<usize>>())
+}
+
+/// The location of one of these components, or any where there is none.
+fn location_of_one(random: &mut Random, network: &Network, of: &[usize]) -> u32 {
+    if of.is_empty() {
+        return any_location(random, network);
+    }
+    let at = &network.components[*random.pick(of)].location;
+    let number = network.script.location(at);
+    number.map_or_else(|| any_location(random, network), |number| number as u32)
+}
+
 // --- steps and proposals -------------------------------------------------------
 
 fn step(random: &mut Random, network: &Network) -> Call {
-    let location = any_location(random, network);
+    let location = if random.chance(1, 2) {
+        location_with_a_choice(random, network)
+    } else {
+        any_location(random, network)
+    };
     let room = [256, 0, 1, 2, 300][random.weighted(&[10, 2, 2, 1, 1])];
     Call::Step { location, room }
+}
+
+/// A location where an output may meet one of several inputs, if there is one.
+fn location_with_a_choice(random: &mut Random, network: &Network) -> u32 {
+    let (enabled, _) = fitting(&network.script, &network.components, None);
+    let choice = |pair: &[Action]| match pair {
+        [Action::Communication(p, _), Action::Communication(again, _)] if p == again => Some(*p),
+        _ => None,
+    };
+    let outputs: Vec<usize> = enabled.windows(2).filter_map(choice).collect();
+    location_of_one(random, network, &outputs)
 }
 
 /// Actions at one location until its tick is allowed; at times one too few, or

@@ -4,6 +4,7 @@
 //! |----------|----------------------------------------------------------------|
 //! | `draft`  | scripts as lists of tokens, and their spacing                  |
 //! | `random_script` | readable scripts from few names, so that many meet      |
+//! | `urgent` | readable scripts with several inputs for an output             |
 //! | `edges`  | every limit and one past it; deep and long texts               |
 //! | `damage` | damaged texts, and texts that several questions refuse         |
 //! | `hostile` | deep, long and wide texts with their numbers              |
@@ -20,6 +21,7 @@ pub mod faults;
 pub mod hostile;
 pub mod random_script;
 pub mod rights;
+pub mod urgent;
 pub mod vectors;
 
 pub use self::rights::rights;
@@ -45,12 +47,14 @@ pub fn script(seed: u64) -> Vec<u8> {
     }
 }
 
-/// A text that is meant to be read and then run; one in ten is of any sort.
+/// A text that is meant to be read and then run; one in five has several inputs for
+/// an output, one in ten is of any sort.
 pub fn script_to_run(seed: u64) -> Vec<u8> {
     let mut random = Random::new(seed);
-    match random.weighted(&[84, 6, 10]) {
+    match random.weighted(&[64, 6, 20, 10]) {
         0 => random_script::text(&mut random),
         1 => random_script::crowded_text(&mut random),
+        2 => urgent::text(&mut random),
         _ => script(seed.wrapping_add(1)),
     }
 }

@@ -1,6 +1,6 @@
 //! Small scripts with what `timorun` prints on them, to be stored and run by
-//! another engine: most run to their end, some are refused by each question
-//! that a small text can meet.
+//! another engine: most run to their end, some of them with several inputs for an
+//! output, and some are refused by each question that a small text can meet.
 //!
 //! Several scripts stand in one text, each followed by a line `#`, and so do
 //! their printouts. The sign stands nowhere else in a script or a printout.
@@ -9,7 +9,7 @@ use std::collections::HashSet;
 
 use super::damage::damage_tokens;
 use super::draft::{cut, spaced};
-use super::random_script;
+use super::{random_script, urgent};
 use crate::calls::Engine;
 use crate::program;
 use crate::random::Random;
@@ -64,8 +64,12 @@ pub fn vectors(seed: u64, count: usize) -> Vec<Vector> {
 
 /// A small script that is meant to end so.
 fn script(random: &mut Random, end: End) -> Vec<u8> {
-    let located = random.between(1, 4);
-    let mut draft = random_script::draft(random, located);
+    let mut draft = if end == End::Met && random.chance(1, 2) {
+        urgent::draft(random)
+    } else {
+        let located = random.between(1, 4);
+        random_script::draft(random, located)
+    };
     if let End::Refused(number) = end {
         let faults = faults(number);
         if let Some((definition, component)) = faults.get(random.below(2)) {
