@@ -222,7 +222,14 @@ fn urgent() -> Result<(), u32> {
     println!("two heads:");
     step(&mut table, 0)?;
     put_network(&table);
-    proposed.propose(0, &[Record { kind: 3, p: 0, q: 1 }])?;
+    proposed.propose(
+        0,
+        &[Record {
+            kind: 3,
+            p: 0,
+            q: 1,
+        }],
+    )?;
     put_network(&proposed);
     Ok(())
 }

@@ -353,14 +353,7 @@ fn a_full_location_on_one_channel() {
 /// The networks above tell every wrong choice apart, by the reference engine alone.
 #[test]
 fn the_networks_tell_the_wrong_choices_apart() {
-    for variant in [
-        Variant::FiresHighestOfEquals,
-        Variant::FiresLowestInput,
-        Variant::FiresInfFirst,
-        Variant::FiresGreatestTimer,
-        Variant::FiresLeastOfAnyChannel,
-        Variant::FiresReadyAtFirst,
-    ] {
+    for variant in Variant::WRONG_CHOICES {
         let told = HEARD.into_iter().filter(|heard| {
             let shape = Shape {
                 count: 16,

@@ -104,6 +104,16 @@ pub enum Variant {
 }
 
 impl Variant {
+    /// The wrong choices of a step's partner: document 02, R-3.
+    pub const WRONG_CHOICES: [Variant; 6] = [
+        Variant::FiresHighestOfEquals,
+        Variant::FiresLowestInput,
+        Variant::FiresInfFirst,
+        Variant::FiresGreatestTimer,
+        Variant::FiresLeastOfAnyChannel,
+        Variant::FiresReadyAtFirst,
+    ];
+
     /// Every variant with a mistake that the answers to a list can show.
     pub const WRONG: [Variant; 34] = [
         Variant::TimesOutPairAtZero,

@@ -54,18 +54,13 @@ fn the_claim_is_broken_by_every_variant_that_the_rules_exclude() {
         let broken = cases.iter().any(breaks);
         let within = matches!(
             variant,
-            Variant::FiresHighestOfEquals
-                | Variant::FiresLowestInput
-                | Variant::FiresInfFirst
-                | Variant::FiresGreatestTimer
-                | Variant::FiresLeastOfAnyChannel
-                | Variant::FiresReadyAtFirst
-                | Variant::ForcesGoAtOne
+            Variant::ForcesGoAtOne
                 | Variant::GoWithoutRightStopsTick
                 | Variant::PairWithoutRightStopsTick
                 | Variant::AsksRightFirst
                 | Variant::AsksRightLast
         );
+        let within = within || Variant::WRONG_CHOICES.contains(&variant);
         assert_eq!(broken, !within, "{variant:?}");
     }
 }

@@ -14,7 +14,6 @@ use Rattle.terms.specs.Same.{every}
 use Rattle.terms.specs.Rules.{Answer, Action, at}
 use Rattle.terms.specs.Rules as R
 use Rattle.terms.specs.Rules.Answer.{refused, accepted}
-use Rattle.terms.proofs.Answers.{took}
 use Rattle.table.specs.declared.Comp.{Comp}
 use Rattle.table.specs.declared.State.{State}
 use Rattle.table.specs.declared.Head.{Head}
@@ -38,7 +37,7 @@ use Rattle.calls_wait.specs.Waits.{hearers, Chain, Queued}
 use Rattle.calls_wait.proofs.Waiting.{foremost-of}
 use Rattle.calls_step.specs.Visit.{sendsBy, sendsAt, kindAt, kindBy, Performed, otherOf, poppedOf, recBy, kindOf}
 use Rattle.calls_step.proofs.Queues.{sends-fits}
-use Rattle.calls_step.proofs.Sweeping.{recsOf, Turned, turned-none, turned-some}
+use Rattle.calls_step.proofs.Sweeping.{put-same, recsOf, Turned, turned-none, turned-some}
 
 pub record Going (w : List ℕ) (l : ℕ) (st now : State) (heads nexts : List ℕ) (before acts : List (List ℕ)) (count p : ℕ) : Type 0 where
   pub few-p : p ≤ st .n
@@ -76,13 +75,6 @@ pub sweep-steady : (w : List ℕ) → scriptOk w ≡ true → (l n p : ℕ) (cs 
 unfolding sweepAt
 sweep-steady w g l zero p cs o e = e
 sweep-steady w g l (suc n) p cs o e = sweep-steady w g l n (suc p) _ (visit-fine w g l p (at cs p) cs o) (visit-keeps w (staysOne w l) l p (at cs p) cs e (act-steady w l g cs o e))
-
--- what stands at a position put there
-set-here : (cs : List Comp) (p : ℕ) (x : Comp) → at cs p ≡ accepted x → R.set cs p x ≡ cs
-unfolding R.set at
-set-here [] p x e = refl
-set-here (c ∷ cs) zero x e = ap (λ z. z ∷ cs) (sym (took e))
-set-here (c ∷ cs) (suc p) x e = ap (λ z. c ∷ z) (set-here cs p x e)
 
 -- ── records ──
 -- 1 for an action, 0 for none
@@ -303,7 +295,7 @@ module _ (w : List ℕ) (good : scriptOk w ≡ true) (l : ℕ) (st now : State) 
     }
 
     kept : (y : ℕ) → getD heads (sendsAt w l (compIn (now .c) p)) 0 ≡ y → y ≡ 0 → R.set (R.set (compsOf now) p (compIn (now .c) p)) (otherOf p y) (compIn (now .c) (otherOf p y)) ≡ compsOf now
-    kept zero e z = let a = set-here (compsOf now) p (compIn (now .c) p) (at-here p h) in ap (λ cs. R.set cs p (compIn (now .c) p)) a ∙ a
+    kept zero e z = let a = put-same (compsOf now) p (compIn (now .c) p) (at-here p h) in ap (λ cs. R.set cs p (compIn (now .c) p)) a ∙ a
     kept (suc q) e z = absurd (omega arith)
 
     pub going-idle : Going w l st now heads nexts before acts count (p + 1)

@@ -15,6 +15,7 @@ use Rattle.terms.specs.Rules.Kind.{calls, moves}
 use Rattle.terms.specs.Rules.Action.{single, pair}
 use Rattle.terms.proofs.Names.{and-inv}
 use Rattle.terms.proofs.Answers.{clash, took}
+use Rattle.terms.proofs.Lists.{length-set}
 use Rattle.table.specs.declared.Comp.{Comp}
 use Rattle.table.specs.declared.Head.{Head}
 use Rattle.table.specs.declared.Head.the-variants.{Stop, Go, Out, In, Call}
@@ -53,12 +54,6 @@ at-put-other (x ∷ xs) zero zero z y e n = absurd (n refl)
 at-put-other (x ∷ xs) zero (suc q) z y e n = e
 at-put-other (x ∷ xs) (suc p) zero z y e n = e
 at-put-other (x ∷ xs) (suc p) (suc q) z y e n = at-put-other xs p q z y e (λ h. n (ap suc h))
-
-length-put : {A : Type 0} (xs : List A) (p : ℕ) (y : A) → length (R.set xs p y) ≡ length xs
-unfolding R.set
-length-put [] p y = refl
-length-put (x ∷ xs) zero y = refl
-length-put (x ∷ xs) (suc p) y = ap suc (length-put xs p y)
 
 -- ── what an action leaves is marked ──
 left-unready : (w : List ℕ) (l k m i : ℕ) (vs : List ℕ) → scriptOk w ≡ true → k < locsIn w → readyAt l (leftAt k m i vs) ≡ false
@@ -192,7 +187,7 @@ fires-two w l p q d cs c e v m g few i j a b o u s n r x y = record {
     cs₁ = R.set cs p (m .sender)
 
     few₁ : length (R.set cs p (m .sender)) ≤ 256
-    few₁ = omega (arith, length-put cs p (m .sender))
+    few₁ = omega (arith, length-set cs p (m .sender))
 
     after : g .after ≡ m .sender ∷ m .receiver ∷ []
     after = two-inv m g (o ∙ b)

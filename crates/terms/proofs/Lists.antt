@@ -6,7 +6,7 @@ use mathlib.Core.Bool.{Bool, true, false, cond, _||_}
 use mathlib.Core.Path.{_≡_, refl, ap, sym, _∙_}
 use lib.ListN.{length}
 use Rattle.terms.specs.Same.{every}
-use Rattle.terms.specs.Rules.{Answer, _>>=_, at, seek, some}
+use Rattle.terms.specs.Rules.{Answer, _>>=_, at, set, seek, some}
 use Rattle.terms.specs.Rules.Answer.{refused, accepted}
 use Rattle.terms.proofs.Names.{and-inv, and-in}
 use Rattle.terms.proofs.Answers.{clash, took}
@@ -27,6 +27,12 @@ unfolding at
 at-within [] p x e = clash e
 at-within (y ∷ ys) zero x e = omega arith
 at-within (y ∷ ys) (suc p) x e = omega (arith, at-within ys p x e)
+
+pub length-set : {A : Type 0} (xs : List A) (p : ℕ) (y : A) → length (set xs p y) ≡ length xs
+unfolding set
+length-set [] p y = refl
+length-set (x ∷ xs) zero y = refl
+length-set (x ∷ xs) (suc p) y = ap suc (length-set xs p y)
 
 -- ── the first that passes a test ──
 pub seek-none : {A : Type 0} (f : A → Bool) (xs : List A) (n : ℕ) → seek f xs ≡ refused n → some f xs ≡ false

@@ -12,7 +12,7 @@ use Rattle.terms.specs.Rules.{ok, at, some, fire, ready}
 use Rattle.terms.specs.Rules.Answer.{refused, accepted}
 use Rattle.terms.specs.Rules.Firing.{together}
 use Rattle.terms.specs.Step.{timerIn, earlier, foremost, partner}
-use Rattle.terms.proofs.Names.{and-inv}
+use Rattle.terms.proofs.Names.{and-inv, not-both}
 use Rattle.terms.proofs.Answers.{took}
 use Rattle.terms.proofs.Forced.{some-at, some-find}
 use Rattle.terms.proofs.Lists.{seek-none, seek-some, seek-lowest}
@@ -37,9 +37,6 @@ sooner-through (ticks k) inf v e h = absurd (false≢true (sym e))
 sooner-through inf u v e h = refl
 
 -- ── what an order puts first ──
-not-both : (b : Bool) → b ≡ true → b ≡ false → ⊥
-not-both b p q = false≢true (sym q ∙ p)
-
 not-inv : (b : Bool) → not b ≡ true → b ≡ false
 not-inv true e = absurd (false≢true e)
 not-inv false e = refl

@@ -23,10 +23,11 @@ use Rattle.terms.specs.Rules.Firing.{alone, together}
 use Rattle.terms.specs.Rules.Action.{single, pair}
 use Rattle.terms.specs.Runs.{here, placeOf}
 use Rattle.terms.specs.Step.{Done, Swept, actAt, actAll, wholeStep, partner, choice, idle, tookPlace, taken, followed, visit, sweep, fires, step}
-use Rattle.terms.proofs.Names.{and-inv, name-refl}
+use Rattle.terms.proofs.Names.{and-inv, not-both, name-refl}
 use Rattle.terms.proofs.Answers.{clash, took, bind-inv, cond-inv, fire-fits, unfit}
 use Rattle.terms.proofs.Mixed.{Shape, shape-of, act-ok}
 use Rattle.terms.proofs.Mixed.Shape.{one-shape, two-shape}
+use Rattle.terms.proofs.Lists.{length-set}
 use Rattle.terms.proofs.Partner.{partner-some, partner-none}
 use Rattle.terms.proofs.Forced.{presses, forced-is, ok-inv, ready-place, some-at, some-find}
 
@@ -114,9 +115,6 @@ act-fewer d a net r e =
     rw (← took (t .2)) (fewer-all a net (shape-of d (u .0) (t .0) (t .1)))
 
 -- ── what does not press, with fewer ready components still does not ──
-not-both : (b : Bool) → b ≡ true → b ≡ false → ⊥
-not-both b p q = false≢true (sym q ∙ p)
-
 true-or-false : (b : Bool) → (b ≡ true) ⊎ (b ≡ false)
 true-or-false true = inl refl
 true-or-false false = inr refl
@@ -212,12 +210,6 @@ due-only d l (comp h none (one (go t v p))) net e f = quiet d l _ net (unfit d _
     lonely (x ∷ xs) = rw (nobody x) (lonely xs)
 
 -- ── what the step does at one position ──
-length-set : {A : Type 0} (xs : List A) (p : ℕ) (y : A) → length (set xs p y) ≡ length xs
-unfolding set
-length-set [] p y = refl
-length-set (x ∷ xs) zero y = refl
-length-set (x ∷ xs) (suc p) y = ap suc (length-set xs p y)
-
 pub length-setAll : {A : Type 0} (ps : List ℕ) (ys xs : List A) → length (setAll ps ys xs) ≡ length xs
 unfolding setAll
 length-setAll [] ys xs = refl
