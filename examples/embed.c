@@ -1,7 +1,8 @@
 /* The library from C, and as it stands from C++: document 01's network read,
  * stepped and printed as timorun prints it, then the single calls, what is
- * refused, a text under both editions, an embargo by rights, and two index heads of
- * which the more urgent one is served. Every function of timo.h is called. */
+ * refused, a text under both editions, an embargo by rights, two index heads of
+ * which the more urgent one is served, and how long articles waited. Every function of
+ * timo.h is called. */
 #include <stdio.h>
 #include <string.h>
 #include "timo.h"
@@ -25,6 +26,11 @@ static const char pages[] =
 /* A page and two index heads, of which the second is about to time out. */
 static const char heads[] =
     "Index[out(page,inf,Monday,stop,stop) | in(page,3,x,stop,stop) | in(page,0,x,stop,go(0,Missed,stop))] .\n";
+
+/* Three articles at the desk, and two readers that come later. */
+static const char articles[] =
+    "Desk[out(page,9,Monday,stop,stop) | out(page,9,Tuesday,stop,stop) | out(page,9,Friday,stop,stop) | "
+    "go(1,Desk,in(page,9,x,stop,stop)) | go(2,Desk,in(page,9,x,stop,stop))] .\n";
 
 static uint32_t script[TIMO_WORDS], other[TIMO_WORDS];
 
@@ -68,6 +74,29 @@ static void put_channel(const struct timo_state *state, uint32_t h)
 {
     uint8_t name[TIMO_NAME];
     put(timo_channel_name(script, &state->c, state->n, h, name, sizeof name), name);
+}
+
+/* For how many ticks the senders of all messages had waited, on the whole. */
+static void put_mean(const struct timo_state *state)
+{
+    struct timo_averaged mean = timo_mean(script, &state->c, state->n);
+
+    if (mean.count == 0)
+        printf("mean wait: no messages\n");
+    else
+        printf("mean wait: %u and %u/%u\n", (unsigned)mean.quotient, (unsigned)mean.remainder, (unsigned)mean.count);
+}
+
+/* The longest wait of a component that is in use. */
+static void put_longest_wait(const struct timo_state *state)
+{
+    uint32_t longest = 0;
+    size_t p;
+
+    for (p = 0; p < state->n; p++)
+        if (state->c.at[p].wait > longest)
+            longest = state->c.at[p].wait;
+    printf("longest wait: %u\n", (unsigned)longest);
 }
 
 /* What there is, what must happen, and the line of the step to come. */
@@ -249,6 +278,35 @@ static void urgent(void)
     put_network(&proposed);
 }
 
+/* Articles that wait for their readers. Then the count of messages is full: a pair
+ * that could meet stops the tick and may not meet, until the host counts anew. */
+static void waits(void)
+{
+    struct timo_state state = read_text(articles, 1, script).state, full = state;
+    uint32_t records[TIMO_COMPONENTS][3];
+    int round;
+
+    printf("articles:\n");
+    for (round = 0; round < 5; round++) {
+        if (round == 3)
+            full = state;
+        put_longest_wait(&state);
+        put_mean(&state);
+        step(&state, 0);
+    }
+    put_longest_wait(&state);
+    put_mean(&state);
+    printf("a full count:\n");
+    full.c.messages = TIMO_MESSAGES;
+    refused("tick", timo_tick(script, &full.c, full.n, 0).code);
+    refused("step", timo_step(script, &full.c, full.n, 0, records, TIMO_COMPONENTS).code);
+    full.c.messages = full.c.total_low = full.c.total_high = 0;
+    step(&full, 0);
+    put_mean(&full);
+    full.c.at[2].wait = TIMO_WAIT + 1;
+    refused("a wait past the longest", timo_mean(script, &full.c, full.n).code);
+}
+
 int main(void)
 {
     struct timo_reading reading = read_text(page, 1, script);
@@ -267,11 +325,13 @@ int main(void)
         for (l = 0; l < locations; l++)
             step(&state, l);
     put_network(&state);
+    put_mean(&state);
     single_calls(reading.state);
     refusals(reading.state, locations);
     editions();
     rights();
     urgent();
+    waits();
     length = timo_printout((const uint8_t *)page, strlen(page), printed, sizeof printed);
     printf("printout: %zu bytes, %zu where none are lent\n", length, timo_printout((const uint8_t *)page, strlen(page), NULL, 0));
     fwrite(printed, 1, length, stdout);

@@ -34,8 +34,22 @@
  * does not have are not looked at. Nothing else depends on rights: a text that is
  * written does not show them, and timo_same passes over them.
  *
+ * Waits and messages. A component has a wait: 0 when it is read, marked,
+ * unmarked or split off and when it takes its Q, and one more for each tick at its
+ * location that lowers its timer or keeps it, up to TIMO_WAIT. So `inf` waits and a
+ * `go` at timer 0 without its right does; `stop`, which has no timer, does not. A
+ * communication adds the wait of its sender, as it stood before, to a total and
+ * one to a count of messages, which the state holds behind its components; both
+ * are 0 after reading. timo_mean divides one by the other. At most TIMO_MESSAGES
+ * are counted: past them a communication is refused by 18, alone, in a step or in a
+ * proposal. That is a matter of space, as 13 is: a pair that could meet still stops
+ * the tick, and timo_forced reports it. A host that wants to go on writes 0 into
+ * the count and both words of the total. Nothing else depends on waits and
+ * messages: a text that is written does not show them, and timo_same passes over
+ * them.
+ *
  * Words that are not in use. No call looks at the spare words of a component,
- * at the ledger behind the components or at positions past the components in
+ * at those behind the count of messages or at positions past the components in
  * use. After an accepted action, tick, step or proposal all of them are as they
  * were; reading returns zeros there. Of the words of a script behind the row of
  * its last part the calls look at TIMO_EDITION, at the rights and, in a table made
@@ -73,6 +87,8 @@ extern "C" {
 #define TIMO_CHANNELS 64      /* most channels of a network */
 #define TIMO_UNMARKED 64      /* the mark of a component that has none */
 #define TIMO_INF 1000001      /* the timer inf */
+#define TIMO_WAIT 1000000     /* where a wait halts */
+#define TIMO_MESSAGES 1000000 /* most messages that are counted */
 
 #define TIMO_CALL 1           /* the kinds of actions */
 #define TIMO_MOVE 2
@@ -83,7 +99,7 @@ extern "C" {
 #define TIMO_NAME 16          /* the name of a location or a channel */
 #define TIMO_LABEL 51         /* a label */
 #define TIMO_LINE 13329       /* the line of a step, with its line feed */
-#define TIMO_PRINTOUT 3477760 /* a printout */
+#define TIMO_PRINTOUT 3477768 /* a printout */
 
 /* The rights of a location: to send and to receive on a channel, and to leave for
  * another location, by number. */
@@ -101,22 +117,28 @@ struct timo_settings {
 };
 
 /* A component: the numbers of its location and its owner, the place of its
- * part, its timer, the location that each slot of its scope has, and four words
- * that are not used. Question 17
+ * part, its timer, the location that each slot of its scope has, its wait, and
+ * three words that are not used. Question 17
  * asks of each component in use that loc and all eight of vals, also those of
  * slots that nothing reads, are below the number of locations, that mark is too
- * or is TIMO_UNMARKED, and that timer is at most TIMO_INF, marked or not. */
+ * or is TIMO_UNMARKED, that timer is at most TIMO_INF, marked or not, and that wait
+ * is at most TIMO_WAIT. */
 struct timo_comp {
     uint32_t loc, mark, place, timer;
     uint32_t vals[8];
-    uint32_t spare[4];
+    uint32_t wait;
+    uint32_t spare[3];
 };
 
-/* What is lent to a call as components: all of them, and behind them words that
- * are not used. */
+/* What is lent to a call as components: all of them, and behind them the messages
+ * so far: how long their senders had waited in all, in two words, total_low +
+ * 2^32 * total_high, and how many there were. Question 17 asks that messages is at
+ * most TIMO_MESSAGES and the total at most TIMO_WAIT times messages. Then words
+ * that are not used. */
 struct timo_comps {
     struct timo_comp at[TIMO_COMPONENTS];
-    uint32_t ledger[16];
+    uint32_t total_low, total_high, messages;
+    uint32_t spare[13];
 };
 
 /* The first n components are in use. */
@@ -164,6 +186,13 @@ struct timo_report {
     uint32_t count, lowest;   /* how many; the lowest, 64 for none */
 };
 
+struct timo_averaged {
+    uint32_t code;
+    uint32_t count;           /* messages; 0 says that there were none */
+    uint32_t quotient;        /* the total divided by count */
+    uint32_t remainder;       /* what is left, below count; all three are 0 where code is not 0 */
+};
+
 struct timo_written {
     uint32_t code;
     size_t len;               /* bytes written; 0 where code is not 0 */
@@ -200,12 +229,13 @@ bool timo_valid(const uint32_t script[TIMO_WORDS], const struct timo_comps *c, s
 
 /* A single action of kind 1 (call at p), 2 (move at p) or 3 (output at p,
  * input at q). For kinds 1 and 2 q is not looked at. Refusals: 17, 8, 9, 10,
- * 11, 20, in this order. */
+ * 11, 20, 18, in this order. */
 struct timo_acted timo_action(const uint32_t script[TIMO_WORDS], struct timo_comps *c, size_t n, uint32_t kind, size_t p, size_t q);
 
 /* The tick at location l: what is ready there is lowered by one or, if it is an
  * `in` or `out` that has no tick left under the script's edition, becomes its Q,
- * with timers as they stand. Refusals: 17, 8, 12, 13. */
+ * with timers as they stand. Refusals: 17, 8, 12, 13; a full count of messages does
+ * not matter. */
 struct timo_ticked timo_tick(const uint32_t script[TIMO_WORDS], struct timo_comps *c, size_t n, uint32_t l);
 
 /* The step at location l: its actions as records (kind, p, q) in the records
@@ -214,20 +244,29 @@ struct timo_ticked timo_tick(const uint32_t script[TIMO_WORDS], struct timo_comp
  * inf last, the lowest position among equals; a single action and a proposal may
  * take any of them. Records past the count are
  * unchanged; a refusal leaves components, n and records unchanged. Refusals: 17,
- * 8, 15, 13. */
+ * 8, 15, 18, 13; 18 if the messages so far and the communications of this step are
+ * more than TIMO_MESSAGES, so that a step without communications is never
+ * refused by it. */
 struct timo_stepped timo_step(const uint32_t script[TIMO_WORDS], struct timo_comps *c, size_t n, uint32_t l, uint32_t (*records)[3], size_t lent);
 
 /* A proposal at location l: the records in order, so many as are given, then
  * the tick, all or none. Refusals: 17, 8 for the location, for each record 8, 9,
- * 10, 11, 20, 16, then 12, 13. */
+ * 10, 11, 20, 18, 16, then 12, 13; a communication is counted before the next
+ * record is asked. */
 struct timo_ticked timo_propose(const uint32_t script[TIMO_WORDS], struct timo_comps *c, size_t n, uint32_t l, const struct timo_record *records, size_t given);
 
-/* The locations where the tick is not allowed. Refusal: 17. */
+/* The locations where the tick is not allowed, whatever the count of messages.
+ * Refusal: 17. */
 struct timo_report timo_forced(const uint32_t script[TIMO_WORDS], const struct timo_comps *c, size_t n);
+
+/* For how many ticks the senders of all messages had waited on the whole: the total
+ * divided by the count, exactly. Refusal: 17. */
+struct timo_averaged timo_mean(const uint32_t script[TIMO_WORDS], const struct timo_comps *c, size_t n);
 
 /* The network as text in the bytes lent; it shows neither the edition nor the
  * rights, and is to be read back under the script's own edition and with rights
- * given again, by the numbers that names have in it. Bytes past the length are unchanged.
+ * given again, by the numbers that names have in it. Waits and messages are not
+ * shown either, and are 0 when it is read back. Bytes past the length are unchanged.
  * Refusals: 17, 14, 15. What a text of at most TIMO_TEXT bytes gives can still
  * be longer than that, with values put in. */
 struct timo_written timo_write(const uint32_t script[TIMO_WORDS], const struct timo_comps *c, size_t n, uint8_t *bytes, size_t lent);
@@ -235,7 +274,7 @@ struct timo_written timo_write(const uint32_t script[TIMO_WORDS], const struct t
 /* Whether two networks are the same: of one edition, with the same definitions
  * as a set and, in any order, the same components, each as often, location and
  * owner by name, parts letter by letter with values put in. The numbers that names have do not count,
- * nor does a name that no longer occurs. yes is false where code is not 0.
+ * nor does a name that no longer occurs, nor do waits, total and count of messages. yes is false where code is not 0.
  * Refusal: 17, for either network. */
 struct timo_compared timo_same(const uint32_t script_a[TIMO_WORDS], const struct timo_comps *a, size_t n, const uint32_t script_b[TIMO_WORDS], const struct timo_comps *b, size_t m);
 
@@ -254,7 +293,8 @@ struct timo_counted timo_channels(const uint32_t script[TIMO_WORDS], const struc
 struct timo_written timo_channel_name(const uint32_t script[TIMO_WORDS], const struct timo_comps *c, size_t n, uint32_t h, uint8_t *bytes, size_t lent);
 
 /* The label of an action, `id@l`, `v@l` or `c<v>@l`. Refusals: 17, then 8, 9,
- * 10, 11, 20 as for timo_action, then 15. For a record of a step it is asked with
+ * 10, 11, 20 as for timo_action, then 15; nothing is counted, so that 18 is not
+ * asked. For a record of a step it is asked with
  * the components as they were before the step, for each of its records alike:
  * an action of a step has the same label there (the law step-before of
  * crates/run_line). */
@@ -262,11 +302,13 @@ struct timo_written timo_action_label(const uint32_t script[TIMO_WORDS], const s
 
 /* The line of the step at location l as timorun prints it: the location, each
  * label after one space, a line feed. The components are those before the step.
- * Refusals: 17, 8, 13 as for the step, then 15. */
+ * Refusals: 17, 8, 18, 13 as for the step, then 15. */
 struct timo_written timo_step_line(const uint32_t script[TIMO_WORDS], const struct timo_comps *c, size_t n, uint32_t l, uint8_t *bytes, size_t lent);
 
 /* The whole printout of a text of n bytes, as timorun prints it, under edition 1
- * and with all rights, refusals included. It returns the printout's length, at most TIMO_PRINTOUT, whatever
+ * and with all rights, refusals included, and without one the mean on its last line,
+ * rounded to a whole tick, a half going up, or `-` if there were no messages. It
+ * returns the printout's length, at most TIMO_PRINTOUT, whatever
  * is lent. Fewer bytes get the printout's first ones; with more, those past the
  * length are unchanged. */
 size_t timo_printout(const uint8_t *text, size_t n, uint8_t *bytes, size_t lent);
@@ -282,8 +324,9 @@ size_t timo_printout(const uint8_t *text, size_t n, uint8_t *bytes, size_t lent)
 TIMO_ASSERT(sizeof(size_t) == 8 && sizeof(bool) == 1)
 TIMO_ASSERT(sizeof(struct timo_row) == 192 && offsetof(struct timo_row, receive) == 64 && offsetof(struct timo_row, leave) == 128)
 TIMO_ASSERT(sizeof(struct timo_settings) == 12292 && offsetof(struct timo_settings, rights) == 4)
-TIMO_ASSERT(sizeof(struct timo_comp) == 64 && offsetof(struct timo_comp, vals) == 16 && offsetof(struct timo_comp, spare) == 48)
-TIMO_ASSERT(sizeof(struct timo_comps) == 16448 && offsetof(struct timo_comps, ledger) == 16384)
+TIMO_ASSERT(sizeof(struct timo_comp) == 64 && offsetof(struct timo_comp, vals) == 16 && offsetof(struct timo_comp, wait) == 48 && offsetof(struct timo_comp, spare) == 52)
+TIMO_ASSERT(sizeof(struct timo_comps) == 16448 && offsetof(struct timo_comps, total_low) == 16384 && offsetof(struct timo_comps, total_high) == 16388)
+TIMO_ASSERT(offsetof(struct timo_comps, messages) == 16392 && offsetof(struct timo_comps, spare) == 16396)
 TIMO_ASSERT(sizeof(struct timo_state) == 16456 && offsetof(struct timo_state, n) == 16448)
 TIMO_ASSERT(sizeof(struct timo_label) == 16 && offsetof(struct timo_label, at) == 12)
 TIMO_ASSERT(sizeof(struct timo_record) == 12 && offsetof(struct timo_record, q) == 8)
@@ -292,6 +335,8 @@ TIMO_ASSERT(sizeof(struct timo_acted) == 20 && offsetof(struct timo_acted, label
 TIMO_ASSERT(sizeof(struct timo_ticked) == 16 && offsetof(struct timo_ticked, n) == 8)
 TIMO_ASSERT(sizeof(struct timo_stepped) == 24 && offsetof(struct timo_stepped, count) == 8 && offsetof(struct timo_stepped, n) == 16)
 TIMO_ASSERT(sizeof(struct timo_report) == 24 && offsetof(struct timo_report, set) == 8 && offsetof(struct timo_report, count) == 16)
+TIMO_ASSERT(sizeof(struct timo_averaged) == 16 && offsetof(struct timo_averaged, count) == 4)
+TIMO_ASSERT(offsetof(struct timo_averaged, quotient) == 8 && offsetof(struct timo_averaged, remainder) == 12)
 TIMO_ASSERT(sizeof(struct timo_written) == 16 && offsetof(struct timo_written, len) == 8)
 TIMO_ASSERT(sizeof(struct timo_compared) == 8 && offsetof(struct timo_compared, yes) == 4)
 TIMO_ASSERT(sizeof(struct timo_counted) == 8 && offsetof(struct timo_counted, count) == 4)

@@ -91,13 +91,13 @@ def nearly_full_disk():
 
 
 def line_by_line():
-    """Through a socket that keeps writes apart: one write for each step's line, then one for the definitions and the network."""
+    """Through a socket that keeps writes apart: one write for each step's line, then one for the definitions and the network, then one for the mean."""
     ours, theirs = socket.socketpair(socket.AF_UNIX, socket.SOCK_SEQPACKET)
     expect("a socket", run(input=SCRIPT, stdout=theirs), (0, None, b""))
     theirs.close()
     written = list(iter(lambda: ours.recv(65536), b""))
     lines = PRINTOUT.splitlines(keepends=True)
-    expect("writes", written, lines[:8] + [b"".join(lines[8:])])
+    expect("writes", written, lines[:8] + [b"".join(lines[8:-1]), lines[-1]])
 
 
 def on_a_stack_of(kib, script):
@@ -119,7 +119,7 @@ def small_stacks():
         "the deepest outputs": ((b"A[" + b"out(c,0,A,stop," * 4400)[:65535], b"refused 2\n"),
         "bars in depth": ((b"A[" + b"a|go(0,A," * 7300)[:65535], b"refused 2\n"),
         "bars in a row": (b"A[" + b"a|" * 32764 + b"a] .", b"refused 4\n"),
-        "a definition of 4,095 parts": (b"D = " + many + b" .\nA[stop] .", b"A\n" * 4 + b"D = " + many + b" .\nA[stop] .\n"),
+        "a definition of 4,095 parts": (b"D = " + many + b" .\nA[stop] .", b"A\n" * 4 + b"D = " + many + b" .\nA[stop] .\n-\n"),
         "65,536 bytes": (b" " * 65536, b"refused 1\n"),
     }
     for name, (script, printout) in hostile.items():

@@ -1,8 +1,8 @@
 //! The library from Rust: what `examples/embed.c` does, and the same printout.
 
 use compare::timo::{
-    all_rights, printout, read_into, words_of, Record, Settings, Table, EDITION, LABEL, LINE, NAME,
-    PRINTOUT,
+    all_rights, printout, read_into, words_of, Record, Settings, Table, EDITION, LABEL, LINE,
+    MESSAGES, NAME, PRINTOUT, WAIT,
 };
 
 const PAGE: &[u8] = b"Page(x) = go(0,x,out(c,1,x,stop,stop)) .\n\
@@ -23,6 +23,11 @@ const PAGES: &[u8] = b"Scanner[go(0,Public,out(shelf,1,Public,stop,go(inf,Scanne
 /// A page and two index heads, of which the second is about to time out.
 const HEADS: &[u8] = b"Index[out(page,inf,Monday,stop,stop) | in(page,3,x,stop,stop) | \
     in(page,0,x,stop,go(0,Missed,stop))] .\n";
+
+/// Three articles at the desk, and two readers that come later.
+const ARTICLES: &[u8] = b"Desk[out(page,9,Monday,stop,stop) | out(page,9,Tuesday,stop,stop) | \
+    out(page,9,Friday,stop,stop) | go(1,Desk,in(page,9,x,stop,stop)) | \
+    go(2,Desk,in(page,9,x,stop,stop))] .\n";
 
 /// The bytes that a call wrote, or its refusal.
 fn put(answer: Result<usize, u32>, bytes: &[u8]) {
@@ -57,6 +62,27 @@ fn put_location(table: &Table, location: u32) {
 fn put_channel(table: &Table, channel: u32) {
     let mut name = [0; NAME];
     put(table.channel_name(channel, &mut name), &name);
+}
+
+/// For how many ticks the senders of all messages had waited, on the whole.
+fn put_mean(table: &Table) -> Result<(), u32> {
+    let mean = table.mean()?;
+    if mean.count == 0 {
+        println!("mean wait: no messages");
+    } else {
+        println!(
+            "mean wait: {} and {}/{}",
+            mean.quotient, mean.remainder, mean.count
+        );
+    }
+    Ok(())
+}
+
+/// The longest wait of a component that is in use.
+fn put_longest_wait(table: &Table) {
+    let used = &table.state.c.at[..table.state.n];
+    let longest = used.iter().map(|component| component.wait).max();
+    println!("longest wait: {}", longest.unwrap_or(0));
 }
 
 /// What there is, what must happen, and the line of the step to come.
@@ -234,6 +260,34 @@ fn urgent() -> Result<(), u32> {
     Ok(())
 }
 
+/// Articles that wait for their readers. Then the count of messages is full: a pair
+/// that could meet stops the tick and may not meet, until the host counts anew.
+fn waits() -> Result<(), u32> {
+    let mut table = Table::read(ARTICLES, Settings::EDITION_1)?;
+    let mut full = table.clone();
+    println!("articles:");
+    for round in 0..5 {
+        if round == 3 {
+            full = table.clone();
+        }
+        put_longest_wait(&table);
+        put_mean(&table)?;
+        step(&mut table, 0)?;
+    }
+    put_longest_wait(&table);
+    put_mean(&table)?;
+    println!("a full count:");
+    full.state.c.messages = MESSAGES;
+    refused("tick", full.tick(0));
+    refused("step", full.step(0, &mut [[0; 3]; 256]));
+    full.state.c.put_messages(0, 0);
+    step(&mut full, 0)?;
+    put_mean(&full)?;
+    full.state.c.at[2].wait = WAIT + 1;
+    refused("a wait past the longest", full.mean());
+    Ok(())
+}
+
 fn main() -> Result<(), u32> {
     let read = Table::read(PAGE, Settings::EDITION_1)?;
     let mut table = read.clone();
@@ -244,11 +298,13 @@ fn main() -> Result<(), u32> {
         }
     }
     put_network(&table);
+    put_mean(&table)?;
     single_calls(&read)?;
     refusals(read, locations);
     editions()?;
     rights()?;
     urgent()?;
+    waits()?;
     let mut printed = vec![0; PRINTOUT];
     let length = printout(PAGE, &mut printed);
     let measured = printout(PAGE, &mut []);

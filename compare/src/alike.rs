@@ -12,7 +12,7 @@ use timo_reference::term::Network;
 use crate::agree::{equal, Agreed};
 use crate::reading::Pair;
 use crate::table;
-use crate::timo::{Record, Table, UNMARKED};
+use crate::timo::{Record, Table, MESSAGES, UNMARKED, WAIT};
 
 /// How many pairs are the same and not the same, and how many were refused.
 #[derive(Clone, Copy, Debug, Default)]
@@ -111,6 +111,7 @@ pub fn refused_by_all(table: &Table) -> Agreed {
         after.propose(0, &[record(1, 0, 0)]).err(),
         after.propose(65, &[record(0, 256, 256)]).err(),
         after.forced().err(),
+        after.mean().err(),
         after.write(&mut bytes).err(),
         after.write(&mut []).err(),
         after.same(table).err(),
@@ -121,7 +122,7 @@ pub fn refused_by_all(table: &Table) -> Agreed {
         after.action_label(1, 0, 0, &mut bytes).err(),
         after.step_line(0, &mut bytes).err(),
     ];
-    equal("calls on a bad table", &codes, &[Some(17); 18])?;
+    equal("calls on a bad table", &codes, &[Some(17); 19])?;
     let lent = records == [[77; 3]; 2] && bytes == [b'#'; 8];
     let kept = after.state == table.state && after.words == table.words && lent;
     equal("table and buffers kept by 17", &kept, &true)
@@ -170,6 +171,18 @@ fn variations(random: &mut Random, table: &Table) -> Vec<(&'static str, Table)> 
     add("other values", &mut |other| {
         other.state.c.at[at].vals = [location; 8];
     });
+    add("other waits and messages", &mut |other| {
+        *other = other.with_other_waits();
+    });
+    add("another wait", &mut |other| {
+        other.state.c.at[at].wait = *random.pick(&[1, 9, WAIT - 1, WAIT]);
+    });
+    add("a wait too long", &mut |other| {
+        other.state.c.at[at].wait = *random.pick(&[WAIT + 1, u32::MAX]);
+    });
+    add("messages of any number", &mut |other| {
+        any_messages(random, other);
+    });
     add("names of locations exchanged", &mut |other| {
         exchange(other, LOCATIONS, 0, location as usize, 4);
     });
@@ -208,6 +221,26 @@ fn variations(random: &mut Random, table: &Table) -> Vec<(&'static str, Table)> 
         let _ = other.step(location, &mut [[0; 3]; 256]);
     });
     made
+}
+
+/// A count and a total at their limits or past them, at most by one or by a bit.
+pub fn any_messages(random: &mut Random, table: &mut Table) {
+    let counts = [0, 1, 2, 4_295, MESSAGES - 1, MESSAGES, MESSAGES + 1];
+    let messages = match random.below(8) {
+        0 => random.draw() as u32,
+        1 => MESSAGES + (1 << 31),
+        _ => *random.pick(&counts),
+    };
+    let largest = u64::from(WAIT) * u64::from(messages);
+    let total = match random.below(6) {
+        0 => 0,
+        1 => largest,
+        2 => largest + 1,
+        3 => largest.saturating_sub(1),
+        4 => largest ^ (1 << random.between(30, 63)),
+        _ => random.draw() % (largest + 1),
+    };
+    table.state.c.put_messages(messages, total);
 }
 
 /// Exchanges two entries of one of the script's lists.

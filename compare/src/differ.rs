@@ -6,39 +6,44 @@ use timo_reference::generate::call_list;
 use timo_reference::lists::Call;
 use timo_reference::random::Random;
 use timo_reference::runs::{Broken, Run};
-use timo_reference::term::Network;
+use timo_reference::term::{Component, Ledger, Network};
 use timo_reference::writing;
 
 use crate::agree::{equal, Agreed};
 use crate::alike;
 use crate::reading::{self, settings_of, Pair};
 use crate::table;
-use crate::timo::{self, Comp, Settings, Table};
+use crate::timo::{self, Comp, Mean, Settings, Table};
 
 const BLANK: [u32; 3] = [77; 3];
 const BLANK_BYTE: u8 = b'#';
-/// What is past the components in use, in the spare words of each and behind
-/// all of them.
+/// What is past the components in use, in the spare words of each and behind the
+/// messages.
 const PAST: Comp = Comp {
     loc: 70,
     mark: 71,
     place: 72,
     timer: 73,
     vals: [74; 8],
+    wait: 2_000_000,
     spare: SPARE,
 };
-const SPARE: [u32; 4] = [75, 76, 77, 78];
-const LEDGER: [u32; 16] = [79; 16];
+const SPARE: [u32; 3] = [76, 77, 78];
+const BEHIND: [u32; 13] = [79; 13];
 /// Calls on a network made by hand.
 const ANY_CALLS: usize = 12;
 
 /// How many calls were accepted and refused by both, how many of these for want of
-/// a right, and how many pairs of networks are the same and not the same by both.
+/// a right and by a full count, how many messages had waited and how many were counted
+/// past 32 bits, and how many pairs of networks are the same and not the same by both.
 #[derive(Clone, Copy, Debug, Default)]
 pub struct Tally {
     pub accepted: usize,
     pub refused: usize,
     pub lacking: usize,
+    pub full: usize,
+    pub waited: usize,
+    pub large: usize,
     pub pairs: alike::Tally,
 }
 
@@ -47,6 +52,9 @@ impl Tally {
         self.accepted += other.accepted;
         self.refused += other.refused;
         self.lacking += other.lacking;
+        self.full += other.full;
+        self.waited += other.waited;
+        self.large += other.large;
         self.pairs.same += other.pairs.same;
         self.pairs.not_same += other.pairs.not_same;
         self.pairs.refused += other.pairs.refused;
@@ -58,6 +66,9 @@ impl Tally {
         let counts = [
             self.accepted,
             self.refused,
+            self.full,
+            self.waited,
+            self.large,
             pairs.same,
             pairs.not_same,
             pairs.refused,
@@ -103,7 +114,7 @@ pub fn differ(
     session.compare(0).map_err(at(Place::Reading))?;
     for (index, call) in calls.iter().enumerate() {
         let answered = session.put(call, index);
-        let answered = answered.and_then(|()| session.components());
+        let answered = answered.and_then(|()| session.state());
         answered.map_err(at(Place::Call(index)))?;
     }
     let tally = session.tally;
@@ -128,7 +139,7 @@ impl Session {
         let components = &mut pair.table.state.c;
         components.at[n..].fill(PAST);
         components.at.iter_mut().for_each(|c| c.spare = SPARE);
-        components.ledger = LEDGER;
+        components.spare = BEHIND;
         Session {
             engine,
             run,
@@ -139,19 +150,30 @@ impl Session {
         }
     }
 
-    /// Question 17 by both, and the components that the table stands for.
-    fn components(&self) -> Agreed {
+    /// Question 17 by both, the components that the table stands for, their waits, the
+    /// messages so far and their mean.
+    fn state(&self) -> Agreed {
         equal("question 17", &self.table.is_valid(), &true)?;
-        let ours = table::components(&self.table).map_err(alike::fault)?;
-        if ours == self.network.components {
-            return Ok(());
+        let (ours, ledger) = table::state(&self.table).map_err(alike::fault)?;
+        let theirs = &self.network.components;
+        if ours != *theirs {
+            let shown = |list: &[_]| list.iter().map(writing::component).collect::<Vec<_>>();
+            equal("components", &shown(&ours), &shown(theirs))?;
+            equal("waits", &waits(&ours), &waits(theirs))?;
         }
-        let shown = |list: &[_]| list.iter().map(writing::component).collect::<Vec<_>>();
-        equal(
-            "components",
-            &shown(&ours),
-            &shown(&self.network.components),
-        )
+        equal("messages", &ledger, &self.network.ledger)?;
+        self.mean()
+    }
+
+    /// By both, after every call.
+    fn mean(&self) -> Agreed {
+        let theirs = self.engine.mean(&self.network).map(|mean| Mean {
+            count: mean.count,
+            quotient: mean.quotient,
+            remainder: mean.remainder,
+        });
+        let theirs = Ok(theirs.unwrap_or_default());
+        equal("mean", &self.table.mean(), &theirs)
     }
 
     fn put(&mut self, call: &Call, index: usize) -> Agreed {
@@ -165,7 +187,26 @@ impl Session {
             Call::Keep => self.keep(index),
             Call::Same => self.same(),
             Call::Like(text) => self.like(text),
+            Call::Mean => self.mean(),
+            Call::Wait { .. } | Call::Messages(_) => self.written_into(call),
         }
+    }
+
+    /// What a host writes into its table, if it is in range, into both.
+    fn written_into(&mut self, call: &Call) -> Agreed {
+        let Some(network) = call.written_into(&self.network) else {
+            return Ok(());
+        };
+        self.network = network;
+        let components = &mut self.table.state.c;
+        match call {
+            Call::Wait { p, wait } => components.at[*p as usize].wait = *wait,
+            Call::Messages(Ledger { total, messages }) => {
+                components.put_messages(*messages, *total);
+            }
+            _ => {}
+        }
+        Ok(())
     }
 
     fn action(&mut self, record: Record) -> Agreed {
@@ -178,6 +219,7 @@ impl Session {
         let number = theirs.as_ref().err().map_or(0, |refusal| refusal.number());
         equal("action", &code, &u32::from(number))?;
         self.tally.lacking += usize::from(code == 20);
+        self.tally.full += usize::from(code == 18);
         let numbers = self.engine.numbers(&self.network.script, label);
         equal("label in numbers", &numbers_of(ours), &numbers)?;
         if let Ok((network, label)) = theirs {
@@ -210,6 +252,7 @@ impl Session {
         });
         let theirs = theirs.map_err(|refusal| u32::from(refusal.number()));
         equal("step", &ours, &theirs)?;
+        self.tally.full += usize::from(ours == Err(18));
         let theirs_lent: Vec<[u32; 3]> = theirs_lent.iter().map(|r| [r.kind, r.p, r.q]).collect();
         equal(
             "records lent to a step",
@@ -238,6 +281,7 @@ impl Session {
         let theirs = theirs.map(|(network, _)| self.network = network);
         let theirs = theirs.map_err(|refusal| u32::from(refusal.number()));
         equal("proposal", &ours, &theirs)?;
+        self.tally.full += usize::from(ours == Err(18));
         self.settle(ours.is_ok(), &before, |run| {
             run.whole_step(location, records)
         })
@@ -288,7 +332,11 @@ impl Session {
         )?;
         let ours = table::network(&self.table).map_err(alike::fault)?;
         let back = table::network(&again.table).map_err(alike::fault)?;
-        equal("components read back", &back.components, &ours.components)?;
+        let seen = |list: &[Component]| list.iter().map(writing::component).collect::<Vec<_>>();
+        let (ours_seen, back_seen) = (seen(&ours.components), seen(&back.components));
+        equal("components read back", &back_seen, &ours_seen)?;
+        let began = back.components.iter().all(|c| c.wait == 0) && back.ledger == Ledger::default();
+        equal("waits and messages read back are 0", &began, &true)?;
         let definitions = &back.script.definitions;
         equal(
             "definitions read back",
@@ -318,12 +366,13 @@ impl Session {
     }
 
     /// Compares the network with the one kept, and with itself under the other
-    /// edition and with other rights.
+    /// edition, with other rights and with other waits.
     fn same(&self) -> Agreed {
         self.compared_with(&self.kept.table, &self.kept.network)?;
         for table in [
             self.table.under_other_edition(),
             self.table.with_other_rights(),
+            self.table.with_other_waits(),
         ] {
             let network = table::network(&table).map_err(alike::fault)?;
             self.compared_with(&table, &network)?;
@@ -359,17 +408,27 @@ impl Session {
     ) -> Agreed {
         if accepted {
             self.tally.accepted += 1;
+            self.count_messages(before);
             let n = self.table.state.n;
             let kept = self.table.state.beside(n) == before.beside(n);
             equal("words beside the components", &kept, &true)?;
             return held(self.run.as_mut().map_or(Ok(()), feed));
         }
         self.tally.refused += 1;
+        self.engine.refuse(&mut self.network);
         equal(
             "state kept by a refusal",
             &(self.table.state == *before),
             &true,
         )
+    }
+
+    /// Whether an accepted call added to the total, and whether that has 33 bits.
+    fn count_messages(&mut self, before: &timo::State) {
+        let total = self.table.state.c.total();
+        let added = total > before.c.total();
+        self.tally.waited += usize::from(added);
+        self.tally.large += usize::from(added && total >= 1 << 32);
     }
 
     fn finish(self) -> Agreed {
@@ -391,10 +450,10 @@ pub fn run_by_itself(random: &mut Random, pair: Pair) -> Agreed {
     let any = call_list::calls(random, pair.network.clone(), ANY_CALLS);
     for calls in [first, any] {
         let mut session = Session::new(Engine::default(), pair.clone(), None);
-        session.components()?;
+        session.state()?;
         for call in calls.iter().filter(|call| **call != Call::Keep) {
             session.put(call, 0).map_err(|what| at_call(call, what))?;
-            session.components().map_err(|what| at_call(call, what))?;
+            session.state().map_err(|what| at_call(call, what))?;
         }
     }
     Ok(())
@@ -409,6 +468,10 @@ fn at_call(call: &Call, what: String) -> String {
 fn up_to_blanks(lent: &[[u32; 3]]) -> &[[u32; 3]] {
     let last = lent.iter().rposition(|record| *record != BLANK);
     &lent[..last.map_or(0, |last| last + 1)]
+}
+
+fn waits(components: &[Component]) -> Vec<u32> {
+    components.iter().map(|c| c.wait).collect()
 }
 
 fn numbers_of(label: timo::Label) -> Numbers {

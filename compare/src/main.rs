@@ -1,9 +1,9 @@
 //! `compare SEED N`: N generated scripts with rights and call lists, and ten times
 //! as many texts of any sort, through the proved engine's library and the
 //! reference engine under both editions, and thirty tables made by hand from each
-//! script. Prints the first difference with its seed, a shrunken script and list,
-//! and ends with status 1; then puts each wrong variant of the rules in the
-//! reference's place and says of any that no list has told apart.
+//! script; and the printouts of all texts. Prints the first difference with its seed, a
+//! shrunken script and list, and ends with status 1; then puts each wrong variant of the
+//! rules in the reference's place and says of any that no list has told apart.
 
 use std::env;
 use std::process::ExitCode;
@@ -12,10 +12,11 @@ use compare::differ::{differ, Difference, Place, Tally};
 use compare::reading::{self, ours, theirs, with_rights};
 use compare::shrink::{shrink, Case};
 use compare::tables;
-use compare::timo::{Settings, Table};
+use compare::timo::{self, Settings, Table};
 use timo_reference::calls::Engine;
 use timo_reference::generate::{self, edges};
 use timo_reference::lists::{self, Call};
+use timo_reference::program;
 use timo_reference::random::Random;
 use timo_reference::rights;
 use timo_reference::rules::Variant;
@@ -35,6 +36,7 @@ fn main() -> ExitCode {
         return ExitCode::FAILURE;
     };
     let compared = texts(*seed, *count)
+        .and_then(|()| printouts(*seed, *count))
         .and_then(|()| all_lists(*seed, *count))
         .and_then(|lists| all_tables(&lists).and_then(|()| variants(&lists)));
     match compared {
@@ -78,6 +80,44 @@ fn texts(seed: u64, count: u64) -> Result<(), String> {
         numbers.iter().all(|count| *count > 0),
         "a question that no text meets",
     )
+}
+
+/// What `timorun` prints on texts of any sort and on scripts that are meant to be run,
+/// byte by byte; each wrong mean is told apart.
+fn printouts(seed: u64, count: u64) -> Result<(), String> {
+    let sorts = [generate::script, generate::script_to_run];
+    let mut unnoticed = Variant::WRONG_PRINTOUTS.to_vec();
+    for (index, sort) in (0..count).flat_map(|index| sorts.map(|sort| (index, sort))) {
+        let seed = generate::seed(seed, index);
+        let text = sort(seed);
+        let ours = printed(&text);
+        if ours != printed_by(Engine::default(), &text) {
+            return Err(format!("the printout of a text of seed {seed} differs"));
+        }
+        unnoticed.retain(|variant| ours == printed_by(Engine::new(*variant), &text));
+    }
+    println!(
+        "printouts by both alike: {}, {} wrong means told apart",
+        2 * count,
+        Variant::WRONG_PRINTOUTS.len() - unnoticed.len()
+    );
+    enough(
+        unnoticed.is_empty(),
+        &format!("not told apart: {unnoticed:?}"),
+    )
+}
+
+fn printed(text: &[u8]) -> Vec<u8> {
+    let mut lent = vec![0; timo::PRINTOUT];
+    let length = timo::printout(text, &mut lent);
+    lent.truncate(length);
+    lent
+}
+
+fn printed_by(engine: Engine, text: &[u8]) -> Vec<u8> {
+    let mut printed = Vec::new();
+    program::run(engine, text, &mut printed).expect("a buffer takes all bytes");
+    printed
 }
 
 /// An edition that reading refuses by 21.
@@ -150,8 +190,12 @@ fn together(
         total.add(tally);
     }
     println!(
-        "{name}, calls by both alike: {} accepted, {} refused, {} of them by 20; the grouped run and the chain of leave rights hold",
-        total.accepted, total.refused, total.lacking
+        "{name}, calls by both alike: {} accepted, {} refused, {} of them by 20 and {} by 18; the grouped run and the chain of leave rights hold",
+        total.accepted, total.refused, total.lacking, total.full
+    );
+    println!(
+        "{name}, waits and messages by both alike: {} calls added to the total, {} of them past 32 bits",
+        total.waited, total.large
     );
     println!(
         "{name}, pairs of networks by both alike: {} same, {} not the same, {} refused 17",

@@ -3,7 +3,7 @@
 use timo_reference::calls::Engine;
 use timo_reference::reading::MOST_PARTS;
 use timo_reference::table::{EDITION, PARTS, PARTS_END, RIGHTS, RIGHTS_ROW, ROW};
-use timo_reference::term::{self, Network, Rights};
+use timo_reference::term::{self, Component, Network, Rights};
 use timo_reference::{rights, writing};
 
 use crate::agree::{equal, Agreed};
@@ -155,8 +155,8 @@ fn kept_behind(table: &Table, before: &[u32; WORDS]) -> Agreed {
     yes(zeros, "zeros beside the components")
 }
 
-/// The edition, the rights, names by number, definitions in order and components
-/// in order.
+/// The edition, the rights, names by number, definitions in order, components in
+/// order with their waits, and messages.
 pub fn equal_networks(what: &str, ours: &Network, theirs: &Network) -> Agreed {
     if ours == theirs {
         return Ok(());
@@ -164,7 +164,7 @@ pub fn equal_networks(what: &str, ours: &Network, theirs: &Network) -> Agreed {
     equal(what, &shown(ours), &shown(theirs))
 }
 
-/// A network letter by letter, with its numbering and its marks.
+/// A network letter by letter, with its numbering, its marks, waits and messages.
 fn shown(network: &Network) -> Vec<String> {
     let script = &network.script;
     let names = [
@@ -174,9 +174,10 @@ fn shown(network: &Network) -> Vec<String> {
         rights::print(&script.rights, script),
     ];
     let definitions = script.definitions.iter().map(writing::definition);
-    let components = network.components.iter().map(writing::component);
+    let component = |c: &Component| format!("{}, wait {}", writing::component(c), c.wait);
+    let components = network.components.iter().map(component);
     let lines = names.into_iter().chain(definitions).chain(components);
-    lines.collect()
+    lines.chain([format!("{:?}", network.ledger)]).collect()
 }
 
 fn yes(holds: bool, what: &str) -> Agreed {

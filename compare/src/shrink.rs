@@ -2,7 +2,8 @@
 //! all rights where that shows it too. Definitions, located processes and parts are
 //! taken away, and parts replaced by what stands inside them or by `stop`, for as
 //! long as a difference remains. Then the network that some of the calls leave is
-//! tried as a script of its own, with the calls that are left.
+//! tried as a script of its own, with its waits and messages written into the table and
+//! the calls that are left.
 
 use std::iter::successors;
 use std::mem;
@@ -11,12 +12,12 @@ use std::ops::Range;
 use timo_reference::calls::{Engine, Record};
 use timo_reference::generate::call_list;
 use timo_reference::lists::Call;
-use timo_reference::term::Network;
+use timo_reference::term::{Ledger, Network};
 use timo_reference::writing;
 
 use crate::differ::{differ, Difference, Place};
 use crate::reading::theirs;
-use crate::timo::{Row, Settings};
+use crate::timo::{Row, Settings, MESSAGES, WAIT};
 
 /// How many changes of one script are tried.
 const MOST_TRIALS: usize = 3_000;
@@ -84,6 +85,7 @@ fn shrunken(engine: Engine, mut case: Case) -> Case {
         case = more_rights(engine, case);
         case = fewer_calls(engine, case);
         case = fewer_records(engine, case);
+        case = plainer_calls(engine, case);
         if case.difference.place == Place::Reading {
             case = fewer_bytes(engine, case);
         }
@@ -115,11 +117,24 @@ fn later_start(engine: Engine, case: &Case) -> Option<Case> {
         let new = read(&script)?;
         let location = |l: u32| renumbered(&old, &new, l);
         let calls = case.calls[first..].iter();
-        let calls: Vec<Call> = calls.map(|call| relocated(call, location)).collect();
+        let calls = calls.map(|call| relocated(call, location));
+        let calls: Vec<Call> = writes_of(network).into_iter().chain(calls).collect();
         let settings = rights_moved(&case.settings, &old, &new);
         Case::of(engine, settings, &script, &calls)
     };
     (1..case.calls.len()).rev().find_map(begins_at)
+}
+
+/// What a host writes into a table just read so that it has a network's waits and
+/// messages.
+fn writes_of(network: &Network) -> Vec<Call> {
+    let waits = network.components.iter().zip(0..);
+    let waits = waits.filter(|(c, _)| c.wait != 0);
+    let mut writes: Vec<Call> = waits.map(|(c, p)| Call::Wait { p, wait: c.wait }).collect();
+    if network.ledger != Ledger::default() {
+        writes.push(Call::Messages(network.ledger));
+    }
+    writes
 }
 
 /// A call with its location under another number.
@@ -204,6 +219,39 @@ fn fewer_records(engine: Engine, mut case: Case) -> Case {
         }
     }
     case
+}
+
+/// Puts plain numbers into what a host writes, and compares without a text.
+fn plainer_calls(engine: Engine, mut case: Case) -> Case {
+    for at in 0..case.calls.len() {
+        let plainer = case.calls.get(at).map(plainer).unwrap_or_default();
+        let again = |plain: Call| {
+            let mut calls = case.calls.clone();
+            calls[at] = plain;
+            case.with(engine, &case.script, &calls)
+        };
+        let found = plainer.into_iter().find_map(again);
+        case = found.unwrap_or(case);
+    }
+    case
+}
+
+/// What may stand in the place of a host's writing or of a text, plainest first.
+fn plainer(call: &Call) -> Vec<Call> {
+    let plain: Vec<Call> = match call {
+        Call::Wait { p, .. } => {
+            let wait = |wait| Call::Wait { p: *p, wait };
+            [1, WAIT].map(wait).to_vec()
+        }
+        Call::Messages(_) => {
+            let messages = |messages| Call::Messages(Ledger { total: 0, messages });
+            [1, MESSAGES, MESSAGES - 1].map(messages).to_vec()
+        }
+        Call::Like(_) => vec![Call::Same],
+        _ => Vec::new(),
+    };
+    let before = plain.iter().position(|plain| plain == call);
+    plain[..before.unwrap_or(plain.len())].to_vec()
 }
 
 /// Takes away stretches of bytes, long ones first. This is for texts that have
@@ -396,6 +444,10 @@ fn moved(case: &Case, script: &[u8]) -> Option<(Settings, Vec<Call>)> {
         Call::Proposal { location, records } => Call::Proposal {
             location,
             records: records.iter().map(record).collect(),
+        },
+        Call::Wait { p, wait } => Call::Wait {
+            p: position(p),
+            wait,
         },
         other => other,
     };

@@ -2,7 +2,7 @@
 //! its question 17, the network that they stand for, names and labels.
 
 use timo_reference::table::{self, Fault, Test};
-use timo_reference::term::{Component, Network};
+use timo_reference::term::{Component, Ledger, Network};
 
 use crate::timo::{Comp, Label, State, Table, WORDS};
 
@@ -12,10 +12,10 @@ pub fn network(table: &Table) -> Result<Network, Fault> {
     view(table, &components).network()
 }
 
-/// The components alone.
-pub fn components(table: &Table) -> Result<Vec<Component>, Fault> {
+/// The components and the messages alone.
+pub fn state(table: &Table) -> Result<(Vec<Component>, Ledger), Fault> {
     let components = words(&table.state);
-    view(table, &components).network_components()
+    view(table, &components).network_state()
 }
 
 /// Whether the reference engine's question 17 would be answered by yes with a
@@ -34,10 +34,16 @@ fn view<'t>(table: &'t Table, components: &'t [u32]) -> table::Table<'t> {
 pub fn words(state: &State) -> Vec<u32> {
     let of_one = |c: &Comp| {
         let first = [c.loc, c.mark, c.place, c.timer];
-        first.into_iter().chain(c.vals).chain(c.spare)
+        first
+            .into_iter()
+            .chain(c.vals)
+            .chain([c.wait])
+            .chain(c.spare)
     };
-    let components = state.c.at.iter().flat_map(of_one);
-    components.chain(state.c.ledger).collect()
+    let c = &state.c;
+    let components = c.at.iter().flat_map(of_one);
+    let ledger = [c.total_low, c.total_high, c.messages];
+    components.chain(ledger).chain(c.spare).collect()
 }
 
 fn names(words: &[u32; WORDS]) -> table::Table<'_> {

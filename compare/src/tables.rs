@@ -1,7 +1,8 @@
 //! Tables of every sort, made by hand from a valid one: words changed anywhere,
 //! scopes with names of every sort, rows that nothing reaches, editions of every
-//! number, rights of every word, words of any content. Question 17 by both engines; where both say yes the network runs
-//! through both, where both say no every call refuses 17.
+//! number, rights of every word, waits and messages at their limits, words of any
+//! content. Question 17 by both engines; where both say yes the network runs through
+//! both, where both say no every call refuses 17.
 
 use std::collections::{BTreeMap, BTreeSet};
 use std::fmt;
@@ -13,7 +14,7 @@ use timo_reference::table::{
 };
 
 use crate::agree::{equal, Agreed};
-use crate::alike::refused_by_all;
+use crate::alike::{any_messages, refused_by_all};
 use crate::differ::run_by_itself;
 use crate::reading::Pair;
 use crate::table;
@@ -115,7 +116,7 @@ pub fn make(random: &mut Random, from: &Table) -> Made {
 }
 
 fn change(random: &mut Random, table: &mut Table) -> String {
-    match random.weighted(&[24, 12, 8, 8, 8, 16, 3, 4, 18, 3, 4, 10, 2]) {
+    match random.weighted(&[24, 12, 8, 8, 8, 16, 3, 4, 18, 3, 4, 10, 8, 2]) {
         0 => part_word(random, table),
         1 => scope_word(random, table),
         2 => script_word(random, table, "count", 0, 8),
@@ -128,6 +129,7 @@ fn change(random: &mut Random, table: &mut Table) -> String {
         9 => script_word(random, table, "any word", 0, SCRIPT),
         10 => edition_word(random, table),
         11 => rights_words(random, table),
+        12 => messages_words(random, table),
         _ => any_content(random, table),
     }
 }
@@ -192,6 +194,26 @@ fn rights_words(random: &mut Random, table: &mut Table) -> String {
         table.words[at] = *random.pick(&[0, 0, 1, 2, 256 + 1, u32::MAX]);
     }
     format!("{count} words of the rights")
+}
+
+/// The count and the total, or one of the words behind the components.
+fn messages_words(random: &mut Random, table: &mut Table) -> String {
+    if random.chance(2, 3) {
+        any_messages(random, table);
+    } else {
+        let k = random.below(16);
+        let mut c = table.state.c;
+        let word = match k {
+            0 => &mut c.total_low,
+            1 => &mut c.total_high,
+            2 => &mut c.messages,
+            _ => &mut c.spare[k - 3],
+        };
+        *word = content(random, table, *word);
+        table.state.c = c;
+    }
+    let c = &table.state.c;
+    format!("{} messages, total {}", c.messages, c.total())
 }
 
 fn part_word(random: &mut Random, table: &mut Table) -> String {
@@ -304,7 +326,8 @@ fn component_word(random: &mut Random, table: &mut Table) -> String {
         2 => &mut after.place,
         3 => &mut after.timer,
         4..=11 => &mut after.vals[k - 4],
-        _ => &mut after.spare[k - 12],
+        12 => &mut after.wait,
+        _ => &mut after.spare[k - 13],
     };
     *word = content(random, table, *word);
     let said = format!("component {p}: word {k} to {word}");
@@ -353,10 +376,14 @@ pub fn any_components(state: &mut State, mut any: impl FnMut() -> u32) {
             place: any(),
             timer: any(),
             vals: [(); 8].map(|()| any()),
-            spare: [(); 4].map(|()| any()),
+            wait: any(),
+            spare: [(); 3].map(|()| any()),
         };
     }
-    state.c.ledger = [(); 16].map(|()| any());
+    state.c.total_low = any();
+    state.c.total_high = any();
+    state.c.messages = any();
+    state.c.spare = [(); 13].map(|()| any());
 }
 
 // --- rows that reading does not write -------------------------------------------

@@ -16,10 +16,14 @@ pub const RIGHTS_ROW: usize = 192;
 pub const NAME: usize = 16;
 pub const LABEL: usize = 51;
 pub const LINE: usize = 13_329;
-pub const PRINTOUT: usize = 3_477_760;
+pub const PRINTOUT: usize = 3_477_768;
 
 /// The mark of a component that has none.
 pub const UNMARKED: u32 = 64;
+
+/// Where a wait halts, and how many messages are counted.
+pub const WAIT: u32 = 1_000_000;
+pub const MESSAGES: u32 = 1_000_000;
 
 /// Stands for the number of a refusal that comes with anything but its number.
 pub const MORE_THAN_A_NUMBER: u32 = 1_000;
@@ -73,7 +77,7 @@ pub fn all_rights(edition: u32) -> Settings {
 }
 
 /// A component: location, mark, place of its part, timer, a location for each
-/// slot, and words that are not used.
+/// slot, its wait, and words that are not used.
 #[repr(C)]
 #[derive(Clone, Copy, Debug, PartialEq, Eq)]
 pub struct Comp {
@@ -82,7 +86,8 @@ pub struct Comp {
     pub place: u32,
     pub timer: u32,
     pub vals: [u32; 8],
-    pub spare: [u32; 4],
+    pub wait: u32,
+    pub spare: [u32; 3],
 }
 
 impl Comp {
@@ -92,17 +97,46 @@ impl Comp {
         place: 0,
         timer: 0,
         vals: [0; 8],
-        spare: [0; 4],
+        wait: 0,
+        spare: [0; 3],
     };
 }
 
-/// The components, and words behind them that are not used.
+/// The components, and behind them the messages so far: how long their senders had
+/// waited in all, in two words, and how many there were. Then words that are not used.
 #[repr(C)]
 #[derive(Clone, Copy, Debug, PartialEq, Eq)]
 pub struct Comps {
     pub at: [Comp; 256],
-    pub ledger: [u32; 16],
+    pub total_low: u32,
+    pub total_high: u32,
+    pub messages: u32,
+    pub spare: [u32; 13],
 }
+
+impl Comps {
+    pub const ZERO: Comps = Comps {
+        at: [Comp::ZERO; 256],
+        total_low: 0,
+        total_high: 0,
+        messages: 0,
+        spare: [0; 13],
+    };
+
+    pub fn total(&self) -> u64 {
+        u64::from(self.total_low) + (u64::from(self.total_high) << 32)
+    }
+
+    /// Writes how many messages there were, and for how long in all.
+    pub fn put_messages(&mut self, messages: u32, total: u64) {
+        self.total_low = total as u32;
+        self.total_high = (total >> 32) as u32;
+        self.messages = messages;
+    }
+}
+
+/// The spare words of a state: those of every position, and those behind the messages.
+pub type Spare = ([[u32; 3]; 256], [u32; 13]);
 
 /// The components; the first `n` are in use.
 #[repr(C)]
@@ -115,18 +149,15 @@ pub struct State {
 impl State {
     /// What a refused reading returns.
     pub const ZERO: State = State {
-        c: Comps {
-            at: [Comp::ZERO; 256],
-            ledger: [0; 16],
-        },
+        c: Comps::ZERO,
         n: 0,
     };
 
-    /// The words that no component in use has as its own: the spare ones of
-    /// every position, the positions past `n` and the ledger.
-    pub fn beside(&self, n: usize) -> ([[u32; 4]; 256], &[Comp], [u32; 16]) {
+    /// The words that no component in use has as its own and that count nothing: the
+    /// spare ones, and the positions past `n`.
+    pub fn beside(&self, n: usize) -> (Spare, &[Comp]) {
         let spare = self.c.at.map(|c| c.spare);
-        (spare, &self.c.at[n..], self.c.ledger)
+        ((spare, self.c.spare), &self.c.at[n..])
     }
 }
 
@@ -191,6 +222,23 @@ pub struct Report {
     pub lowest: u32,
 }
 
+/// How long the senders of all messages had waited on the whole; all 0 if there were
+/// none.
+#[derive(Clone, Copy, Debug, Default, PartialEq, Eq)]
+pub struct Mean {
+    pub count: u32,
+    pub quotient: u32,
+    pub remainder: u32,
+}
+
+#[repr(C)]
+struct Averaged {
+    code: u32,
+    count: u32,
+    quotient: u32,
+    remainder: u32,
+}
+
 #[repr(C)]
 struct Written {
     code: u32,
@@ -240,6 +288,7 @@ extern "C" {
         given: usize,
     ) -> Ticked;
     fn timo_forced(w: *const u32, c: *const Comps, n: usize) -> Report;
+    fn timo_mean(w: *const u32, c: *const Comps, n: usize) -> Averaged;
     fn timo_write(w: *const u32, c: *const Comps, n: usize, buf: *mut u8, lent: usize) -> Written;
     fn timo_locations(w: *const u32, c: *const Comps, n: usize) -> Counted;
     fn timo_location_name(
@@ -331,6 +380,18 @@ impl Table {
         other
     }
 
+    /// The same network with other waits, and after other messages.
+    pub fn with_other_waits(&self) -> Table {
+        let mut other = self.clone();
+        let n = other.state.n;
+        for component in &mut other.state.c.at[..n] {
+            component.wait = if component.wait == 0 { WAIT } else { 0 };
+        }
+        let messages = u32::from(self.state.c.messages == 0);
+        other.state.c.put_messages(messages, messages.into());
+        other
+    }
+
     /// Whether two tables stand for the same network.
     pub fn same(&self, other: &Table) -> Result<bool, u32> {
         let (a, b) = (&self.state, &other.state);
@@ -416,6 +477,18 @@ impl Table {
         // SAFETY: as for `is_valid`.
         let report = unsafe { timo_forced(self.words.as_ptr(), &self.state.c, self.state.n) };
         answer(report.code, Report { code: 0, ..report })
+    }
+
+    /// The mean of the messages so far.
+    pub fn mean(&self) -> Result<Mean, u32> {
+        // SAFETY: as for `is_valid`.
+        let averaged = unsafe { timo_mean(self.words.as_ptr(), &self.state.c, self.state.n) };
+        let mean = Mean {
+            count: averaged.count,
+            quotient: averaged.quotient,
+            remainder: averaged.remainder,
+        };
+        answer(averaged.code, mean)
     }
 
     /// What a call writes about the table into lent bytes: its length.

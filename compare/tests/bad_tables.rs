@@ -2,7 +2,7 @@
 
 use compare::alike::refused_by_all;
 use compare::table;
-use compare::timo::{Settings, Table, EDITION, UNMARKED, WORDS};
+use compare::timo::{Settings, Table, EDITION, MESSAGES, UNMARKED, WAIT, WORDS};
 use timo_reference::table::{CHANNELS, DEFINITIONS, LOCATIONS, PARTS, ROW};
 
 const SCRIPT: &[u8] = b"D(x,y)=go(1,x,stop|D(y,A)).E=stop.
@@ -73,6 +73,47 @@ fn components() {
     refused("a component of all ones", |t| {
         t.state.c.at[1].place = u32::MAX
     });
+}
+
+#[test]
+fn waits_and_messages() {
+    for wait in [WAIT + 1, WAIT + 2, 1 << 31, u32::MAX] {
+        refused(&format!("a wait of {wait}"), |t| {
+            t.state.c.at[2].wait = wait
+        });
+    }
+    for messages in [MESSAGES + 1, 1 << 31, u32::MAX] {
+        refused(&format!("{messages} messages"), |t| {
+            t.state.c.messages = messages
+        });
+    }
+    for (messages, total) in [
+        (0, 1),
+        (0, 1 << 32),
+        (1, 1_000_001),
+        (4_294, 1 << 32),
+        (4_295, 4_295_000_001),
+        (MESSAGES, 1_000_000_000_001),
+        (MESSAGES, 1 << 63),
+        (MESSAGES + 1, 0),
+    ] {
+        refused(&format!("{messages} messages, total {total}"), |t| {
+            t.state.c.put_messages(messages, total)
+        });
+    }
+    for (messages, total) in [
+        (1, 1_000_000),
+        (4_295, 1 << 32),
+        (4_295, 4_295_000_000),
+        (MESSAGES, 1_000_000_000_000),
+        (MESSAGES, 0),
+    ] {
+        let mut good = read();
+        good.state.c.put_messages(messages, total);
+        good.state.c.at[0].wait = WAIT;
+        assert!(good.is_valid(), "{messages} messages, total {total}");
+        assert_eq!(good.same(&read()), Ok(true));
+    }
 }
 
 #[test]

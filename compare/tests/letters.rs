@@ -3,7 +3,7 @@
 //! editions and with rights. Each text is asked for with too few bytes, just enough and more.
 
 use compare::reading::{self, Pair};
-use compare::timo::{printout, LABEL, LINE, NAME, PRINTOUT};
+use compare::timo::{printout, LABEL, LINE, MESSAGES, NAME, PRINTOUT};
 use timo_reference::calls::{Engine, Record};
 use timo_reference::generate::{rights, script_to_run, seed, vectors};
 use timo_reference::program;
@@ -70,8 +70,8 @@ fn labels(pair: &Pair) -> usize {
         for p in 0..=most {
             for q in 0..=most {
                 let record = Record::new(kind, p, q);
-                let theirs = match Engine::default().action(&pair.network, record) {
-                    Ok((_, label)) => Ok(label.to_string()),
+                let theirs = match Engine::default().label(&pair.network, record) {
+                    Ok(label) => Ok(label.to_string()),
                     Err(refusal) => Err(u32::from(refusal.number())),
                 };
                 let ours = shown(LABEL, |lent| {
@@ -125,6 +125,13 @@ fn rounds(mut pair: Pair) -> usize {
     accepted
 }
 
+/// So many messages before; at a full count a label is shown and a line is not.
+fn with_messages(mut pair: Pair, messages: u32) -> Pair {
+    pair.table.state.c.put_messages(messages, 0);
+    pair.network.ledger.messages = messages;
+    pair
+}
+
 #[test]
 fn names_labels_and_lines() {
     let mut accepted = 0;
@@ -132,7 +139,10 @@ fn names_labels_and_lines() {
         let text = script_to_run(seed(2026, index));
         let rights = rights(&mut Random::new(index));
         let both = reading::read_under_both(&text, &rights).expect("both readers agree");
-        accepted += both.into_iter().flatten().map(rounds).sum::<usize>();
+        let messages = if index % 3 == 0 { MESSAGES } else { 0 };
+        let pairs = both.into_iter().flatten();
+        let pairs = pairs.map(|pair| with_messages(pair, messages));
+        accepted += pairs.map(rounds).sum::<usize>();
     }
     assert!(accepted > 1_000, "{accepted} labels");
 }

@@ -60,9 +60,13 @@ fn shown(variant: Variant, lists: &[List]) {
     assert!(Case::of(engine, case.settings, &case.script, &case.calls).is_some());
 }
 
+/// Scripts of hundreds of components stay long whatever is taken away.
+const LONGEST: usize = 1_000;
+
 #[test]
 fn every_wrong_variant_is_shown_by_a_few_calls_on_a_small_script() {
-    let lists: Vec<List> = (0..100).flat_map(lists_of).collect();
+    let mut lists: Vec<List> = (0..100).flat_map(lists_of).collect();
+    lists.retain(|list| list.script.len() <= LONGEST);
     let variants = Variant::every_wrong();
     let half = variants.len().div_ceil(2);
     thread::scope(|scope| {

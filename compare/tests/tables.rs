@@ -8,7 +8,7 @@ use compare::reading::{theirs, with_rights, Pair};
 use compare::table;
 use compare::tables::{any_components, make, Tally};
 use compare::timo::{
-    words_of, Comp, Settings, State, Table, EDITION, RIGHTS, RIGHTS_ROW, UNMARKED, WORDS,
+    words_of, Comp, Comps, Settings, State, Table, EDITION, RIGHTS, RIGHTS_ROW, UNMARKED, WORDS,
 };
 use timo_reference::calls::Engine;
 use timo_reference::deep::on_big_stack;
@@ -157,6 +157,7 @@ fn every_word_of_a_small_table() {
         table.words[at] = before;
     }
     every_component_word(&mut table, &network, &mut tally);
+    every_word_of_the_ledger(&mut table, &network, &mut tally);
     for (name, table) in past_a_limit() {
         one_word(name, &table, &network, &mut tally);
     }
@@ -194,11 +195,12 @@ fn every_component_word(table: &mut Table, network: &Network, tally: &mut Tally)
     for p in 0..table.state.n + 1 {
         let before = table.state.c.at[p];
         for content in contents(table, 0) {
-            let [mut loc, mut mark, mut place, mut timer] = [before; 4];
+            let [mut loc, mut mark, mut place, mut timer, mut wait] = [before; 5];
             loc.loc = content;
             mark.mark = content;
             place.place = content;
             timer.timer = content;
+            wait.wait = content;
             let value = |k: usize| {
                 let mut value = before;
                 value.vals[k] = content;
@@ -212,7 +214,8 @@ fn every_component_word(table: &mut Table, network: &Network, tally: &mut Tally)
             let changed = [loc, mark, place, timer]
                 .into_iter()
                 .chain((0..8).map(value))
-                .chain((0..4).map(spare));
+                .chain([wait])
+                .chain((0..3).map(spare));
             for (k, after) in changed.enumerate() {
                 table.state.c.at[p] = after;
                 let name = format!("component {p}: word {k} to {content}");
@@ -228,6 +231,31 @@ fn every_component_word(table: &mut Table, network: &Network, tally: &mut Tally)
         one_word(&name, table, network, tally);
     }
     table.state.n = n;
+}
+
+/// The words of the messages, by themselves and beside a count, and those behind them.
+fn every_word_of_the_ledger(table: &mut Table, network: &Network, tally: &mut Tally) {
+    let before = table.state.c;
+    for count in [0, 1, 4_295, 1_000_000, 1_000_001] {
+        for content in contents(table, 0)
+            .into_iter()
+            .chain([3_567_587_328, 232, 233])
+        {
+            for k in 0..16 {
+                let c = &mut table.state.c;
+                c.messages = count;
+                match k {
+                    0 => c.total_low = content,
+                    1 => c.total_high = content,
+                    2 => c.messages = content,
+                    _ => c.spare[k - 3] = content,
+                }
+                let name = format!("{count} messages, word {k} of the ledger to {content}");
+                one_word(&name, table, network, tally);
+                table.state.c = before;
+            }
+        }
+    }
 }
 
 #[test]
@@ -288,7 +316,8 @@ fn stood_at(mut table: Table) -> Table {
         place: table.words[0] - 1,
         timer: 0,
         vals: [1, 0, 0, 0, 0, 0, 0, 0],
-        spare: [0; 4],
+        wait: 0,
+        spare: [0; 3],
     };
     table
 }
@@ -445,9 +474,13 @@ fn reading_lays_a_text_out_as_the_page_says() {
 }
 
 #[test]
-fn a_script_has_as_many_words_by_both() {
+fn a_script_and_a_state_have_as_many_words_by_both() {
     assert_eq!(WORDS, timo_reference::table::SCRIPT);
     assert_eq!(EDITION, timo_reference::table::EDITION);
     assert_eq!(RIGHTS, timo_reference::table::RIGHTS);
     assert_eq!(RIGHTS_ROW, timo_reference::table::RIGHTS_ROW);
+    let words = table::words(&State::ZERO).len();
+    assert_eq!(words, timo_reference::table::STATE);
+    assert_eq!(size_of::<Comps>(), 4 * words);
+    assert_eq!(size_of::<Comp>(), 64);
 }

@@ -1,6 +1,6 @@
 //! The outward calls (document 01, *Actions*, *The tick at l*, *The other
-//! calls*; document 02, R-3), each with its questions in the order of *Questions,
-//! asked downward*.
+//! calls*; document 02, R-1 and R-3), each with its questions in the order of
+//! *Questions, asked downward*.
 //!
 //! A network goes in as a shared reference and a new one comes out, so that a
 //! refusal leaves it as it was. Lent buffers are written only after the last
@@ -9,7 +9,9 @@
 use crate::reading::{self, Limits, MOST_COMPONENTS};
 use crate::refusal::{ask, Refusal};
 use crate::rules::{hears_on, sends_on, Action, Label, Rules, Vanish, Variant};
-use crate::term::{Component, Definition, Edition, Network, Part, Script, Settings, Timer};
+use crate::term::{
+    Component, Definition, Edition, Ledger, Network, Part, Process, Script, Settings, Timer,
+};
 use crate::writing;
 
 /// An action as callers hand it in, of any content.
@@ -66,6 +68,23 @@ pub struct Forced {
     pub lowest: u32,
 }
 
+/// How long the senders of all messages had waited, on the whole: a quotient with
+/// its remainder over the count, which is above 0.
+#[derive(Clone, Copy, Debug, PartialEq, Eq)]
+pub struct Mean {
+    pub quotient: u32,
+    pub remainder: u32,
+    pub count: u32,
+}
+
+impl Mean {
+    /// The nearest whole tick; a half goes up.
+    pub fn rounded(self) -> u32 {
+        let at_least_half = 2 * u64::from(self.remainder) >= u64::from(self.count);
+        self.quotient + u32::from(at_least_half)
+    }
+}
+
 /// The calls, by the right rules or by a wrong variant.
 #[derive(Clone, Copy, Debug, Default)]
 pub struct Engine {
@@ -93,12 +112,20 @@ impl Engine {
         reading::read(text, settings, Limits::On)
     }
 
-    /// Questions 8 to 11 and 20.
+    /// Questions 8 to 11, 20 and 18.
     pub fn action(self, network: &Network, record: Record) -> Result<(Network, Label), Refusal> {
-        let action = self.questioned(&network.script, &network.components, record)?;
-        let mut components = network.components.clone();
-        let label = self.take(network, &mut components, action)?;
-        Ok((network.with(components), label))
+        let mut working = Working::on(network);
+        let action = self.questioned(&working, working.ledger, record)?;
+        let label = self.take(&mut working, action)?;
+        Ok((working.network(), label))
+    }
+
+    /// The label of an action that is not made: questions 8 to 11 and 20. Nothing is
+    /// counted, so 18 is not asked.
+    pub fn label(self, network: &Network, record: Record) -> Result<Label, Refusal> {
+        let mut working = Working::on(network);
+        let action = self.questioned(&working, Ledger::default(), record)?;
+        self.take(&mut working, action)
     }
 
     /// The label of an action on a script, or of a refused one, by number.
@@ -112,13 +139,16 @@ impl Engine {
         }
     }
 
-    /// Questions 8, 12, 13.
+    /// Questions 8, 12, 13. The count of messages is not asked about.
     pub fn tick(self, network: &Network, location: u32) -> Result<Network, Refusal> {
         let location = location_name(network, location)?;
-        self.close(network, network.components.clone(), location)
+        if self.is(Variant::FullCountStopsTick) {
+            ask(!is_full(network.ledger), Refusal::MessagesFull)?;
+        }
+        self.close(Working::on(network), location)
     }
 
-    /// Questions 8, 15, 13. Question 12 cannot come up: one pass upward leaves
+    /// Questions 8, 15, 18, 13. Question 12 cannot come up: one pass upward leaves
     /// nothing that is forced, whichever input each output meets.
     pub fn step(
         self,
@@ -127,22 +157,28 @@ impl Engine {
         lent: &mut [Record],
     ) -> Result<Stepped, Refusal> {
         let location = location_name(network, location)?;
-        let mut components = network.components.clone();
+        let mut working = Working::on(network);
         let mut records = Vec::new();
         let mut labels = Vec::new();
-        for position in 0..components.len() {
-            if let Some(action) = self.choice(network, &components, position, location) {
-                labels.push(self.take(network, &mut components, action)?);
+        for position in 0..working.components.len() {
+            if let Some(action) = self.choice(&working, position, location) {
+                labels.push(self.take(&mut working, action)?);
                 records.push(Record::of(action));
             }
         }
-        ask(records.len() <= lent.len(), Refusal::BufferShort)?;
-        let network = self.close(network, components, location)?;
+        let room = ask(records.len() <= lent.len(), Refusal::BufferShort);
+        let counted = ask(self.may_enter(&working), Refusal::MessagesFull);
+        let closed = self.close(working, location);
+        let network = match self.rules.variant {
+            Variant::AsksCountBeforeRoom => counted.and(room).and(closed),
+            Variant::AsksCountAfterSize => room.and(closed).and_then(|n| counted.and(Ok(n))),
+            _ => room.and(counted).and(closed),
+        }?;
         lent[..records.len()].copy_from_slice(&records);
         Ok(Stepped { network, labels })
     }
 
-    /// Question 8 for the location; each action in turn 8 to 11, 20 and 16; then
+    /// Question 8 for the location; each action in turn 8 to 11, 20, 18 and 16; then
     /// 12 and 13.
     pub fn proposal(
         self,
@@ -151,30 +187,75 @@ impl Engine {
         records: &[Record],
     ) -> Result<(Network, Vec<Label>), Refusal> {
         let location = location_name(network, location)?;
-        let mut components = network.components.clone();
+        let mut working = Working::on(network);
         let mut labels = Vec::new();
         for record in records {
-            let asked = self.questioned(&network.script, &components, *record);
-            if asked == Err(Refusal::NoRight) && self.is(Variant::AsksRightLast) {
-                let at = &components[record.p as usize].location;
+            let ledger = match self.rules.variant {
+                Variant::AsksCountOfBefore => network.ledger,
+                _ => working.ledger,
+            };
+            let asked = self.questioned(&working, ledger, *record);
+            if self.asks_place_before(&asked) {
+                let at = &working.components[record.p as usize].location;
                 ask(at == location, Refusal::Elsewhere)?;
             }
-            let label = self.take(network, &mut components, asked?)?;
+            let label = self.take(&mut working, asked?)?;
             ask(label.at() == location, Refusal::Elsewhere)?;
             labels.push(label);
         }
-        Ok((self.close(network, components, location)?, labels))
+        Ok((self.close(working, location)?, labels))
+    }
+
+    /// The mistake of asking 16 of a proposal's action before another question.
+    fn asks_place_before(self, asked: &Result<Action, Refusal>) -> bool {
+        match asked {
+            Err(Refusal::NoRight) => self.is(Variant::AsksRightLast),
+            Err(Refusal::MessagesFull) => self.is(Variant::AsksCountAfterPlace),
+            _ => false,
+        }
+    }
+
+    /// No question. The mean over all messages, or nothing if there were none.
+    pub fn mean(self, network: &Network) -> Option<Mean> {
+        let Ledger { total, messages } = network.ledger;
+        let count = u64::from(messages);
+        let quotient = total.checked_div(count)?;
+        Some(Mean {
+            quotient: quotient as u32,
+            remainder: (total - quotient * count) as u32,
+            count: messages,
+        })
+    }
+
+    /// The whole tick that is printed for a mean.
+    pub fn rounded(self, mean: Mean) -> u32 {
+        let twice = 2 * u64::from(mean.remainder);
+        let up = match self.rules.variant {
+            Variant::MeanRoundsDown => false,
+            Variant::MeanRoundsUp => mean.remainder > 0,
+            Variant::HalfGoesDown => twice > u64::from(mean.count),
+            _ => return mean.rounded(),
+        };
+        mean.quotient + u32::from(up)
+    }
+
+    /// Whether a mean is printed after a refusal too, which is a mistake.
+    pub(crate) fn prints_mean_after_refusal(self) -> bool {
+        self.is(Variant::MeanAfterRefusal)
+    }
+
+    /// What a refused call leaves: the network as it was.
+    pub fn refuse(self, network: &mut Network) {
+        network.ledger.messages += u32::from(self.is(Variant::CountsRefusals));
     }
 
     /// No question. A network read with limits has at most 64 locations; of
     /// one read without, only the first 64 are reported.
     pub fn forced(self, network: &Network) -> Forced {
         let mut set = 0u64;
+        let working = Working::on(network);
         for (number, location) in network.script.locations.iter().take(64).enumerate() {
-            if self
-                .rules
-                .forced(&network.script, &network.components, location)
-            {
+            if self.stops_tick(&working, location) {
                 set |= 1 << number;
             }
         }
@@ -185,12 +266,17 @@ impl Engine {
         }
     }
 
-    /// No question. Networks of different editions are not the same; rights are
-    /// not compared.
+    /// No question. Networks of different editions are not the same; rights, waits
+    /// and messages are not compared.
     pub fn same(self, one: &Network, other: &Network) -> bool {
-        self.one_edition(one.script.edition, other.script.edition)
+        let same = self.one_edition(one.script.edition, other.script.edition)
             && sorted_definitions(one) == sorted_definitions(other)
-            && same_in_any_order(&one.components, &other.components)
+            && same_in_any_order(&one.components, &other.components);
+        match self.rules.variant {
+            Variant::SameLooksAtWaits => same && sorted_waits(one) == sorted_waits(other),
+            Variant::SameLooksAtMessages => same && one.ledger == other.ledger,
+            _ => same,
+        }
     }
 
     fn one_edition(self, one: Edition, other: Edition) -> bool {
@@ -207,65 +293,85 @@ impl Engine {
         Ok(text.len())
     }
 
-    /// Questions 8 to 11 and 20 for an action. Kinds 1 and 2 do not look at q.
+    /// Questions 8 to 11, 20 and 18 for an action, after so many messages. Kinds 1
+    /// and 2 do not look at q.
     fn questioned(
         self,
-        script: &Script,
-        components: &[Component],
+        working: &Working,
+        ledger: Ledger,
         record: Record,
     ) -> Result<Action, Refusal> {
+        let components = &working.components;
         let action = in_range(components, record).ok_or(Refusal::OutOfRange)?;
         let chosen: Vec<&Component> = action.positions().iter().map(|p| &components[*p]).collect();
         ask(all_unmarked(chosen.iter().copied()), Refusal::Marked)?;
         ask(of_forms(action, &chosen), Refusal::WrongForm)?;
+        let script = &working.read.script;
         let met = ask(together(&chosen), Refusal::Apart);
         let right = ask(self.rules.has_right(script, chosen[0]), Refusal::NoRight);
-        let (first, second) = if self.is(Variant::AsksRightFirst) {
-            (right, met)
-        } else {
-            (met, right)
+        let meets = matches!(action, Action::Communication(..));
+        let counted = ask(!meets || !is_full(ledger), Refusal::MessagesFull);
+        let [first, second, third] = match self.rules.variant {
+            Variant::AsksRightFirst => [right, met, counted],
+            Variant::AsksCountBeforeRight => [met, counted, right],
+            Variant::AsksCountBeforeMeeting => [counted, met, right],
+            _ => [met, right, counted],
         };
-        first.and(second).and(Ok(action))
+        first.and(second).and(third).and(Ok(action))
+    }
+
+    /// Question 18 of a step, of which only the tick is left to be done.
+    fn may_enter(self, working: &Working) -> bool {
+        let [before, after] = [working.read.ledger, working.ledger];
+        match self.rules.variant {
+            Variant::FullCountStopsStep if is_full(before) => false,
+            Variant::StepAsksForOneMessage => !is_full(before) || after == before,
+            _ => after.messages <= Ledger::MOST_MESSAGES,
+        }
     }
 
     /// Takes an action that the questions have let through.
-    fn take(
-        self,
-        network: &Network,
-        components: &mut Vec<Component>,
-        action: Action,
-    ) -> Result<Label, Refusal> {
-        self.rules
-            .take(&network.script, components, action)
-            .ok_or(Refusal::WrongForm)
+    fn take(self, working: &mut Working, action: Action) -> Result<Label, Refusal> {
+        let script = &working.read.script;
+        let taken = self.rules.take(script, &mut working.components, action);
+        let (label, message) = taken.ok_or(Refusal::WrongForm)?;
+        working.ledger = self.rules.entered(working.ledger, message);
+        Ok(label)
+    }
+
+    /// The forced test. How many messages there were plays no part in it.
+    fn stops_tick(self, working: &Working, location: &str) -> bool {
+        let script = &working.read.script;
+        if self.is(Variant::FullCountFreesPair) && is_full(working.ledger) {
+            let mut rest = working.components.clone();
+            rest.retain(|c| c.ready_part().and_then(sends_on).is_none());
+            return self.rules.forced(script, &rest, location);
+        }
+        self.rules.forced(script, &working.components, location)
     }
 
     /// The tick with questions 12 and 13.
-    fn close(
-        self,
-        network: &Network,
-        components: Vec<Component>,
-        location: &str,
-    ) -> Result<Network, Refusal> {
-        let script = &network.script;
-        let forced = self.rules.forced(script, &components, location);
-        ask(!forced, Refusal::Forced)?;
-        let after = self
-            .rules
-            .tick(script, components, location, Vanish::OwnMarks);
-        ask(after.len() <= MOST_COMPONENTS, Refusal::TableFull)?;
-        Ok(network.with(after))
+    fn close(self, mut working: Working, location: &str) -> Result<Network, Refusal> {
+        ask(!self.stops_tick(&working, location), Refusal::Forced)?;
+        let script = &working.read.script;
+        working.components =
+            self.rules
+                .tick(script, working.components, location, Vanish::OwnMarks);
+        ask(
+            working.components.len() <= MOST_COMPONENTS,
+            Refusal::TableFull,
+        )?;
+        Ok(working.network())
     }
 
     /// What a step fires when its pass comes to `position`: an action that has
-    /// its right. The network is the one that the pass began with.
-    fn choice(
-        self,
-        network: &Network,
-        components: &[Component],
-        position: usize,
-        location: &str,
-    ) -> Option<Action> {
+    /// its right.
+    fn choice(self, working: &Working, position: usize, location: &str) -> Option<Action> {
+        let Working {
+            read: network,
+            components,
+            ..
+        } = working;
         let script = &network.script;
         let part = components[position].ready_at(location)?;
         if !self.rules.lets_fire(script, location, part) {
@@ -332,6 +438,33 @@ impl Engine {
             _ => is_less(timer, of_lower),
         }
     }
+}
+
+/// A call under way: the network that it was put to, and what its actions have made
+/// of it so far.
+struct Working<'n> {
+    read: &'n Network,
+    components: Vec<Component>,
+    ledger: Ledger,
+}
+
+impl Working<'_> {
+    fn on(network: &Network) -> Working<'_> {
+        Working {
+            read: network,
+            components: network.components.clone(),
+            ledger: network.ledger,
+        }
+    }
+
+    fn network(self) -> Network {
+        self.read.with(self.components).after(self.ledger)
+    }
+}
+
+/// Question 18 answered by no.
+fn is_full(ledger: Ledger) -> bool {
+    ledger.messages >= Ledger::MOST_MESSAGES
 }
 
 /// Numbers by their size; `inf` is greater than every number.
@@ -428,13 +561,19 @@ fn sorted_definitions(network: &Network) -> Vec<&Definition> {
     definitions
 }
 
-/// Whether two lists hold the same components, each as often.
+/// Whether two lists hold equal components, each as often, whatever their waits.
 pub fn same_in_any_order(one: &[Component], other: &[Component]) -> bool {
     sorted(one) == sorted(other)
 }
 
-fn sorted(components: &[Component]) -> Vec<&Component> {
-    let mut sorted: Vec<&Component> = components.iter().collect();
+fn sorted(components: &[Component]) -> Vec<(&str, Option<&str>, &Process)> {
+    let mut sorted: Vec<_> = components.iter().map(Component::seen).collect();
     sorted.sort();
     sorted
+}
+
+fn sorted_waits(network: &Network) -> Vec<u32> {
+    let mut waits: Vec<u32> = network.components.iter().map(|c| c.wait).collect();
+    waits.sort_unstable();
+    waits
 }

@@ -1,11 +1,11 @@
 //! A network laid out as a table, as `docs/LAYOUT.md` says that reading does:
 //! parts in text order from the highest place down, bodies of definitions
-//! first, and each component in a bracket of its own.
+//! first, and each component in a bracket of its own; waits and messages as they are.
 
 use crate::reading::{MOST_COMPONENTS, MOST_PARTS, MOST_VARIABLES};
 use crate::table::{
-    Table, CHANNELS, COMPONENT, DEFINITIONS, EDITION, LOCATIONS, NAME, OWN, PARTS, RIGHTS,
-    RIGHTS_ROW, ROW, SCRIPT, STATE,
+    Table, CHANNELS, COMPONENT, DEFINITIONS, EDITION, LEDGER, LOCATIONS, NAME, OWN, PARTS, RIGHTS,
+    RIGHTS_ROW, ROW, SCRIPT, STATE, WAIT,
 };
 use crate::term::{Component, Network, Part, Process, Script, Timer, Value};
 
@@ -51,6 +51,12 @@ pub fn lay(network: &Network) -> Option<Laid> {
     {
         words.copy_from_slice(&layer.component(component)?);
     }
+    let ledger = [
+        network.ledger.total as u32,
+        (network.ledger.total >> 32) as u32,
+        network.ledger.messages,
+    ];
+    components[LEDGER..LEDGER + ledger.len()].copy_from_slice(&ledger);
     Some(Laid {
         script: layer.words,
         components,
@@ -151,6 +157,7 @@ impl Layer<'_> {
         if component.mark.is_none() {
             words[3] = self.words[PARTS + ROW * place + 2];
         }
+        words[WAIT] = component.wait;
         Some(words)
     }
 

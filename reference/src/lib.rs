@@ -1,5 +1,5 @@
 //! A reference engine for TiMo, written from document 01, from Tables 1 and 2 of
-//! source document 001 and from document 02's.
+//! source document 001 and from document 02's.
 //!
 //! Terms carry their names as strings and own their sub-terms; values are put
 //! in by substitution; an action builds new terms. The calls know no table, no
@@ -8,12 +8,12 @@
 //!
 //! | module      | what it holds                                               |
 //! |-------------|-------------------------------------------------------------|
-//! | `term`      | timers, editions, rights, parts, components, networks       |
+//! | `term`      | timers, editions, rights, parts, components, messages       |
 //! | `refusal`   | the numbered questions                                      |
 //! | `reading`   | from bytes to a network, questions 21 and 1 to 7            |
 //! | `writing`   | from terms to text                                          |
 //! | `rules`     | actions with labels, the forced test, the tick              |
-//! | `calls`     | the outward calls with questions 8 to 16 and 20             |
+//! | `calls`     | the outward calls with questions 8 to 16, 18 and 20         |
 //! | `table`     | question 17 of a table, and the network that it stands for  |
 //! | `layout`    | a network laid out as a table                               |
 //! | `runs`      | the straight and the grouped run and what is claimed        |
@@ -22,7 +22,7 @@
 //! | `rights`    | rights as text                                              |
 //! | `printout`  | the answers to a call list, line by line                    |
 //! | `random`    | a small seeded generator of numbers                         |
-//! | `generate`  | scripts, rights and call lists that reach the corners       |
+//! | `generate`  | scripts, rights, call lists and what a host writes          |
 //! | `deep`      | a big stack for terms read without limits                   |
 
 pub mod calls;

@@ -4,8 +4,9 @@
 use std::fmt;
 
 use crate::calls::Record;
+use crate::term::{Component, Ledger, Network};
 
-/// One call on the current network.
+/// One call on the current network, or what a host does with it.
 #[derive(Clone, Debug, PartialEq, Eq)]
 pub enum Call {
     Action(Record),
@@ -30,6 +31,30 @@ pub enum Call {
     Same,
     /// Reads the text and compares the current network with what it gives.
     Like(String),
+    Mean,
+    /// A host writes the wait of a component into its table.
+    Wait {
+        p: u32,
+        wait: u32,
+    },
+    /// A host writes how many messages there were, and for how long in all.
+    Messages(Ledger),
+}
+
+impl Call {
+    /// The network that a host has written into, if it is within the ranges of
+    /// question 17; nothing of a call.
+    pub fn written_into(&self, network: &Network) -> Option<Network> {
+        match self {
+            Call::Wait { p, wait } if *wait <= Component::LONGEST_WAIT => {
+                let mut network = network.clone();
+                network.components.get_mut(*p as usize)?.wait = *wait;
+                Some(network)
+            }
+            Call::Messages(ledger) if ledger.is_in_range() => Some(network.clone().after(*ledger)),
+            _ => None,
+        }
+    }
 }
 
 impl fmt::Display for Call {
@@ -52,6 +77,9 @@ impl fmt::Display for Call {
             Call::Keep => write!(f, "keep"),
             Call::Same => write!(f, "same"),
             Call::Like(text) => write!(f, "like {text}"),
+            Call::Mean => write!(f, "mean"),
+            Call::Wait { p, wait } => write!(f, "wait {p} {wait}"),
+            Call::Messages(Ledger { total, messages }) => write!(f, "messages {messages} {total}"),
         }
     }
 }
@@ -89,6 +117,9 @@ fn call(line: &str) -> Option<Call> {
     }
     let mut words = line.split(' ');
     let name = words.next()?;
+    if name == "messages" {
+        return messages(words.collect::<Vec<&str>>().as_slice());
+    }
     let numbers: Vec<u32> = words.map(|word| word.parse().ok()).collect::<Option<_>>()?;
     match (name, numbers.as_slice()) {
         ("action", [kind, p, q]) => Some(Call::Action(Record::new(*kind, *p, *q))),
@@ -107,8 +138,19 @@ fn call(line: &str) -> Option<Call> {
         }),
         ("keep", []) => Some(Call::Keep),
         ("same", []) => Some(Call::Same),
+        ("mean", []) => Some(Call::Mean),
+        ("wait", [p, wait]) => Some(Call::Wait { p: *p, wait: *wait }),
         _ => None,
     }
+}
+
+/// The count and the total, which may have more than 32 bits.
+fn messages(words: &[&str]) -> Option<Call> {
+    let [count, total] = words else { return None };
+    Some(Call::Messages(Ledger {
+        total: total.parse().ok()?,
+        messages: count.parse().ok()?,
+    }))
 }
 
 fn records(numbers: &[u32]) -> Option<Vec<Record>> {

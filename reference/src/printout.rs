@@ -89,16 +89,24 @@ impl Session {
         for definition in &script.definitions {
             self.line(format!("definition {}", writing::definition(definition)));
         }
-        self.print_components();
+        self.print_network();
     }
 
-    fn print_components(&mut self) {
+    /// Components, their waits in order, and the messages so far.
+    fn print_network(&mut self) {
         if self.quiet {
             return;
         }
-        for component in &self.network.components {
+        let Network {
+            components, ledger, ..
+        } = &self.network;
+        for component in components {
             let _ = writeln!(self.text, "component {}", writing::component(component));
         }
+        let waits: Vec<String> = components.iter().map(|c| c.wait.to_string()).collect();
+        let (count, total) = (ledger.messages, ledger.total);
+        self.line(words("waits", &waits));
+        self.line(format!("messages {count} {total}"));
     }
 
     fn answer(&mut self, call: &Call) {
@@ -118,7 +126,23 @@ impl Session {
                 self.line(yes_or_no(same));
             }
             Call::Like(text) => self.like(text),
+            Call::Mean => self.mean(),
+            Call::Wait { .. } | Call::Messages(_) => match call.written_into(&self.network) {
+                Some(network) => {
+                    self.line("ok".to_string());
+                    self.accept(network, |_| Ok(()));
+                }
+                None => self.line("out of range".to_string()),
+            },
         }
+    }
+
+    fn mean(&mut self) {
+        let line = match self.engine.mean(&self.network) {
+            Some(mean) => format!("ok {} {} {}", mean.quotient, mean.remainder, mean.count),
+            None => "ok none".to_string(),
+        };
+        self.line(line);
     }
 
     fn action(&mut self, record: Record) {
@@ -214,6 +238,7 @@ impl Session {
     }
 
     fn refuse(&mut self, refusal: Refusal) {
+        self.engine.refuse(&mut self.network);
         self.refused += 1;
         self.line(refusal.to_string());
     }
@@ -225,7 +250,7 @@ impl Session {
     /// Goes on with the network that a call returned.
     fn accept(&mut self, network: Network, feed: impl FnOnce(&mut Run) -> Result<(), Broken>) {
         self.network = network;
-        self.print_components();
+        self.print_network();
         if let Ok(run) = &mut self.run {
             if let Err(broken) = feed(run) {
                 self.run = Err((self.index, broken));
@@ -235,7 +260,7 @@ impl Session {
 
     fn finish(mut self) -> String {
         self.line("end".to_string());
-        self.print_components();
+        self.print_network();
         let verdict = match self.run.clone() {
             Err((index, broken)) => format!("run broken at call {index}: {broken}"),
             Ok(run) => match run.finish(&self.network) {

@@ -1,14 +1,14 @@
-//! What `timorun` does (document 01, behind the twelve examples): reads a
-//! text, does four rounds of steps over all locations, prints a line for each
-//! step and then the network, or `refused N` and no more. It reads under
-//! edition 1 with all rights.
+//! What `timorun` does (document 01, behind the twelve examples; document 02,
+//! reads a text, does four rounds of steps over all locations, prints a line
+//! for each step, then the network and on one more line how long articles waited on
+//! the whole, or `refused N` and no more. It reads under edition 1 with all rights.
 
 use std::io::{self, Read, Write};
 
 use crate::calls::{Engine, Record};
 use crate::reading::MOST_BYTES;
 use crate::refusal::Refusal;
-use crate::term::{Edition, Settings};
+use crate::term::{Edition, Network, Settings};
 
 const ROUNDS: usize = 4;
 const RECORDS: usize = 256;
@@ -26,7 +26,16 @@ pub fn take_input(input: impl Read) -> io::Result<Vec<u8>> {
 pub fn run(engine: Engine, text: &[u8], output: &mut impl Write) -> io::Result<()> {
     match run_or_refuse(engine, text, output)? {
         Ok(()) => Ok(()),
+        Err(refusal) if engine.prints_mean_after_refusal() => writeln!(output, "{refusal}\n-"),
         Err(refusal) => writeln!(output, "{refusal}"),
+    }
+}
+
+/// The mean as a whole tick, or `-` if there were no messages.
+pub fn mean_line(engine: Engine, network: &Network) -> String {
+    match engine.mean(network) {
+        Some(mean) => format!("{}\n", engine.rounded(mean)),
+        None => "-\n".to_string(),
     }
 }
 
@@ -56,8 +65,10 @@ fn run_or_refuse(
         }
     }
     let mut buffer = vec![0; BYTES];
-    match engine.write(&network, &mut buffer) {
-        Ok(length) => output.write_all(&buffer[..length]).map(Ok),
-        Err(refusal) => Ok(Err(refusal)),
-    }
+    let length = match engine.write(&network, &mut buffer) {
+        Ok(length) => length,
+        Err(refusal) => return Ok(Err(refusal)),
+    };
+    output.write_all(&buffer[..length])?;
+    write!(output, "{}", mean_line(engine, &network)).map(Ok)
 }

@@ -12,7 +12,7 @@ use std::sync::Arc;
 
 use crate::refusal::{ask, Refusal};
 use crate::term::{
-    Component, Definition, Edition, Network, Part, Process, Script, Settings, Timer, Value,
+    Component, Definition, Edition, Ledger, Network, Part, Process, Script, Settings, Timer, Value,
 };
 
 /// Whether questions 1, 3 and 4 are asked.
@@ -67,6 +67,7 @@ pub fn read(text: &[u8], settings: &Settings, limits: Limits) -> Result<Network,
     Ok(Network {
         script: Arc::new(script),
         components,
+        ledger: Ledger::default(),
     })
 }
 
@@ -320,6 +321,7 @@ impl<'t> Reader<'t> {
                 location: location.clone(),
                 mark: None,
                 process,
+                wait: 0,
             });
         }
         Ok(())

@@ -40,6 +40,9 @@ pub enum Refusal {
     BufferShort = 15,
     /// 16: an action of the proposal fires at another location.
     Elsewhere = 16,
+    /// 18, asked after 11 and 20, and in a step after 15: the count of messages is
+    /// full.
+    MessagesFull = 18,
     /// 20, asked after 11: the action lacks its right.
     NoRight = 20,
     /// 21, asked before 1: the edition is neither 1 nor 2.

@@ -1,12 +1,14 @@
 //! The rules (document 01, *Actions* and *The tick at l*; Table 2; document 02,
-//!
+//!
 //!
 //! `fire` takes the components of an action and gives what they become, with
-//! the label; positions play no part in it. The tick is a map from each
+//! the label and, of a communication, how long its sender had waited; positions
+//! play no part in it. The tick is a map from each
 //! component to a list of components, with the test "whose marks vanish" as a
 //! parameter. The right rules look at the script's edition in one place: when an
 //! `in` or `out` takes its Q at a tick. They ask for rights in two: an action that
-//! lacks its right does not fire, and stops no tick. Nothing here knows a limit.
+//! lacks its right does not fire, and stops no tick. Waits decide nothing, and the
+//! rules do not know how many messages there were. Nothing here knows a limit.
 //!
 //! `Variant` puts a wrong rule in the place of a right one, to try whether a
 //! comparison notices. Everything but such trials uses `Variant::Right`.
@@ -15,7 +17,7 @@ use std::collections::HashSet;
 use std::fmt;
 use std::mem;
 
-use crate::term::{Component, Edition, Part, Process, Script, Timer, Value};
+use crate::term::{Component, Edition, Ledger, Part, Process, Script, Timer, Value};
 use crate::writing::spelling;
 
 /// The right rules, or rules with one mistake.
@@ -101,6 +103,76 @@ pub enum Variant {
     StuckGoStops,
     /// Keeps an `in` or `out` that lacks its right when it should take its Q.
     StuckPairKeepsTimer,
+    /// Adds the receiver's wait to the total.
+    AddsReceiversWait,
+    /// Adds the sender's wait as the action leaves it, which is 0.
+    AddsWaitAfterReset,
+    /// Adds the waits of sender and receiver.
+    AddsBothWaits,
+    /// Keeps 32 bits of the total.
+    TotalHas32Bits,
+    /// Counts a move as a message.
+    CountsMoves,
+    /// Counts a refused call as a message.
+    CountsRefusals,
+    /// Lets a wait pass 1,000,000.
+    WaitPassesLongest,
+    /// Lets what is unmarked wait at the ticks of other locations too.
+    WaitsAtEveryTick,
+    /// Lets what another location has marked wait.
+    MarkedWaits,
+    /// Lets `stop` wait.
+    StopWaits,
+    /// Does not let wait what has `inf`.
+    InfDoesNotWait,
+    /// Does not let a `go` with timer 0 wait that lacks its right.
+    StuckGoDoesNotWait,
+    /// Gives each part of a Q the wait of what it takes the place of.
+    QKeepsWait,
+    /// Counts the tick that gives a Q as its first.
+    QHasWaited,
+    /// Keeps the wait of what a tick unmarks, which is 0 but in a table made by hand.
+    UnmarkingKeepsWait,
+    /// Counts the tick that unmarks a component as its first.
+    UnmarkedHasWaited,
+    /// Keeps the wait of what moves.
+    MoveKeepsWait,
+    /// Keeps the waits of what meets.
+    MeetingKeepsWaits,
+    /// Keeps the wait of a call, which is 0 but in a table made by hand.
+    CallKeepsWait,
+    /// Refuses every tick at a full count.
+    FullCountStopsTick,
+    /// Lets no pair stop a tick at a full count.
+    FullCountFreesPair,
+    /// Refuses a step without communications at a full count.
+    FullCountStopsStep,
+    /// Lets a step at a count that is not full have any number of communications.
+    StepAsksForOneMessage,
+    /// Asks question 18 of a step before 15.
+    AsksCountBeforeRoom,
+    /// Asks question 18 of a step after 13.
+    AsksCountAfterSize,
+    /// Asks question 18 before 20.
+    AsksCountBeforeRight,
+    /// Asks question 18 before 11.
+    AsksCountBeforeMeeting,
+    /// Asks question 18 after 16 in a proposal.
+    AsksCountAfterPlace,
+    /// Asks question 18 of each action of a proposal by the count before all of them.
+    AsksCountOfBefore,
+    /// Says that networks with other waits are not the same.
+    SameLooksAtWaits,
+    /// Says that networks after other messages are not the same.
+    SameLooksAtMessages,
+    /// Prints the mean without its fraction.
+    MeanRoundsDown,
+    /// Prints the next whole tick for a mean with a fraction.
+    MeanRoundsUp,
+    /// Prints a mean at the half without its fraction.
+    HalfGoesDown,
+    /// Prints a mean after a refusal too.
+    MeanAfterRefusal,
 }
 
 impl Variant {
@@ -152,6 +224,51 @@ impl Variant {
         Variant::StuckPairKeepsTimer,
     ];
 
+    /// Every variant with a mistake in waits, messages or question 18 that the answers
+    /// to a list can show: document 02, R-1.
+    pub const WRONG_WAITS: [Variant; 31] = [
+        Variant::AddsReceiversWait,
+        Variant::AddsWaitAfterReset,
+        Variant::AddsBothWaits,
+        Variant::TotalHas32Bits,
+        Variant::CountsMoves,
+        Variant::CountsRefusals,
+        Variant::WaitPassesLongest,
+        Variant::WaitsAtEveryTick,
+        Variant::MarkedWaits,
+        Variant::StopWaits,
+        Variant::InfDoesNotWait,
+        Variant::StuckGoDoesNotWait,
+        Variant::QKeepsWait,
+        Variant::QHasWaited,
+        Variant::UnmarkingKeepsWait,
+        Variant::UnmarkedHasWaited,
+        Variant::MoveKeepsWait,
+        Variant::MeetingKeepsWaits,
+        Variant::CallKeepsWait,
+        Variant::FullCountStopsTick,
+        Variant::FullCountFreesPair,
+        Variant::FullCountStopsStep,
+        Variant::StepAsksForOneMessage,
+        Variant::AsksCountBeforeRoom,
+        Variant::AsksCountAfterSize,
+        Variant::AsksCountBeforeRight,
+        Variant::AsksCountBeforeMeeting,
+        Variant::AsksCountAfterPlace,
+        Variant::AsksCountOfBefore,
+        Variant::SameLooksAtWaits,
+        Variant::SameLooksAtMessages,
+    ];
+
+    /// Every variant with a mistake in the mean that `timorun` prints, which only a
+    /// comparison of printouts can notice.
+    pub const WRONG_PRINTOUTS: [Variant; 4] = [
+        Variant::MeanRoundsDown,
+        Variant::MeanRoundsUp,
+        Variant::HalfGoesDown,
+        Variant::MeanAfterRefusal,
+    ];
+
     /// Every variant with a mistake in labels by number, which a comparison of
     /// labels by letter cannot notice.
     pub const WRONG_NUMBERS: [Variant; 3] = [
@@ -164,10 +281,11 @@ impl Variant {
     /// which the answers to a list cannot show: its networks have one edition.
     pub const WRONG_SAME: [Variant; 1] = [Variant::SameAcrossEditions];
 
-    /// All of them.
+    /// All of them that a list can show, but those of printouts.
     pub fn every_wrong() -> Vec<Variant> {
         [
             &Variant::WRONG[..],
+            &Variant::WRONG_WAITS,
             &Variant::WRONG_NUMBERS,
             &Variant::WRONG_SAME,
         ]
@@ -260,7 +378,11 @@ pub enum Vanish {
 pub struct Fired {
     pub components: Vec<Component>,
     pub label: Label,
+    pub message: Message,
 }
+
+/// How long the sender of a communication had waited; nothing of another action.
+pub type Message = Option<u64>;
 
 #[derive(Clone, Copy, Debug, Default)]
 pub struct Rules {
@@ -280,21 +402,27 @@ impl Rules {
         if !self.lets_fire(script, &first.location, first.ready_part()?) {
             return None;
         }
-        match (kind, components) {
+        let mut fired = match (kind, components) {
             (Kind::Call, [caller]) => self.call(script, caller),
             (Kind::Move, [mover]) => self.movement(mover),
             (Kind::Communication, [output, input]) => self.communication(output, input),
             _ => None,
+        }?;
+        if self.keeps_waits(kind) {
+            for (after, before) in fired.components.iter_mut().zip(components) {
+                after.wait = before.wait;
+            }
         }
+        Some(fired)
     }
 
-    /// Fires an action at its positions and gives its label.
+    /// Fires an action at its positions and gives its label and its message.
     pub fn take(
         self,
         script: &Script,
         components: &mut Vec<Component>,
         action: Action,
-    ) -> Option<Label> {
+    ) -> Option<(Label, Message)> {
         let positions = action.positions();
         let before: Option<Vec<&Component>> =
             positions.iter().map(|p| components.get(*p)).collect();
@@ -305,7 +433,7 @@ impl Rules {
         if self.is(Variant::SplitsEarly) {
             *components = mem::take(components).into_iter().flat_map(split).collect();
         }
-        Some(fired.label)
+        Some((fired.label, fired.message))
     }
 
     fn call(self, script: &Script, caller: &Component) -> Option<Fired> {
@@ -331,6 +459,7 @@ impl Rules {
         Some(Fired {
             components: vec![marked(&at, &at, body)],
             label,
+            message: None,
         })
     }
 
@@ -355,6 +484,7 @@ impl Rules {
                 target: target.clone(),
                 at,
             },
+            message: self.is(Variant::CountsMoves).then_some(0),
         })
     }
 
@@ -391,6 +521,43 @@ impl Rules {
                 value,
                 at,
             },
+            message: Some(self.added(output, input)),
+        })
+    }
+
+    // --- messages ------------------------------------------------------------
+
+    /// What a communication adds to the total: the sender's wait.
+    fn added(self, sender: &Component, receiver: &Component) -> u64 {
+        let [sent, received] = [sender, receiver].map(|c| u64::from(c.wait));
+        match self.variant {
+            Variant::AddsReceiversWait => received,
+            Variant::AddsWaitAfterReset => 0,
+            Variant::AddsBothWaits => sent + received,
+            _ => sent,
+        }
+    }
+
+    /// The ledger after an action. No limit is asked for here.
+    pub fn entered(self, ledger: Ledger, message: Message) -> Ledger {
+        let Some(wait) = message else { return ledger };
+        let total = ledger.total + wait;
+        Ledger {
+            total: if self.is(Variant::TotalHas32Bits) {
+                total % (1 << 32)
+            } else {
+                total
+            },
+            messages: ledger.messages + 1,
+        }
+    }
+
+    /// The mistake of not setting waits to 0 at an action.
+    fn keeps_waits(self, kind: Kind) -> bool {
+        self.is(match kind {
+            Kind::Call => Variant::CallKeepsWait,
+            Kind::Move => Variant::MoveKeepsWait,
+            Kind::Communication => Variant::MeetingKeepsWaits,
         })
     }
 
@@ -623,15 +790,75 @@ impl Rules {
         let all = vanish == Vanish::AllMarks || self.is(Variant::ClearsAllMarks);
         match &c.mark {
             None if c.location == location => self.tick_ready(script, c),
-            None => vec![c],
-            Some(owner) if all || owner == location => split(Component { mark: None, ..c }),
+            None => vec![self.not_ticked(c, Variant::WaitsAtEveryTick)],
+            Some(owner) if all || owner == location => split(self.unmarked(c)),
             Some(_) if c.location == location && self.is(Variant::TicksMarkedByOthers) => {
                 vec![Component {
                     process: self.tick_all_parts(script, location, c.process),
                     ..c
                 }]
             }
+            Some(_) if c.location == location => vec![self.not_ticked(c, Variant::MarkedWaits)],
             Some(_) => vec![c],
+        }
+    }
+
+    /// A component that this tick leaves as it is, or its wait longer by a mistake.
+    fn not_ticked(self, mut component: Component, mistake: Variant) -> Component {
+        if self.is(mistake) {
+            component.wait = self.longer(component.wait);
+        }
+        component
+    }
+
+    /// A component that loses its mark. Its wait begins anew.
+    fn unmarked(self, component: Component) -> Component {
+        Component {
+            mark: None,
+            wait: match self.variant {
+                Variant::UnmarkingKeepsWait => component.wait,
+                Variant::UnmarkedHasWaited => 1,
+                _ => 0,
+            },
+            ..component
+        }
+    }
+
+    /// The wait after a tick that leaves a component its part: one more if the
+    /// part has a timer, which the tick has lowered or kept.
+    fn wait_after(self, component: &Component) -> u32 {
+        let waits = match component.ready_part() {
+            Some(Part::Stop) => self.is(Variant::StopWaits),
+            Some(Part::Go { timer, .. }) if timer.is_zero() => {
+                !self.is(Variant::StuckGoDoesNotWait)
+            }
+            Some(Part::Go { timer, .. } | Part::Out { timer, .. } | Part::In { timer, .. }) => {
+                *timer != Timer::Inf || !self.is(Variant::InfDoesNotWait)
+            }
+            Some(Part::Call { .. }) | None => false,
+        };
+        if waits {
+            self.longer(component.wait)
+        } else {
+            component.wait
+        }
+    }
+
+    /// One tick more; a wait halts.
+    fn longer(self, wait: u32) -> u32 {
+        if self.is(Variant::WaitPassesLongest) {
+            wait + 1
+        } else {
+            (wait + 1).min(Component::LONGEST_WAIT)
+        }
+    }
+
+    /// The wait of each part of a Q that takes the place of a component.
+    fn wait_of_q(self, component: &Component) -> u32 {
+        match self.variant {
+            Variant::QKeepsWait => component.wait,
+            Variant::QHasWaited => 1,
+            _ => 0,
         }
     }
 
@@ -641,6 +868,7 @@ impl Rules {
             Some(otherwise) => {
                 let given = Component {
                     process: otherwise,
+                    wait: self.wait_of_q(&component),
                     ..component
                 };
                 if self.is(Variant::ForgetsSplitOfQ) {
@@ -650,6 +878,7 @@ impl Rules {
                 }
             }
             None => {
+                component.wait = self.wait_after(&component);
                 component.process.parts.iter_mut().for_each(lower);
                 vec![component]
             }
@@ -772,11 +1001,13 @@ fn pair_above(ticks: u32, ready: &[&Part]) -> bool {
     })
 }
 
+/// What an action makes of a component; its wait begins anew.
 fn marked(location: &str, owner: &str, process: Process) -> Component {
     Component {
         location: location.to_string(),
         mark: Some(owner.to_string()),
         process,
+        wait: 0,
     }
 }
 

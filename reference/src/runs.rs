@@ -5,6 +5,9 @@
 //! for nothing. It keeps two networks without limits. Every point of the claim
 //! is checked on the way, and the first one that fails ends the run.
 //!
+//! Components are equal whatever their waits, and messages are not counted here: of
+//! two equal outputs a note may fire the one that has waited less.
+//!
 //! Beside the straight network stands for each of its components the position of
 //! its ancestor in the network read. An action replaces components at their own
 //! positions and leaves this as it is; what a tick makes of a component has the
@@ -123,7 +126,7 @@ impl Run {
             .iter()
             .map(|p| self.straight[*p].clone())
             .collect();
-        let label = self
+        let (label, _) = self
             .rules
             .take(&self.read.script, &mut self.straight, action)
             .ok_or(Broken::StraightAction)?;
@@ -188,7 +191,7 @@ impl Run {
         if self.read.script.rights != last.script.rights {
             return Err(Broken::RightsChanged);
         }
-        if self.straight != last.components {
+        if !equal_in_order(&self.straight, &last.components) {
             return Err(Broken::StraightDiffers);
         }
         if !same_in_any_order(&self.grouped, &last.components) {
@@ -234,7 +237,7 @@ impl Run {
     /// Fires a note on the first components of the grouped network that are
     /// equal to its own.
     fn fire_note(&mut self, note: Note) -> Result<(), Broken> {
-        let first = |wanted: &Component| self.grouped.iter().position(|c| c == wanted);
+        let first = |wanted: &Component| self.grouped.iter().position(|c| c.is_equal(wanted));
         let positions: Option<Vec<usize>> = note.components.iter().map(first).collect();
         let positions = positions.ok_or(Broken::NoteWithoutComponents)?;
         let components: Vec<&Component> = positions.iter().map(|p| &self.grouped[*p]).collect();
@@ -250,6 +253,12 @@ impl Run {
         }
         Ok(())
     }
+}
+
+/// Whether two lists have equal components at each position.
+fn equal_in_order(one: &[Component], other: &[Component]) -> bool {
+    let mut pairs = one.iter().zip(other);
+    one.len() == other.len() && pairs.all(|(one, other)| one.is_equal(other))
 }
 
 /// Where chains of rights to leave lead, by the numbers of locations.

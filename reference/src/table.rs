@@ -16,13 +16,14 @@ use crate::reading::{
 };
 use crate::rules::Rules;
 use crate::term::{
-    Component, Definition, Edition, Network, Part, Process, Rights, Row, Script, Timer, Value,
+    Component, Definition, Edition, Ledger, Network, Part, Process, Rights, Row, Script, Timer,
+    Value,
 };
 
 /// Words of a script.
 pub const SCRIPT: usize = 111_888;
-/// Words of a state: those of the components, and some behind them.
-pub const STATE: usize = COMPONENT * MOST_COMPONENTS + 16;
+/// Words of a state: those of the components, and the ledger behind them.
+pub const STATE: usize = LEDGER + 16;
 
 /// Where the script's lists begin, and the words of one entry.
 pub const DEFINITIONS: usize = 8;
@@ -41,8 +42,12 @@ pub const RIGHTS_ROW: usize = 192;
 pub const ROW: usize = 24;
 pub const NAME: usize = 4;
 pub const COMPONENT: usize = 16;
-/// Where the locations of its slots stand; words behind them are not used.
+/// Where the locations of its slots stand, and its wait; words behind it are not used.
 pub const SLOTS: std::ops::Range<usize> = 4..12;
+pub const WAIT: usize = 12;
+/// Where the ledger begins: the total in two words, its low 32 bits first, and the
+/// count of messages; words behind them are not used.
+pub const LEDGER: usize = COMPONENT * MOST_COMPONENTS;
 
 /// Words of a part's row.
 pub const KIND: usize = 0;
@@ -163,11 +168,17 @@ pub enum Test {
     ComponentValue,
     /// 32
     Edition,
+    /// 33
+    Wait,
+    /// 34
+    Messages,
+    /// 35
+    Total,
 }
 
 impl Test {
     /// Every test, first to last.
-    pub const ALL: [Test; 39] = [
+    pub const ALL: [Test; 42] = [
         Test::Sizes,
         Test::Counts,
         Test::LocationForm,
@@ -207,6 +218,9 @@ impl Test {
         Test::ComponentTimer,
         Test::ComponentValue,
         Test::Edition,
+        Test::Wait,
+        Test::Messages,
+        Test::Total,
     ];
 
     fn at(self, at: usize) -> Fault {
@@ -274,7 +288,17 @@ impl<'w> Table<'w> {
         self.all_parts()?;
         self.all_components()?;
         let edition = self.edition().is_some();
-        self.ask(edition, Test::Edition, EDITION)
+        self.ask(edition, Test::Edition, EDITION)?;
+        self.messages_17()
+    }
+
+    /// The total may be as large as so many messages can have made it.
+    fn messages_17(&self) -> Asked {
+        let ledger = self.ledger();
+        let counted = ledger.messages <= Ledger::MOST_MESSAGES;
+        self.ask(counted, Test::Messages, LEDGER + 2)?;
+        let total = ledger.total <= ledger.largest_total();
+        self.ask(total, Test::Total, LEDGER)
     }
 
     fn counts(&self) -> Asked {
@@ -462,7 +486,8 @@ impl<'w> Table<'w> {
         self.ask(place, Test::ComponentPlace, p)?;
         self.ask(words[3] <= INF, Test::ComponentTimer, p)?;
         let held = words[SLOTS].iter().all(location);
-        self.ask(held, Test::ComponentValue, p)
+        self.ask(held, Test::ComponentValue, p)?;
+        self.ask(words[WAIT] <= Component::LONGEST_WAIT, Test::Wait, p)
     }
 
     /// Each name of its form, and each held once.
@@ -535,6 +560,14 @@ impl Table<'_> {
 
     fn edition(&self) -> Option<Edition> {
         self.script.get(EDITION).and_then(|word| Edition::of(*word))
+    }
+
+    fn ledger(&self) -> Ledger {
+        let word = |k: usize| self.components.get(LEDGER + k).copied().unwrap_or(0);
+        Ledger {
+            total: u64::from(word(0)) + (u64::from(word(1)) << 32),
+            messages: word(2),
+        }
     }
 
     fn arity(&self, d: usize) -> usize {
@@ -617,13 +650,14 @@ impl Table<'_> {
         Ok(Network {
             script: Arc::new(script),
             components: self.all_meant(),
+            ledger: self.ledger(),
         })
     }
 
-    /// The components alone.
-    pub fn network_components(&self) -> Result<Vec<Component>, Fault> {
+    /// The components and the messages alone.
+    pub fn network_state(&self) -> Result<(Vec<Component>, Ledger), Fault> {
         self.rightly_asked()?;
-        Ok(self.all_meant())
+        Ok((self.all_meant(), self.ledger()))
     }
 
     /// Question 17 with no test left out.
@@ -690,6 +724,7 @@ impl Table<'_> {
             location: self.location(location as usize),
             mark: (mark != UNMARKED).then(|| self.location(mark as usize)),
             process: Rules::default().put(&values, &process),
+            wait: words[WAIT],
         }
     }
 

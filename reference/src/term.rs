@@ -254,16 +254,33 @@ pub struct Definition {
     pub body: Process,
 }
 
-/// A located process with its mark, which names its owner.
+/// A located process with its mark, which names its owner, and its wait.
 /// Unmarked it has one part; marked it may hold several and counts as one.
-#[derive(Clone, Debug, PartialEq, Eq, PartialOrd, Ord)]
+/// Equality looks at the wait too; `is_equal` is document 01's.
+#[derive(Clone, Debug, PartialEq, Eq)]
 pub struct Component {
     pub location: String,
     pub mark: Option<String>,
     pub process: Process,
+    /// For how many ticks it has waited (document 02, R-1).
+    pub wait: u32,
 }
 
 impl Component {
+    /// Where a wait halts.
+    pub const LONGEST_WAIT: u32 = 1_000_000;
+
+    /// All that document 01 says of a component, in an order of its own: waits
+    /// are passed over.
+    pub fn seen(&self) -> (&str, Option<&str>, &Process) {
+        (&self.location, self.mark.as_deref(), &self.process)
+    }
+
+    /// Document 01's *equal* components, whatever their waits.
+    pub fn is_equal(&self, other: &Component) -> bool {
+        self.seen() == other.seen()
+    }
+
     /// The part of an unmarked component.
     pub fn ready_part(&self) -> Option<&Part> {
         match (&self.mark, self.process.parts.as_slice()) {
@@ -305,20 +322,50 @@ impl Script {
     }
 }
 
-/// A list of components with the script they came from.
+/// The messages so far (document 02, R-1): how many there were, and how long their
+/// senders had waited in all.
+#[derive(Clone, Copy, Debug, Default, PartialEq, Eq)]
+pub struct Ledger {
+    pub total: u64,
+    pub messages: u32,
+}
+
+impl Ledger {
+    /// How many messages are counted. A communication past them is refused by 18.
+    pub const MOST_MESSAGES: u32 = 1_000_000;
+
+    /// What question 17 asks of a table's.
+    pub fn is_in_range(self) -> bool {
+        self.messages <= Ledger::MOST_MESSAGES && self.total <= self.largest_total()
+    }
+
+    /// The largest total that so many messages can have.
+    pub fn largest_total(self) -> u64 {
+        u64::from(Component::LONGEST_WAIT) * u64::from(self.messages)
+    }
+}
+
+/// A list of components with the script they came from, and the messages so far.
 #[derive(Clone, Debug, PartialEq, Eq)]
 pub struct Network {
     pub script: Arc<Script>,
     pub components: Vec<Component>,
+    pub ledger: Ledger,
 }
 
 impl Network {
-    /// The same script with other components.
+    /// The same script and ledger with other components.
     pub fn with(&self, components: Vec<Component>) -> Network {
         Network {
             script: Arc::clone(&self.script),
             components,
+            ledger: self.ledger,
         }
+    }
+
+    /// The same network after other messages.
+    pub fn after(self, ledger: Ledger) -> Network {
+        Network { ledger, ..self }
     }
 
     /// What it was read with.
@@ -350,6 +397,7 @@ impl Network {
         Network {
             script: Arc::new(script),
             components: self.components.clone(),
+            ledger: self.ledger,
         }
     }
 }

@@ -136,7 +136,7 @@ fn a_move_is_counted_as_before() {
         assert_eq!(engine().forced(&once).set, 1);
         assert_eq!(shown(&stepped(&once, 0)), "B[] stop");
         let inf = read_under(edition, "A[go(inf,B,stop)] .");
-        assert_eq!(tick(&inf, 0), inf);
+        assert!(engine().same(&tick(&inf, 0), &inf));
     }
 }
 

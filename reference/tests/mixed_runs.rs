@@ -31,11 +31,16 @@ fn the_claim_holds_on_hundreds_of_random_lists() {
     );
 }
 
+/// Every variant that the answers to a list can show.
+fn wrong() -> Vec<Variant> {
+    [&Variant::WRONG[..], &Variant::WRONG_WAITS].concat()
+}
+
 #[test]
 fn a_comparison_of_printouts_tells_every_wrong_variant_apart() {
     let cases: Vec<Case> = cases(200).collect();
     let right: Vec<String> = cases.iter().map(|case| case.answers(engine())).collect();
-    for variant in Variant::WRONG {
+    for variant in wrong() {
         let differs = |index: &usize| cases[*index].answers(Engine::new(variant)) != right[*index];
         let found = (0..cases.len()).find(differs);
         assert!(found.is_some(), "{variant:?} is not told apart");
@@ -45,13 +50,17 @@ fn a_comparison_of_printouts_tells_every_wrong_variant_apart() {
 
 /// A step may choose any input and fire any move, and a refusal counts for
 /// nothing: another partner or none, with 12, a move forced too early, what stops a
-/// tick without its right and another number are within the rules.
+/// tick without its right and another number are within the rules. Waits and messages
+/// are not claimed, but a tick that a pair should have stopped is.
 #[test]
 fn the_claim_is_broken_by_every_variant_that_the_rules_exclude() {
     let cases: Vec<Case> = cases(200).collect();
-    for variant in Variant::WRONG {
+    for variant in wrong() {
         let breaks = |case: &Case| case.verdict(Engine::new(variant)).0.is_err();
-        let broken = cases.iter().any(breaks);
+        let unclaimed =
+            Variant::WRONG_WAITS.contains(&variant) && variant != Variant::FullCountFreesPair;
+        let some = if unclaimed { 30 } else { cases.len() };
+        let broken = cases.iter().take(some).any(breaks);
         let within = matches!(
             variant,
             Variant::ForcesGoAtOne
@@ -61,6 +70,7 @@ fn the_claim_is_broken_by_every_variant_that_the_rules_exclude() {
                 | Variant::AsksRightLast
         );
         let within = within || Variant::WRONG_CHOICES.contains(&variant);
+        let within = within || unclaimed;
         assert_eq!(broken, !within, "{variant:?}");
     }
 }
@@ -163,15 +173,15 @@ fn random_lists_reach_every_refusal() {
         }
     }
     let times = |line: &str| seen.get(line).copied().unwrap_or(0);
-    for number in (8..=16).chain([20]) {
+    for number in (8..=16).chain([18, 20]) {
         assert!(times(&format!("refused {number}")) > 10, "refusal {number}");
     }
-    for answer in ["ok yes", "ok no", "rest kept", "run ok"] {
+    for answer in ["ok yes", "ok no", "ok none", "rest kept", "run ok"] {
         assert!(times(answer) > 10, "{answer}");
     }
 }
 
-/// After one pass upward nothing is forced, so a step is refused by 8, 15 or
+/// After one pass upward nothing is forced, so a step is refused by 8, 15, 18 or
 /// 13 only; and no call ever makes the components fewer.
 #[test]
 fn a_step_never_meets_12_and_components_never_become_fewer() {
@@ -180,7 +190,7 @@ fn a_step_never_meets_12_and_components_never_become_fewer() {
         for call in &case.calls {
             for location in 0..network.script.locations.len() as u32 {
                 let answer = number(engine().step(&network, location, &mut records()));
-                assert!(matches!(answer, 0 | 13), "a step gave {answer}");
+                assert!(matches!(answer, 0 | 13 | 18), "a step gave {answer}");
             }
             if let Some(next) = next(&network, call) {
                 assert!(next.components.len() >= network.components.len());
@@ -199,7 +209,7 @@ fn next(network: &Network, call: &Call) -> Option<Network> {
     match call {
         Call::Action(record) => engine().action(network, *record).ok().map(|(next, _)| next),
         Call::Tick(location) => engine().tick(network, *location).ok(),
-        _ => None,
+        _ => call.written_into(network),
     }
 }
 

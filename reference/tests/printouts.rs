@@ -139,7 +139,7 @@ fn document_01_prints_its_own_example() {
     A[Page(B)] | B[in(c,2,y,go(0,y,stop),stop)] .
 ";
     let expected = "A Page@A\nB\nA B@A\nB c<B>@B\nA\nB B@B\nA\nB\n\
-        Page(x) = go(0,x,out(c,1,x,stop,stop)) .\nB[stop] | B[stop] .\n";
+        Page(x) = go(0,x,out(c,1,x,stop,stop)) .\nB[stop] | B[stop] .\n0\n";
     assert_eq!(
         String::from_utf8_lossy(&timorun(&[text.as_bytes()]).stdout),
         expected
@@ -150,7 +150,7 @@ fn document_01_prints_its_own_example() {
 fn an_input_of_65_535_bytes_is_read_and_a_longer_one_is_refused_1() {
     let text = b"A[stop] .";
     let blanks = vec![b' '; 65_535 - text.len()];
-    let expected = "A\nA\nA\nA\nA[stop] .\n";
+    let expected = "A\nA\nA\nA\nA[stop] .\n-\n";
     assert_eq!(
         String::from_utf8_lossy(&timorun(&[text, &blanks]).stdout),
         expected
@@ -192,8 +192,8 @@ fn a_text_of_65_536_bytes_is_printed_and_a_longer_one_is_refused_15() {
     let (script, text) = script_with_text_of(65_536);
     assert!(script.len() <= 65_535 && text.len() == 65_536);
     let printed = String::from_utf8(timorun(&[script.as_bytes()]).stdout).expect("ASCII");
-    assert!(printed.ends_with(&format!("\n{text}")));
-    assert_eq!(printed.lines().count(), 4 * 2 + 3);
+    assert!(printed.ends_with(&format!("\n{text}-\n")));
+    assert_eq!(printed.lines().count(), 4 * 2 + 4);
     let (script, text) = script_with_text_of(65_537);
     assert!(script.len() <= 65_535 && text.len() == 65_537);
     let printed = String::from_utf8(timorun(&[script.as_bytes()]).stdout).expect("ASCII");

@@ -11,8 +11,8 @@ use timo_reference::generate;
 use timo_reference::layout::{lay, Laid};
 use timo_reference::random::Random;
 use timo_reference::table::{
-    Table, Test, CHANNELS, COMPONENT, DEFINITIONS, EDITION, LOCATIONS, PARTS, RIGHTS, RIGHTS_ROW,
-    ROW, SCRIPT, SLOTS, STATE,
+    Table, Test, CHANNELS, COMPONENT, DEFINITIONS, EDITION, LEDGER, LOCATIONS, PARTS, RIGHTS,
+    RIGHTS_ROW, ROW, SCRIPT, SLOTS, STATE, WAIT,
 };
 use timo_reference::term::{Edition, Network, Rights, Settings};
 use timo_reference::writing;
@@ -351,6 +351,19 @@ fn components() {
         laid.components[3] = 1_000_002;
     };
     assert_eq!(failed(marked), Some(Test::ComponentTimer));
+    for p in [0, 1] {
+        assert_eq!(component_made(p, WAIT, 1_000_000), None);
+        assert_eq!(component_made(p, WAIT, 1_000_001), Some(Test::Wait));
+    }
+}
+
+#[test]
+fn messages() {
+    let made = |word, content| failed(|laid| laid.components[LEDGER + word] = content);
+    assert_eq!(made(0, 1), Some(Test::Total));
+    assert_eq!(made(1, 1), Some(Test::Total));
+    assert_eq!(made(2, 1_000_000), None);
+    assert_eq!(made(2, 1_000_001), Some(Test::Messages));
 }
 
 #[test]
@@ -372,9 +385,10 @@ fn words_that_nothing_looks_at() {
             laid.script[word] = 0xdead_beef;
         }
         for component in laid.components.chunks_mut(COMPONENT) {
-            component[SLOTS.end..].fill(u32::MAX);
+            component[WAIT + 1..].fill(u32::MAX);
         }
-        laid.components[2 * COMPONENT..].fill(u32::MAX);
+        laid.components[2 * COMPONENT..LEDGER].fill(u32::MAX);
+        laid.components[LEDGER + 3..].fill(u32::MAX);
     };
     let mut laid = good();
     filled(&mut laid);

@@ -1,5 +1,5 @@
-//! `rounds < SCRIPT`: what `timorun` prints, with reading, steps and writing
-//! done by the proved engine's library under edition 1 and with all rights. The
+//! `rounds < SCRIPT`: what `timorun` prints, with reading, steps, writing and the mean
+//! by the proved engine's library under edition 1 and with all rights. The
 //! records of a step are put to the library again as single actions, for their
 //! labels, and the tick after them has to give the step's state.
 //!
@@ -11,7 +11,7 @@ use std::io::{self, Read, Write};
 use std::process::ExitCode;
 
 use compare::table;
-use compare::timo::{Settings, Table};
+use compare::timo::{Mean, Settings, Table};
 use timo_reference::generate::vectors::END;
 
 fn main() -> ExitCode {
@@ -50,7 +50,7 @@ fn printout(script: &[u8]) -> Vec<u8> {
     text
 }
 
-/// Four rounds of steps over all locations, then the network.
+/// Four rounds of steps over all locations, then the network and the mean.
 fn rounds(mut table: Table, text: &mut Vec<u8>) -> Result<(), u32> {
     for _ in 0..4 {
         for location in 0..table.words[1] {
@@ -61,7 +61,17 @@ fn rounds(mut table: Table, text: &mut Vec<u8>) -> Result<(), u32> {
     let mut lent = vec![0; 65_536];
     let length = table.write(&mut lent)?;
     text.extend(&lent[..length]);
+    text.extend(mean_line(table.mean()?).bytes());
     Ok(())
+}
+
+/// The mean rounded to a whole tick, a half going up.
+fn mean_line(mean: Mean) -> String {
+    if mean.count == 0 {
+        return "-\n".to_string();
+    }
+    let up = mean.remainder >= mean.count - mean.remainder;
+    format!("{}\n", mean.quotient + u32::from(up))
 }
 
 /// A step and its line.

@@ -9,9 +9,9 @@ use mathlib.Core.List.{List, [], _∷_, _++_, map, append-assoc, append-nil}
 use mathlib.Core.Bool.{Bool, true, false, cond}
 use mathlib.Core.Path.{_≡_, refl, sym, ap, subst, _∙_}
 use lib.Dec.{eqb}
-use Rattle.terms.specs.Terms.{Component}
-use Rattle.terms.specs.Rules.{Answer, Acted as ActedBy, _>>=_}
+use Rattle.terms.specs.Rules.{Answer, _>>=_}
 use Rattle.terms.specs.Rules.Answer.{refused, accepted}
+use Rattle.waits.specs.Counted.{Counted, Acted as ActedBy}
 use Rattle.table.specs.declared.State.{State}
 use Rattle.table.specs.Valid.{valid}
 use Rattle.calls_act.specs.declared.Acted.{Acted}
@@ -21,20 +21,19 @@ use Rattle.calls_tick.specs.Ticked.{tickAnswer, refusal, ticksAs}
 use Rattle.calls_tick.specs.Ticked as T
 use Rattle.table.proofs.Fires.{map-append}
 use Rattle.terms.specs.Runs.{Fed}
-use Rattle.calls_step.specs.declared.Stepped.{Stepped}
-use Rattle.calls_step.specs.Stepped.{Step, left, stepsAs}
+use Rattle.calls_step.specs.Stepped.{left}
 use Rattle.calls.specs.Run.Given.{action, tick}
 use Rattle.calls.specs.Run.{Given, answerTo, does, feeds, givenBy, Run, RunsAs}
 use Rattle.calls.proofs.Demand3.{mixed-calls}
 use Rattle.calls.specs.Run.Run.{over, then}
 
-pub tick-does : (w : List ℕ) (st : State) (x : Answer (List Component)) (r : Ticked) (out : List ℕ) → ticksAs w st x r out → does w st x (r .code) (T.left r out)
+pub tick-does : (w : List ℕ) (st : State) (x : Answer Counted) (r : Ticked) (out : List ℕ) → ticksAs w st x r out → does w st x (r .code) (T.left r out)
 tick-does w st (refused n) r out e = (ap (λ z. z .code) (e .0), λ i. record { c = e .1 i; n = e .0 i .n })
-tick-does w st (accepted cs) r out t = record { code = t .code; comps = t .comps; good = t .good; past = t .past }
+tick-does w st (accepted cs) r out t = record { code = t .code; comps = t .comps; tally = t .tally; good = t .good; past = t .past }
 
-pub act-does : (w : List ℕ) (st : State) (x : Answer ActedBy) (r : Acted) (cs : List ℕ) → actsAs w st x r cs → does w st (x >>= λ a. accepted (a .comps)) (r .code) (after st cs)
+pub act-does : (w : List ℕ) (st : State) (x : Answer ActedBy) (r : Acted) (cs : List ℕ) → actsAs w st x r cs → does w st (x >>= λ a. accepted (record { comps = a .comps; tally = a .tally })) (r .code) (after st cs)
 act-does w st (refused n) r cs e = (ap (λ z. z .code) (e .0), ap (after st) (e .1))
-act-does w st (accepted a) r cs t = record { code = t .code; comps = t .comps; good = t .good; past = t .past }
+act-does w st (accepted a) r cs t = record { code = t .code; comps = t .comps; tally = t .tally; good = t .good; past = t .past }
 
 -- ── question 17 in a list of actions and ticks: no call changes its answer ──
 not-good : (w : List ℕ) (st : State) (e : List ℕ) → valid w st ≡ false → answerTo w st (givenBy e) ≡ refused 17
@@ -51,7 +50,7 @@ refused-17 w st e r v q = rw (not-good w st e v) (ap (λ z. z .code) q, ap (λ z
 still-good : (w : List ℕ) (st next : State) (e : List ℕ) (k : ℕ) (b : Bool) → valid w st ≡ b → does w st (answerTo w st (givenBy e)) k next → valid w next ≡ b
 still-good w st next e k true v d = go (answerTo w st (givenBy e)) d
   where
-    go : (x : Answer (List Component)) → does w st x k next → valid w next ≡ true
+    go : (x : Answer Counted) → does w st x k next → valid w next ≡ true
     go (refused n) d = ap (valid w) (d .1) ∙ v
     go (accepted cs) d = d .good
 still-good w st next e k false v d = let f = subst (λ x. does w st x k next) (not-good w st e v) d in ap (valid w) (f .1) ∙ v

@@ -15,9 +15,10 @@ use Rattle.terms.specs.Same.{every}
 use Rattle.terms.specs.Runs.{Fed, groupedRun}
 use Rattle.terms.specs.Runs.Call.{acting, ticking}
 use Rattle.terms.specs.Runs.Fed.{fed}
+use Rattle.waits.specs.Counted.{Counted}
 use Rattle.table.specs.declared.State.{State}
 use Rattle.table.specs.Words.{locName}
-use Rattle.table.specs.Meaning.{PastKept, contextOf, netOf}
+use Rattle.table.specs.Meaning.{OthersKept, contextOf, netOf, tallyOf}
 use Rattle.table.specs.Valid.{valid}
 use Rattle.calls_act.specs.Acted.{actionOf, actionAnswer}
 use Rattle.calls_tick.specs.Ticked.{tickAnswer}
@@ -33,24 +34,25 @@ pub data Given : Type 0 where
   step : ℕ → ℕ → Given
   proposal : ℕ → List Record → Given
 
--- the components that follow, or the number of the question answered by no, as the call's own contract has it
-unfoldable pub answerTo : List ℕ → State → Given → Answer (List Component)
-answerTo w st (action k p q) = actionAnswer w st k p q >>= λ a. accepted (a .comps)
+-- the components that follow with what is kept beside them, or the number of the question answered by no, as the call's own contract has it
+unfoldable pub answerTo : List ℕ → State → Given → Answer Counted
+answerTo w st (action k p q) = actionAnswer w st k p q >>= λ a. accepted (record { comps = a .comps; tally = a .tally })
 answerTo w st (tick l) = tickAnswer w st l
-answerTo w st (step l size) = stepAnswer w st l size >>= λ s. accepted (s .comps)
+answerTo w st (step l size) = stepAnswer w st l size >>= λ s. accepted (record { comps = s .comps; tally = s .tally })
 answerTo w st (proposal l rs) = proposeAnswer w st l rs
 
--- an accepted call: the code 0, the next components, which pass question 17, and every word that is none of theirs as it was
-pub record Accepted (w : List ℕ) (st : State) (cs : List Component) (k : ℕ) (next : State) : Type 0 where
+-- an accepted call: the code 0, the next components, waits, total and count, which pass question 17, and every word that is none of theirs as it was
+pub record Accepted (w : List ℕ) (st : State) (x : Counted) (k : ℕ) (next : State) : Type 0 where
   pub code : k ≡ 0
-  pub comps : netOf w next ≡ cs
+  pub comps : netOf w next ≡ x .comps
+  pub tally : tallyOf next ≡ x .tally
   pub good : valid w next ≡ true
-  pub past : PastKept (next .n) (st .c) (next .c)
+  pub past : OthersKept (next .n) (st .c) (next .c)
 
 -- the code and the next state are those of the answer
-abbrev pub does : List ℕ → State → Answer (List Component) → ℕ → State → Type 0
+abbrev pub does : List ℕ → State → Answer Counted → ℕ → State → Type 0
 does w st (refused n) k next = (k ≡ n) × (next ≡ st)
-does w st (accepted cs) k next = Accepted w st cs k next
+does w st (accepted x) k next = Accepted w st x k next
 
 -- ── what the grouped run is fed of a call ──
 -- the call and whether it was accepted; a step or a proposal counts as its actions one by one and then the tick, and for nothing if it was refused
@@ -72,9 +74,9 @@ abbrev pub stepFeeds : Name → Answer Step → List Fed
 stepFeeds l (refused n) = []
 stepFeeds l (accepted s) = whole l (s .actions)
 
-abbrev pub proposalFeeds : Name → List Record → Answer (List Component) → List Fed
+abbrev pub proposalFeeds : Name → List Record → Answer Counted → List Fed
 proposalFeeds l rs (refused n) = []
-proposalFeeds l rs (accepted cs) = whole l (map (λ r. named (r .kind) (r .p) (r .q)) rs)
+proposalFeeds l rs (accepted x) = whole l (map (λ r. named (r .kind) (r .p) (r .q)) rs)
 
 unfoldable pub feeds : List ℕ → State → Given → List Fed
 feeds w st (action k p q) = fed (acting (named k p q)) (ok (actionAnswer w st k p q)) ∷ []

@@ -44,7 +44,7 @@ pub struct RanText {
     pub n: usize,
 }
 
-// An action of the given kind at p, and q for kind 3: questions 17, 8, 9, 10, 11, 20. The components are lent, n of them in use, as in every call below; a refusal
+// An action of the given kind at p, and q for kind 3: questions 17, 8, 9, 10, 11, 20, 18. The components are lent, n of them in use, as in every call below; a refusal
 // leaves them as they were.
 pub fn action(w: &Script, c: &mut Words, n: usize, kind: u32, p: usize, q: usize) -> Acted
     ensures { λ r. ⌜ actsAs (now (w .entry)) (record { c = now (c .entry); n = n }) (actionAnswer (now (w .entry)) (record { c = now (c .entry); n = n }) kind p q) r (now (c .exit)) ⌝ }
@@ -65,7 +65,7 @@ pub fn tick_at(w: &Script, c: &mut Words, n: usize, l: u32) -> Ticked
     tick::refuse(17, n)
 }
 
-// The step at the location numbered l: questions 17, 8, 15, 13. The records of its actions stand in front of what was in the buffer.
+// The step at the location numbered l: questions 17, 8, 15, 18, 13. The records of its actions stand in front of what was in the buffer.
 pub fn step_at(w: &Script, c: &mut Words, n: usize, l: u32, records: &mut [[u32; 3]]) -> Stepped
     ensures { λ r. ⌜ stepsAs (now (w .entry)) (record { c = now (c .entry); n = n }) (stepAnswer (now (w .entry)) (record { c = now (c .entry); n = n }) l (length (now (records .entry)))) r (now (c .exit)) (now (records .entry)) (now (records .exit)) ⌝ }
 {

@@ -1,17 +1,22 @@
--- What the answer of an action stands for: document 01, *Actions* and *Questions, asked downward*. A refusal is its number, and leaves the components.
+-- What the answer of an action stands for: document 01, *Actions* and *Questions, asked downward*, and document 02, R-1. A refusal is its number, and leaves
+-- the components with all that is kept beside them.
 use Prim.Native.Nat.{ℕ, _*_}
-use mathlib.Core.List.{List}
+use mathlib.Core.List.{List, [], _∷_}
 use mathlib.Core.Bool.{Bool, true, false, cond}
 use mathlib.Core.Path.{_≡_}
-use lib.Dec.{eqb}
+use lib.Dec.{eqb, ltb}
 use lib.Seq.{sets}
-use Rattle.terms.specs.Rules.{Answer, Kind, Action, Acted as ActedBy, _>>=_, act}
+use Rattle.terms.specs.Rules.{Answer, Kind, Action, _>>=_, act}
+use Rattle.terms.specs.Rules as R
 use Rattle.terms.specs.Rules.Answer.{refused, accepted}
 use Rattle.terms.specs.Rules.Kind.{calls, moves}
 use Rattle.terms.specs.Rules.Action.{single, pair}
+use Rattle.waits.specs.Waits.{actTally, countable}
+use Rattle.waits.specs.Counted.{actCounted, Acted as ActedBy}
 use Rattle.table.specs.declared.Comp.{Comp}
 use Rattle.table.specs.declared.State.{State}
-use Rattle.table.specs.Meaning.{wordsIn, PastKept, contextOf, compsOf, netOf}
+use Rattle.table.specs.Meaning.{wordsIn, OthersKept, contextOf, compsOf, netOf, totalIn, countIn, tallyOf, countedOf}
+use Rattle.table_waits.specs.Ledger.{counted}
 use Rattle.table.specs.Valid.{valid}
 use Rattle.table.specs.Fire.{ActedAt, tagIn, tagHeld}
 use Rattle.calls_act.specs.declared.Label.{Label}
@@ -35,8 +40,12 @@ actionOf k p q =
     (refused 8)))
 
 -- an action of kind k at p and q, as the rules answer it: questions 8 to 11 and 20
+unfoldable pub actionAllowed : List ℕ → State → ℕ → ℕ → ℕ → Answer R.Acted
+actionAllowed w st k p q = actionOf k p q >>= λ a. act (contextOf w) a (netOf w st)
+
+-- the same with what is kept beside the components, and question 18 after them
 unfoldable pub actionRule : List ℕ → State → ℕ → ℕ → ℕ → Answer ActedBy
-actionRule w st k p q = actionOf k p q >>= λ a. act (contextOf w) a (netOf w st)
+actionRule w st k p q = actionOf k p q >>= λ a. actCounted (contextOf w) a (countedOf w st)
 
 -- question 17 first
 unfoldable pub actionAnswer : List ℕ → State → ℕ → ℕ → ℕ → Answer ActedBy
@@ -49,15 +58,16 @@ refusal n = record { code = n; label = noLabel }
 abbrev pub after : State → List ℕ → State
 after st cs = record { c = cs; n = st .n }
 
--- an accepted action: the code 0; the four numbers of the label, each of them in range; the next components, as many as before, with question 17 still
--- answered by yes; and every word that is none of theirs as it was
+-- an accepted action: the code 0; the four numbers of the label, each of them in range; the next components, as many as before; waits, total and count;
+-- question 17 still answered by yes; and every word that is none of theirs as it was
 pub record Took (w : List ℕ) (st : State) (a : ActedBy) (r : Acted) (cs : List ℕ) : Type 0 where
   pub code : r .code ≡ 0
   pub label : tagOf (r .label) ≡ tagIn w (a .label)
   pub held : tagHeld w (tagOf (r .label)) ≡ true
   pub comps : netOf w (after st cs) ≡ a .comps
+  pub tally : tallyOf (after st cs) ≡ a .tally
   pub good : valid w (after st cs) ≡ true
-  pub past : PastKept (st .n) (st .c) cs
+  pub past : OthersKept (st .n) (st .c) cs
 
 -- the code's answer r and the lent components cs afterwards stand for the answer of the rules
 abbrev pub actsAs : List ℕ → State → Answer ActedBy → Acted → List ℕ → Type 0
@@ -65,15 +75,22 @@ actsAs w st (refused n) r cs = (r ≡ refusal n) × (cs ≡ st .c)
 actsAs w st (accepted a) r cs = Took w st a r cs
 
 -- ── the same on the table ──
-pub record Leaves (st : State) (a : ActedAt) (r : Acted) (cs : List ℕ) : Type 0 where
+-- what the action x makes of the components of st, if there is a count left for it (question 18)
+unfoldable pub limited : State → Action → Answer ActedAt → Answer ActedAt
+limited st x a = a >>= λ b. asked 18 (countable (x ∷ []) (countIn (st .c))) (accepted b)
+
+-- the components have their waits with them
+pub record Leaves (st : State) (x : Action) (a : ActedAt) (r : Acted) (cs : List ℕ) : Type 0 where
   pub code : r .code ≡ 0
   pub tag : tagOf (r .label) ≡ a .tag
   pub comps : compsOf (after st cs) ≡ a .comps
-  pub past : PastKept (st .n) (st .c) cs
+  pub total : totalIn cs ≡ actTally x (tallyOf st) .total
+  pub count : countIn cs ≡ actTally x (tallyOf st) .count
+  pub past : OthersKept (st .n) (st .c) cs
 
-abbrev pub leaves : State → Answer ActedAt → Acted → List ℕ → Type 0
-leaves st (refused n) r cs = (r ≡ refusal n) × (cs ≡ st .c)
-leaves st (accepted a) r cs = Leaves st a r cs
+abbrev pub leaves : State → Action → Answer ActedAt → Acted → List ℕ → Type 0
+leaves st x (refused n) r cs = (r ≡ refusal n) × (cs ≡ st .c)
+leaves st x (accepted a) r cs = Leaves st x a r cs
 
 -- the kind of an action of one component: is it a call?
 abbrev pub singleKind : Bool → Kind
@@ -91,6 +108,10 @@ putAt cs p v = sets cs (p * compSize) (wordsIn v)
 abbrev pub putOne : List ℕ → ℕ → Fired → List ℕ
 putOne cs p f = cond (eqb (f .code) 0) (putAt cs p (f .comp)) cs
 
--- and once an output at p and an input at q have become what m says
-abbrev pub putTwo : List ℕ → ℕ → ℕ → Met → List ℕ
-putTwo cs p q m = cond (eqb (m .code) 0) (putAt (putAt cs p (m .sender)) q (m .receiver)) cs
+-- the code of a communication: that of m, or 18 where the count is full
+abbrev pub metCode : List ℕ → Met → ℕ
+metCode cs m = cond (eqb (m .code) 0) (cond (ltb (countIn cs) 1_000_000) 0 18) (m .code)
+
+-- and the components once an output at p that had waited n ticks and an input at q have become what m says
+abbrev pub putTwo : List ℕ → ℕ → ℕ → ℕ → Met → List ℕ
+putTwo cs p q n m = cond (eqb (metCode cs m) 0) (counted (putAt (putAt cs p (m .sender)) q (m .receiver)) 1 n) cs

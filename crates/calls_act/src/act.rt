@@ -1,13 +1,13 @@
 // An action at positions of a table that passes question 17, in the lent components. A refusal writes nothing.
 ghost use mathlib.Core.Path.{_≡_};
 ghost use mathlib.Core.Bool.{true};
-ghost use Prim.Native.Nat.{_<_};
+ghost use Prim.Native.Nat.{_+_, _<_, _≤_};
 ghost use Rattle.terms.specs.Rules.Action.{single, pair};
-ghost use Rattle.table.specs.Meaning.{compsOf};
+ghost use Rattle.table.specs.Meaning.{compsOf, totalIn};
 ghost use Rattle.table.specs.Valid.{scriptOk, compOk, valid};
 ghost use Rattle.table.specs.Fire.{aloneAt, actOn};
 ghost use Rattle.calls_act.specs.Fired.{oneOf};
-ghost use Rattle.calls_act.specs.Acted.{actionRule, refusal, actsAs, leaves, singleKind, settled, putOne, putTwo};
+ghost use Rattle.calls_act.specs.Acted.{actionRule, refusal, actsAs, leaves, limited, singleKind, settled, putOne, metCode, putTwo};
 use super::Acted;
 use super::Fired;
 use super::Label;
@@ -19,6 +19,10 @@ use table::Words;
 use table::comps::comp_at;
 use table::comps::put_comp;
 use table::comps::sized;
+use table::words;
+use table_waits::count_messages;
+use table_waits::messages;
+use waits::MOST;
 
 pub fn refuse(code: u32) -> Acted
     ensures { λ r. ⌜ r ≡ refusal code ⌝ }
@@ -50,16 +54,21 @@ fn settle_one(c: &mut Words, p: usize, f: Fired) -> Acted
     refuse(f.code)
 }
 
-fn settle_two(c: &mut Words, p: usize, q: usize, m: Met) -> Acted
-    requires { ⌜ (p < 256) × (q < 256) ⌝ }
-    ensures { λ r. ⌜ (r ≡ settled (m .code) (m .label)) × (now (c .exit) ≡ putTwo (now (c .entry)) p q m) ⌝ }
+// The sender had waited for n ticks. Question 18: is there a count left?
+fn settle_two(c: &mut Words, p: usize, q: usize, n: u32, m: Met) -> Acted
+    requires { ⌜ (p < 256) × (q < 256) × (totalIn (now c) + n ≤ 2000000000000) ⌝ }
+    ensures { λ r. ⌜ (r ≡ settled (metCode (now (c .entry)) m) (m .label)) × (now (c .exit) ≡ putTwo (now (c .entry)) p q n m) ⌝ }
 {
     if m.code == 0 {
+        if MOST <= messages(c) {
+            return refuse(18);
+        }
         let label = m.label;
         let a = m.sender;
         let b = m.receiver;
         put_comp(c, p, a);
         put_comp(c, q, b);
+        count_messages(c, 1, words::wide(n));
         return Acted {
             code: 0,
             label: label,
@@ -81,7 +90,7 @@ pub(crate) fn fire_one(w: &Script, call: bool, x: Comp) -> Fired
 
 fn act_one(w: &Script, c: &mut Words, n: usize, call: bool, p: usize) -> Acted
     requires { ⌜ valid (now w) (record { c = now c; n = n }) ≡ true ⌝ }
-    ensures { λ r. ⌜ leaves (record { c = now (c .entry); n = n }) (actOn (now (w .entry)) (single (singleKind call) p) (compsOf (record { c = now (c .entry); n = n }))) r (now (c .exit)) ⌝ }
+    ensures { λ r. ⌜ leaves (record { c = now (c .entry); n = n }) (single (singleKind call) p) (limited (record { c = now (c .entry); n = n }) (single (singleKind call) p) (actOn (now (w .entry)) (single (singleKind call) p) (compsOf (record { c = now (c .entry); n = n })))) r (now (c .exit)) ⌝ }
 {
     if n <= p {
         return refuse(8);
@@ -94,7 +103,7 @@ fn act_one(w: &Script, c: &mut Words, n: usize, call: bool, p: usize) -> Acted
 
 fn act_pair(w: &Script, c: &mut Words, n: usize, p: usize, q: usize) -> Acted
     requires { ⌜ valid (now w) (record { c = now c; n = n }) ≡ true ⌝ }
-    ensures { λ r. ⌜ leaves (record { c = now (c .entry); n = n }) (actOn (now (w .entry)) (pair p q) (compsOf (record { c = now (c .entry); n = n }))) r (now (c .exit)) ⌝ }
+    ensures { λ r. ⌜ leaves (record { c = now (c .entry); n = n }) (pair p q) (limited (record { c = now (c .entry); n = n }) (pair p q) (actOn (now (w .entry)) (pair p q) (compsOf (record { c = now (c .entry); n = n })))) r (now (c .exit)) ⌝ }
 {
     if n <= p {
         return refuse(8);
@@ -106,10 +115,10 @@ fn act_pair(w: &Script, c: &mut Words, n: usize, p: usize, q: usize) -> Acted
     let x = comp_at(c, p);
     let y = comp_at(c, q);
     let m = fire::fire_pair(w, x, y);
-    settle_two(c, p, q, m)
+    settle_two(c, p, q, x.wait, m)
 }
 
-// Questions 8 to 11 and 20 of an action, and what it leaves.
+// Questions 8 to 11, 20 and 18 of an action, and what it leaves.
 pub fn act_valid(w: &Script, c: &mut Words, n: usize, kind: u32, p: usize, q: usize) -> Acted
     requires { ⌜ valid (now w) (record { c = now c; n = n }) ≡ true ⌝ }
     ensures { λ r. ⌜ actsAs (now (w .entry)) (record { c = now (c .entry); n = n }) (actionRule (now (w .entry)) (record { c = now (c .entry); n = n }) kind p q) r (now (c .exit)) ⌝ }

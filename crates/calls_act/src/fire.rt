@@ -31,7 +31,7 @@ pub fn value_in(vals: [u32; 8], v: u32) -> u32
     0
 }
 
-// The component that an action at l leaves at k.
+// The component that an action at l leaves at k: it has not waited yet.
 pub fn left(l: u32, k: u32, place: u32, vals: [u32; 8]) -> Comp
     ensures { λ r. ⌜ r ≡ leftAt l k place vals ⌝ }
 {
@@ -41,6 +41,7 @@ pub fn left(l: u32, k: u32, place: u32, vals: [u32; 8]) -> Comp
         place: place,
         timer: 0,
         vals: vals,
+        wait: 0,
     }
 }
 

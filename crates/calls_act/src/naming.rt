@@ -5,7 +5,7 @@ ghost use Rattle.terms.specs.Rules.{act};
 ghost use Rattle.terms.specs.Rules.Action.{single, pair};
 ghost use Rattle.table.specs.Meaning.{contextOf, netOf};
 ghost use Rattle.table.specs.Valid.{valid};
-ghost use Rattle.calls_act.specs.Acted.{actionRule, singleKind};
+ghost use Rattle.calls_act.specs.Acted.{actionAllowed, singleKind};
 ghost use Rattle.calls_act.specs.Labelled.{named, labelled};
 use super::Acted;
 use super::act;
@@ -50,7 +50,7 @@ fn label_pair(w: &Script, c: &Words, n: usize, p: usize, q: usize) -> Acted
 // By the kind; another is refused by question 8.
 pub fn label_at(w: &Script, c: &Words, n: usize, kind: u32, p: usize, q: usize) -> Acted
     requires { ⌜ valid (now w) (record { c = now c; n = n }) ≡ true ⌝ }
-    ensures { λ r. ⌜ named (now (w .entry)) r ≡ labelled (actionRule (now (w .entry)) (record { c = now (c .entry); n = n }) kind p q) ⌝ }
+    ensures { λ r. ⌜ named (now (w .entry)) r ≡ labelled (actionAllowed (now (w .entry)) (record { c = now (c .entry); n = n }) kind p q) ⌝ }
 {
     if kind == 1 {
         return label_one(w, c, n, true, p);

@@ -5,50 +5,53 @@ use native.Mathlib.Omega.{arith}
 use native.Mathlib.Numerals.{add-one}
 use mathlib.Core.List.{List, [], _∷_}
 use mathlib.Core.Bool.{Bool, true, false, cond}
-use mathlib.Core.Path.{_≡_, refl, sym, ap, subst, _∙_}
+use mathlib.Core.Path.{_≡_, refl, sym, ap, ap₂, subst, _∙_}
 use lib.Dec.{eqb, ltb, leb}
 use lib.ListN.{length, getD, drop, drop-of-length-le}
 use lib.Seq.{drop-cons}
 use borrow.Author.Tests.{lt-ltb, le-ltb, ltb-true, eq-eqb, ne-eqb}
 use Rattle.terms.specs.Names.{Name, sameName}
-use Rattle.terms.specs.Terms.{Component, Label, firesAt}
+use Rattle.terms.specs.Terms.{Component, Context, Label, firesAt}
 use Rattle.terms.specs.Terms.Label.{called, moved, sent}
-use Rattle.terms.specs.Rules.{Answer, Action, Acted as ActedBy, _>>=_, act, tick}
+use Rattle.terms.specs.Rules.{Answer, Action, _>>=_, act, tick}
+use Rattle.terms.specs.Rules as R
 use Rattle.terms.specs.Rules.Answer.{refused, accepted}
 use Rattle.terms.specs.Rules.Kind.{calls, moves}
 use Rattle.terms.specs.Rules.Action.{single, pair}
-use Rattle.terms.specs.Step.{actAt}
+use Rattle.waits.specs.Waits.{actTally, countable}
+use Rattle.waits.specs.Counted.{Counted, Acted as ActedBy, actCounted}
 use Rattle.terms.proofs.Names.{and-inv, name-eq}
 use Rattle.terms.proofs.Numbered.{numbered, bind-numbered, act-numbered, tick-numbered}
 use Rattle.table.specs.declared.State.{State}
 use Rattle.table.specs.Words.{locsIn, locName}
-use Rattle.table.specs.Meaning.{PastKept, listFrom, contextOf, netOf}
+use Rattle.table.specs.Meaning.{OthersKept, listFrom, contextOf, countedOf}
 use Rattle.table.specs.Valid.{index, valid}
 use Rattle.table.specs.Fire.{tagIn, tagHeld, locNumber}
 use Rattle.table.proofs.Tests.{script-fine, held-once}
 use Rattle.table.proofs.ValidLists.{listFrom-length, listFrom-at}
-use Rattle.table.proofs.Stores.{past-none, past-then}
+use Rattle.table.proofs.Stores.{past-none}
+use Rattle.table_waits.proofs.Ledger.{past-others, others-then}
 use Rattle.calls_act.specs.declared.Acted.{Acted}
 use Rattle.calls_act.specs.Fired.{tagOf}
 use Rattle.calls_act.specs.Acted.{asked, actionOf, actionRule, after, actsAs}
 use Rattle.calls_act.specs.Acted as A
 use Rattle.calls_act.proofs.Positions.{valid-parts}
 use Rattle.calls_tick.specs.declared.Ticked.{Ticked}
-use Rattle.calls_tick.specs.Ticked.{room, tickRule, ticksAs}
+use Rattle.calls_tick.specs.Ticked.{room, tickCounted, tickRule, ticksAs}
 use Rattle.calls_propose.specs.declared.Record.{Record}
-use Rattle.calls_propose.specs.Proposed.{recordRule, recordsRule, proposeRule, proposeAnswer, soFar, Next, begun, firedNext, tickedLast}
+use Rattle.calls_propose.specs.Proposed.{hereOnly, recordRule, recordsRule, proposeRule, proposeAnswer, soFar, Next, begun, firedNext, tickedLast}
 
 -- ── the answer so far ──
 pub far-none : (w : List ℕ) (k : ℕ) (st : State) → (k ≡ 0 → ⊥) → soFar w k st ≡ refused k
 unfolding soFar
 far-none w k st h = rw (ne-eqb k 0 h)
 
-far-some : (w : List ℕ) (k : ℕ) (st : State) → k ≡ 0 → soFar w k st ≡ accepted (netOf w st)
+far-some : (w : List ℕ) (k : ℕ) (st : State) → k ≡ 0 → soFar w k st ≡ accepted (countedOf w st)
 unfolding soFar
 far-some w k st h = rw (eq-eqb k 0 h)
 
 -- a no: what the components hold is of no use
-next-no : (w : List ℕ) (l : ℕ) (st : State) (x : Answer (List Component)) (k : ℕ) (cs : List ℕ) → (k ≡ 0 → ⊥) → x ≡ refused k → Next w l st x k cs
+next-no : (w : List ℕ) (l : ℕ) (st : State) (x : Answer Counted) (k : ℕ) (cs : List ℕ) → (k ≡ 0 → ⊥) → x ≡ refused k → Next w l st x k cs
 next-no w l st x k cs h e = record { far = far-none w k (after st cs) h ∙ sym e; held = λ z. absurd (h z) }
 
 pub begin-bad : (w : List ℕ) (st : State) (l : ℕ) → valid w st ≡ false → Next w l st (begun w st l) 17 (st .c)
@@ -61,7 +64,7 @@ begin-out w st l v h = next-no w l st (begun w st l) 8 (st .c) (λ z. omega arit
 
 pub begin-in : (w : List ℕ) (st : State) (l : ℕ) → valid w st ≡ true → l < locsIn w → Next w l st (begun w st l) 0 (st .c)
 unfolding begun soFar
-begin-in w st l v h = record { far = rw (v, lt-ltb l (locsIn w) h); held = λ z. record { good = v; here = h; past = past-none (st .n) (st .c) } }
+begin-in w st l v h = record { far = rw (v, lt-ltb l (locsIn w) h); held = λ z. record { good = v; here = h; past = past-others (valid-parts w st v .1 .few) (past-none (st .n) (st .c)) } }
 
 -- ── where an action fires ──
 -- a name stands at its number
@@ -92,14 +95,22 @@ fires-here-is w st l b a cs v h t =
     rw (fires-spot w (b .label) (omega (arith, s, e)), ← e) (held-once _ (locName w) (locsIn w) (script-fine w (valid-parts w st v .0) .loc-names) (a .label .«at») l s h)
 
 -- ── one record ──
+counted-numbered : (d : Context) (a : Action) (k : Counted) → numbered (actCounted d a k)
+unfolding actCounted
+counted-numbered d a k = bind-numbered (act d a (k .comps)) _ (act-numbered d a (k .comps)) (λ r. go (countable (a ∷ []) (k .tally .count)) r)
+  where
+    go : (b : Bool) (r : R.Acted) → numbered {A = ActedBy} (cond b (accepted (record { label = r .label; comps = r .comps; tally = actTally a (k .tally) })) (refused 18))
+    go true r = tt
+    go false r = λ e. omega arith
+
 rule-numbered : (w : List ℕ) (st : State) (k p q : ℕ) → numbered (actionRule w st k p q)
 unfolding actionRule actionOf
 rule-numbered w st k p q = go (eqb k 1) (eqb k 2) (eqb k 3)
   where
-    go : (x y z : Bool) → numbered (cond x (accepted (single calls p)) (cond y (accepted (single moves p)) (cond z (accepted (pair p q)) (refused 8))) >>= λ a. act (contextOf w) a (netOf w st))
-    go true y z = act-numbered (contextOf w) (single calls p) (netOf w st)
-    go false true z = act-numbered (contextOf w) (single moves p) (netOf w st)
-    go false false true = act-numbered (contextOf w) (pair p q) (netOf w st)
+    go : (x y z : Bool) → numbered (cond x (accepted (single calls p)) (cond y (accepted (single moves p)) (cond z (accepted (pair p q)) (refused 8))) >>= λ a. actCounted (contextOf w) a (countedOf w st))
+    go true y z = counted-numbered (contextOf w) (single calls p) (countedOf w st)
+    go false true z = counted-numbered (contextOf w) (single moves p) (countedOf w st)
+    go false false true = counted-numbered (contextOf w) (pair p q) (countedOf w st)
     go false false false = λ e. omega arith
 
 -- what the rules say where the code's answer is 0
@@ -119,36 +130,24 @@ act-refused w st k p q a cs h e = go (actionRule w st k p q) h
     go (accepted b) h = absurd (e (h .code))
 
 -- a record is its action, then question 16
-abbrev hereOnly : Name → ActedBy → Answer (List Component)
-hereOnly l x = cond (sameName (firesAt (x .label)) l) (accepted (x .comps)) (refused 16)
-
-record-is : (w : List ℕ) (st : State) (l : Name) (r : Record) → recordRule (contextOf w) l r (netOf w st) ≡ (actionRule w st (r .kind) (r .p) (r .q) >>= hereOnly l)
-unfolding recordRule actionRule actAt
+record-is : (w : List ℕ) (st : State) (l : Name) (r : Record) → recordRule (contextOf w) l r (countedOf w st) ≡ (actionRule w st (r .kind) (r .p) (r .q) >>= hereOnly l)
+unfolding recordRule actionRule
 record-is w st l r = go (actionOf (r .kind) (r .p) (r .q))
   where
-    last : (x : ActedBy) (b : Bool) → (cond b (accepted x) (refused 16) >>= λ y. accepted (y .comps)) ≡ cond b (accepted (x .comps)) (refused 16)
-    last x true = refl
-    last x false = refl
-
-    later : (x : Answer ActedBy) → ((x >>= λ y. cond (sameName (firesAt (y .label)) l) (accepted y) (refused 16)) >>= λ y. accepted (y .comps)) ≡ (x >>= hereOnly l)
-    later (refused n) = refl
-    later (accepted x) = last x (sameName (firesAt (x .label)) l)
-
-    go : (a : Answer Action) → (a >>= λ y. (act (contextOf w) y (netOf w st) >>= λ x. cond (sameName (firesAt (x .label)) l) (accepted x) (refused 16)) >>= λ x. accepted (x .comps))
-        ≡ ((a >>= λ y. act (contextOf w) y (netOf w st)) >>= hereOnly l)
+    go : (a : Answer Action) → (a >>= λ y. actCounted (contextOf w) y (countedOf w st) >>= hereOnly l) ≡ ((a >>= λ y. actCounted (contextOf w) y (countedOf w st)) >>= hereOnly l)
     go (refused n) = refl
-    go (accepted y) = later (act (contextOf w) y (netOf w st))
+    go (accepted y) = refl
 
 module _ (w : List ℕ) (st : State) (l : ℕ) (r : Record) (v : valid w st ≡ true) (here : l < locsIn w) (a : Acted) (cs : List ℕ) (h : actsAs w st (actionRule w st (r .kind) (r .p) (r .q)) a cs) where
   -- what the rules make of the record
-  abbrev fired : Answer (List Component)
+  abbrev fired : Answer Counted
   fired = firedNext w l r (soFar w 0 st)
 
   fired-is : fired ≡ (actionRule w st (r .kind) (r .p) (r .q) >>= hereOnly (locName w l))
   unfolding firedNext
   fired-is = ap (λ x. x >>= recordRule (contextOf w) (locName w l) r) (far-some w 0 st refl) ∙ record-is w st (locName w l) r
 
-  -- questions 8 to 11
+  -- questions 8 to 11, 20 and 18
   pub next-refused : (a .code ≡ 0 → ⊥) → Next w l st fired (a .code) cs
   next-refused e = next-no w l st fired (a .code) cs e (fired-is ∙ ap (λ x. x >>= hereOnly (locName w l)) (act-refused w st (r .kind) (r .p) (r .q) a cs h e))
 
@@ -156,8 +155,13 @@ module _ (w : List ℕ) (st : State) (l : ℕ) (r : Record) (v : valid w st ≡ 
     answer : (b : ActedBy) × (actionRule w st (r .kind) (r .p) (r .q) ≡ accepted b) × A.Took w st b a cs
     answer = act-accepted w st (r .kind) (r .p) (r .q) a cs h e
 
-    decided : fired ≡ cond (eqb (a .label .«at») l) (accepted (answer .0 .comps)) (refused 16)
-    decided = fired-is ∙ ap (λ x. x >>= hereOnly (locName w l)) (answer .1) ∙ ap (λ x. cond x (accepted (answer .0 .comps)) (refused 16)) (fires-here-is w st l (answer .0) a cs v here (answer .2))
+    -- what it leaves
+    abbrev now : Counted
+    now = record { comps = answer .0 .comps; tally = answer .0 .tally }
+
+    decided : fired ≡ cond (eqb (a .label .«at») l) (accepted now) (refused 16)
+    unfolding hereOnly
+    decided = fired-is ∙ ap (λ x. x >>= hereOnly (locName w l)) (answer .1) ∙ ap (λ x. cond x (accepted now) (refused 16)) (fires-here-is w st l (answer .0) a cs v here (answer .2))
 
     -- question 16
     pub next-elsewhere : (a .label .«at» ≡ l → ⊥) → Next w l st fired 16 cs
@@ -165,7 +169,7 @@ module _ (w : List ℕ) (st : State) (l : ℕ) (r : Record) (v : valid w st ≡ 
 
     pub next-fired : a .label .«at» ≡ l → Next w l st fired 0 cs
     next-fired k = record {
-      far = far-some w 0 (after st cs) refl ∙ ap accepted (answer .2 .comps) ∙ sym (decided ∙ rw (eq-eqb _ _ k));
+      far = far-some w 0 (after st cs) refl ∙ ap₂ (λ cs t. accepted (record { comps = cs; tally = t })) (answer .2 .comps) (answer .2 .tally) ∙ sym (decided ∙ rw (eq-eqb _ _ k));
       held = λ z. record { good = answer .2 .good; here = here; past = answer .2 .past };
     }
 
@@ -178,10 +182,14 @@ room-numbered cs = go (leb (length cs) 256)
     go true = tt
     go false = λ e. omega arith
 
+last-numbered : (d : Context) (l : Name) (k : Counted) → numbered (tickCounted d l k)
+unfolding tickCounted
+last-numbered d l k = bind-numbered (tick d l (k .comps) >>= room) _ (bind-numbered (tick d l (k .comps)) room (tick-numbered d l (k .comps)) room-numbered) (λ cs. tt)
+
 -- what the actions leave, and the tick on it
 module _ (w : List ℕ) (l : ℕ) (st : State) (cs : List ℕ) where
-  abbrev lastly : Answer (List Component)
-  lastly = tick (contextOf w) (locName w l) (netOf w (after st cs)) >>= room
+  abbrev lastly : Answer Counted
+  lastly = tickCounted (contextOf w) (locName w l) (countedOf w (after st cs))
 
   lastly-is : l < locsIn w → (tickedLast w l (soFar w 0 (after st cs)) ≡ lastly) × (tickRule w (after st cs) l ≡ lastly)
   unfolding tickedLast tickRule
@@ -196,41 +204,41 @@ module _ (w : List ℕ) (l : ℕ) (st : State) (cs : List ℕ) where
     pub last-none : (t .code ≡ 0 → ⊥) → tickedLast w l (soFar w 0 (after st cs)) ≡ refused (t .code)
     last-none e = lastly-is here .0 ∙ go lastly (subst (λ x. ticksAs w (after st cs) x t out) (lastly-is here .1) h)
       where
-        go : (x : Answer (List Component)) → ticksAs w (after st cs) x t out → x ≡ refused (t .code)
+        go : (x : Answer Counted) → ticksAs w (after st cs) x t out → x ≡ refused (t .code)
         go (refused n) h = ap (λ y. refused (y .code)) (sym (h .0))
         go (accepted cs) h = absurd (e (h .code))
 
-    pub last-all : PastKept (st .n) (st .c) cs → t .code ≡ 0 → ticksAs w st (tickedLast w l (soFar w 0 (after st cs))) t out
-    last-all k e = subst (λ x. ticksAs w st x t out) (sym (lastly-is here .0)) (go lastly (bind-numbered (tick (contextOf w) (locName w l) (netOf w (after st cs))) room (tick-numbered (contextOf w) (locName w l) (netOf w (after st cs))) room-numbered) (subst (λ x. ticksAs w (after st cs) x t out) (lastly-is here .1) h))
+    pub last-all : OthersKept (st .n) (st .c) cs → t .code ≡ 0 → ticksAs w st (tickedLast w l (soFar w 0 (after st cs))) t out
+    last-all k e = subst (λ x. ticksAs w st x t out) (sym (lastly-is here .0)) (go lastly (last-numbered (contextOf w) (locName w l) (countedOf w (after st cs))) (subst (λ x. ticksAs w (after st cs) x t out) (lastly-is here .1) h))
       where
-        go : (x : Answer (List Component)) → numbered x → ticksAs w (after st cs) x t out → ticksAs w st x t out
+        go : (x : Answer Counted) → numbered x → ticksAs w (after st cs) x t out → ticksAs w st x t out
         go (refused n) m h = absurd (m (ap (λ y. y .code) (sym (h .0)) ∙ e))
-        go (accepted cs) m h = record { code = h .code; comps = h .comps; good = h .good; grows = h .grows; past = past-then (h .grows) k (h .past) }
+        go (accepted cs) m h = record { code = h .code; comps = h .comps; tally = h .tally; good = h .good; grows = h .grows; past = others-then (h .grows) k (h .past) }
 
 -- ── the list ──
 -- the actions of a list more
-unfoldable pub firedAll : List ℕ → ℕ → List Record → Answer (List Component) → Answer (List Component)
+unfoldable pub firedAll : List ℕ → ℕ → List Record → Answer Counted → Answer Counted
 firedAll w l rs x = x >>= recordsRule (contextOf w) (locName w l) rs
 
 abbrev pub zero-record : Record
 zero-record = record { kind = 0; p = 0; q = 0 }
 
-fired-cons : (w : List ℕ) (l : ℕ) (r : Record) (rs : List Record) (x : Answer (List Component)) → firedAll w l (r ∷ rs) x ≡ firedAll w l rs (firedNext w l r x)
+fired-cons : (w : List ℕ) (l : ℕ) (r : Record) (rs : List Record) (x : Answer Counted) → firedAll w l (r ∷ rs) x ≡ firedAll w l rs (firedNext w l r x)
 unfolding firedAll firedNext recordsRule
 fired-cons w l r rs (refused n) = refl
 fired-cons w l r rs (accepted net) = refl
 
 -- one record is fired, and the others are left
-pub one-more : (w : List ℕ) (l : ℕ) (rs : List Record) (x : Answer (List Component)) (i : ℕ) → i < length rs → firedAll w l (drop i rs) x ≡ firedAll w l (drop (i + 1) rs) (firedNext w l (getD rs i zero-record) x)
+pub one-more : (w : List ℕ) (l : ℕ) (rs : List Record) (x : Answer Counted) (i : ℕ) → i < length rs → firedAll w l (drop i rs) x ≡ firedAll w l (drop (i + 1) rs) (firedNext w l (getD rs i zero-record) x)
 one-more w l rs x i h =
     ap (λ ys. firedAll w l ys x) (drop-cons rs i zero-record h ∙ ap (λ n. getD rs i zero-record ∷ drop n rs) (sym (add-one i)))
     ∙ fired-cons w l (getD rs i zero-record) (drop (i + 1) rs) x
 
-pub all-fired : (w : List ℕ) (l : ℕ) (rs : List Record) (x : Answer (List Component)) (i : ℕ) → length rs ≤ i → firedAll w l (drop i rs) x ≡ x
+pub all-fired : (w : List ℕ) (l : ℕ) (rs : List Record) (x : Answer Counted) (i : ℕ) → length rs ≤ i → firedAll w l (drop i rs) x ≡ x
 unfolding firedAll recordsRule
 all-fired w l rs x i h = rw (drop-of-length-le rs h) (same x)
   where
-    same : (y : Answer (List Component)) → (y >>= accepted) ≡ y
+    same : (y : Answer Counted) → (y >>= accepted) ≡ y
     same (refused n) = refl
     same (accepted net) = refl
 
@@ -244,8 +252,8 @@ pub proposal-is : (w : List ℕ) (st : State) (l : ℕ) (rs : List Record) → t
 unfolding tickedLast firedAll begun proposeRule proposeAnswer
 proposal-is w st l rs = go (valid w st) (ltb l (locsIn w))
   where
-    go : (a b : Bool) → ((asked 17 a (asked 8 b (accepted (netOf w st))) >>= recordsRule (contextOf w) (locName w l) rs) >>= λ net. tick (contextOf w) (locName w l) net >>= room)
-        ≡ asked 17 a (asked 8 b (recordsRule (contextOf w) (locName w l) rs (netOf w st) >>= λ net. tick (contextOf w) (locName w l) net >>= room))
+    go : (a b : Bool) → ((asked 17 a (asked 8 b (accepted (countedOf w st))) >>= recordsRule (contextOf w) (locName w l) rs) >>= tickCounted (contextOf w) (locName w l))
+        ≡ asked 17 a (asked 8 b (recordsRule (contextOf w) (locName w l) rs (countedOf w st) >>= tickCounted (contextOf w) (locName w l)))
     go true true = refl
     go true false = refl
     go false b = refl

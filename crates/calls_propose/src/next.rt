@@ -53,7 +53,7 @@ pub fn going(code: u32, i: usize, n: usize) -> bool
     false
 }
 
-// One action: questions 8 to 11 and 20, then 16, does it fire at this location?
+// One action: questions 8 to 11, 20 and 18, then 16, does it fire at this location?
 pub(crate) fn act_next(w: &Script, c: &mut Words, n: usize, l: u32, r: Record) -> u32
     requires { ⌜ (valid (now w) (record { c = now c; n = n }) ≡ true) × (l < locsIn (now w)) ⌝ }
     ensures { λ k. ⌜ Next (now (w .entry)) l (record { c = now (c .entry); n = n }) (firedNext (now (w .entry)) l r (soFar (now (w .entry)) 0 (record { c = now (c .entry); n = n }))) k (now (c .exit)) ⌝ }

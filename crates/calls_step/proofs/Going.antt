@@ -14,6 +14,8 @@ use Rattle.terms.specs.Same.{every}
 use Rattle.terms.specs.Rules.{Answer, Action, at}
 use Rattle.terms.specs.Rules as R
 use Rattle.terms.specs.Rules.Answer.{refused, accepted}
+use Rattle.waits.specs.Waits.{messages}
+use Rattle.waits.proofs.Counting.{messages-append}
 use Rattle.table.specs.declared.Comp.{Comp}
 use Rattle.table.specs.declared.State.{State}
 use Rattle.table.specs.declared.Head.{Head}
@@ -35,7 +37,7 @@ use Rattle.calls_step.specs.declared.Visit.{Visit}
 use Rattle.calls_step.specs.Sweep.{tookAt, takenAt, visitAt, followedAt, choiceAt, sweepAt, recOf}
 use Rattle.calls_wait.specs.Waits.{hearers, Chain, Queued}
 use Rattle.calls_wait.proofs.Waiting.{foremost-of}
-use Rattle.calls_step.specs.Visit.{sendsBy, sendsAt, kindAt, kindBy, Performed, otherOf, poppedOf, recBy, kindOf}
+use Rattle.calls_step.specs.Visit.{sendsBy, sendsAt, kindAt, kindBy, Performed, otherOf, poppedOf, recBy, kindOf, sentBy, waitBy}
 use Rattle.calls_step.proofs.Queues.{sends-fits}
 use Rattle.calls_step.proofs.Sweeping.{put-same, recsOf, Turned, turned-none, turned-some}
 
@@ -52,6 +54,13 @@ pub record Going (w : List ℕ) (l : ℕ) (st now : State) (heads nexts : List �
   pub queue : Queued w l (compsOf now) heads nexts
   pub actions : take count acts ++ map recOf (sweepAt w l p (st .n - p) (compsOf now) .actions) ≡ map recOf (sweepAt w l 0 (st .n) (compsOf st) .actions)
   pub comps : sweepAt w l p (st .n - p) (compsOf now) .comps ≡ sweepAt w l 0 (st .n) (compsOf st) .comps
+
+-- the messages sent so far and the waits of their senders, with those of the positions left, are those of the whole sweep
+pub record Adding (w : List ℕ) (l : ℕ) (st now : State) (sent sum p : ℕ) : Type 0 where
+  pub few-sent : sent ≤ p
+  pub small : sum ≤ 1_000_000 * sent
+  pub sent-is : sent + messages (sweepAt w l p (st .n - p) (compsOf now) .actions) ≡ messages (sweepAt w l 0 (st .n) (compsOf st) .actions)
+  pub sum-is : sum + sweepAt w l p (st .n - p) (compsOf now) .sum ≡ sweepAt w l 0 (st .n) (compsOf st) .sum
 
 -- ── what stays good ──
 -- what actions keep of components, a visit keeps
@@ -241,11 +250,11 @@ module _ (w : List ℕ) (good : scriptOk w ≡ true) (l : ℕ) (st now : State) 
     rest-is : (m : ℕ) → m ≡ st .n - (p + 1) → sweepAt w l (suc p) m (compsOf next) ≡ sweepAt w l (p + 1) (st .n - (p + 1)) (compsOf next)
     rest-is m e = ap (λ z. sweepAt w l z m (compsOf next)) (sym (add-one p)) ∙ ap (λ z. sweepAt w l (p + 1) z (compsOf next)) e
 
-    stepped : sweepAt w l p (st .n - p) (compsOf now) ≡ record { actions = visitAt w l p (at (compsOf now) p) (compsOf now) .actions ++ sweepAt w l (p + 1) (st .n - (p + 1)) (compsOf next) .actions; comps = sweepAt w l (p + 1) (st .n - (p + 1)) (compsOf next) .comps }
+    stepped : sweepAt w l p (st .n - p) (compsOf now) ≡ record { actions = visitAt w l p (at (compsOf now) p) (compsOf now) .actions ++ sweepAt w l (p + 1) (st .n - (p + 1)) (compsOf next) .actions; comps = sweepAt w l (p + 1) (st .n - (p + 1)) (compsOf next) .comps; sum = visitAt w l p (at (compsOf now) p) (compsOf now) .sum + sweepAt w l (p + 1) (st .n - (p + 1)) (compsOf next) .sum }
     stepped =
         left-n (st .n - (p + 1)) (omega arith)
-        ∙ ap (λ z. record { actions = visitAt w l p (at (compsOf now) p) (compsOf now) .actions ++ sweepAt w l (suc p) (st .n - (p + 1)) z .actions; comps = sweepAt w l (suc p) (st .n - (p + 1)) z .comps }) visited
-        ∙ ap (λ z. record { actions = visitAt w l p (at (compsOf now) p) (compsOf now) .actions ++ z .actions; comps = z .comps }) (rest-is (st .n - (p + 1)) refl)
+        ∙ ap (λ z. record { actions = visitAt w l p (at (compsOf now) p) (compsOf now) .actions ++ sweepAt w l (suc p) (st .n - (p + 1)) z .actions; comps = sweepAt w l (suc p) (st .n - (p + 1)) z .comps; sum = visitAt w l p (at (compsOf now) p) (compsOf now) .sum + sweepAt w l (suc p) (st .n - (p + 1)) z .sum }) visited
+        ∙ ap (λ z. record { actions = visitAt w l p (at (compsOf now) p) (compsOf now) .actions ++ z .actions; comps = z .comps; sum = visitAt w l p (at (compsOf now) p) (compsOf now) .sum + z .sum }) (rest-is (st .n - (p + 1)) refl)
 
     turn-actions : take (count + someOf k) (set acts count (recBy k p q)) ++ map recOf (sweepAt w l (p + 1) (st .n - (p + 1)) (compsOf next) .actions) ≡ map recOf (sweepAt w l 0 (st .n) (compsOf st) .actions)
     turn-actions =
@@ -257,6 +266,30 @@ module _ (w : List ℕ) (good : scriptOk w ≡ true) (l : ℕ) (st now : State) 
 
     turn-comps : sweepAt w l (p + 1) (st .n - (p + 1)) (compsOf next) .comps ≡ sweepAt w l 0 (st .n) (compsOf st) .comps
     turn-comps = ap (λ z. z .comps) (sym stepped) ∙ i .comps
+
+    -- what the position sends, and how long its sender had waited
+    more-small : (y k n : ℕ) → n ≤ 1_000_000 → waitBy k n ≤ 1_000_000 * sentBy k
+    more-small y k n b = go (eqb k 3)
+      where
+        go : (t : Bool) → cond t n 0 ≤ 1_000_000 * cond t 1 0
+        go true = omega arith
+        go false = omega arith
+
+    pub adding-turn : (sent sum : ℕ) → Adding w l st now sent sum p
+        → Adding w l st (record { c = sets (sets (now .c) (p * compSize) (wordsIn (v .x))) (otherOf p (getD heads (sendsAt w l (compIn (now .c) p)) 0) * compSize) (wordsIn (v .y)); n = now .n })
+        (sent + sentBy (kindAt w l (compIn (now .c) p) (getD heads (sendsAt w l (compIn (now .c) p)) 0))) (sum + waitBy (kindAt w l (compIn (now .c) p) (getD heads (sendsAt w l (compIn (now .c) p)) 0)) (compIn (now .c) p .wait)) (p + 1)
+    adding-turn sent sum a =
+        let b = more-small 0 k (c .wait) (comp-fine w c (good-at p h) .wait) in
+        record {
+          few-sent = omega (arith, a .few-sent, one-most (eqb k 3));
+          small = omega (arith, a .small, b);
+          sent-is = omega (arith, a .sent-is, ap (λ z. messages (z .actions)) stepped, messages-append (visitAt w l p (at (compsOf now) p) (compsOf now) .actions) (sweepAt w l (p + 1) (st .n - (p + 1)) (compsOf next) .actions), t .sent);
+          sum-is = omega (arith, a .sum-is, ap (λ z. z .sum) stepped, t .waited);
+        }
+      where
+        one-most : (t : Bool) → cond t 1 0 ≤ 1
+        one-most true = omega arith
+        one-most false = omega arith
 
     pub going-fires : (kindAt w l (compIn (now .c) p) (getD heads (sendsAt w l (compIn (now .c) p)) 0) ≡ 0 → ⊥) → Going w l st (record { c = sets (sets (now .c) (p * compSize) (wordsIn (v .x))) (otherOf p (getD heads (sendsAt w l (compIn (now .c) p)) 0) * compSize) (wordsIn (v .y)); n = now .n })
         (set heads (sendsAt w l (compIn (now .c) p)) (poppedOf (getD heads (sendsAt w l (compIn (now .c) p)) 0) (getD nexts (otherOf p (getD heads (sendsAt w l (compIn (now .c) p)) 0)) 0))) nexts
@@ -318,6 +351,37 @@ module _ (w : List ℕ) (good : scriptOk w ≡ true) (l : ℕ) (st now : State) 
               ∙ subst (λ cs. take (count + someOf (kindAt w l c x)) (set acts count (recBy (kindAt w l c x) p (otherOf p x))) ++ map recOf (sweepAt w l (p + 1) (st .n - (p + 1)) cs .actions) ≡ map recOf (sweepAt w l 0 (st .n) (compsOf st) .actions)) z (turn-actions stays (performed _ idle));
           comps = subst (λ cs. sweepAt w l (p + 1) (st .n - (p + 1)) cs .comps ≡ sweepAt w l 0 (st .n) (compsOf st) .comps) z (turn-comps stays (performed _ idle));
         }
+
+    pub adding-idle : (sent sum : ℕ) → Adding w l st now sent sum p → Adding w l st now sent sum (p + 1)
+    unfolding stays
+    adding-idle sent sum a =
+        let z = comps-next stays (performed _ idle) ∙ kept _ refl (idle-link w l c x idle no-channel) in
+        let b = adding-turn stays (performed _ idle) sent sum a in
+        let e : sentBy (kindAt w l c x) ≡ 0 = ap sentBy idle in
+        let f : waitBy (kindAt w l c x) (c .wait) ≡ 0 = ap (λ k. waitBy k (c .wait)) idle in
+        record {
+          few-sent = omega (arith, a .few-sent);
+          small = a .small;
+          sent-is = omega (arith, b .sent-is, ap (λ cs. messages (sweepAt w l (p + 1) (st .n - (p + 1)) cs .actions)) z, e);
+          sum-is = omega (arith, b .sum-is, ap (λ cs. sweepAt w l (p + 1) (st .n - (p + 1)) cs .sum) z, f);
+        }
+
+pub adding-begin : (w : List ℕ) (l : ℕ) (st : State) → Adding w l st st 0 0 0
+adding-begin w l st =
+    let z : st .n - 0 ≡ st .n = omega arith in
+    record {
+      few-sent = omega arith;
+      small = omega arith;
+      sent-is = omega (arith, ap (λ n. messages (sweepAt w l 0 n (compsOf st) .actions)) z);
+      sum-is = omega (arith, ap (λ n. sweepAt w l 0 n (compsOf st) .sum) z);
+    }
+
+pub adding-end : (w : List ℕ) (l : ℕ) (st now : State) (sent sum p : ℕ) → Adding w l st now sent sum p → st .n ≤ p
+    → (sent ≡ messages (sweepAt w l 0 (st .n) (compsOf st) .actions)) × (sum ≡ sweepAt w l 0 (st .n) (compsOf st) .sum)
+unfolding sweepAt messages
+adding-end w l st now sent sum p a h =
+    let none : st .n - p ≡ 0 = omega arith in
+    (omega (arith, a .sent-is, ap (λ z. messages (sweepAt w l p z (compsOf now) .actions)) none), omega (arith, a .sum-is, ap (λ z. sweepAt w l p z (compsOf now) .sum) none))
 
 pub going-begin : (w : List ℕ) (l : ℕ) (st : State) (heads nexts : List ℕ) (acts : List (List ℕ)) → length (st .c) ≡ stateWords → st .n ≤ length acts → every (compOk w) (compsOf st) ≡ true → Queued w l (compsOf st) heads nexts → Going w l st st heads nexts acts acts 0 0
 going-begin w l st heads nexts acts e r f q =

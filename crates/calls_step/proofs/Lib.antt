@@ -2,4 +2,5 @@ pub mod Sweeps
 pub mod Queues
 pub mod Sweeping
 pub mod Going
+pub mod Tallying
 pub mod Stepping

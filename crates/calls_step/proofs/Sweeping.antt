@@ -6,7 +6,7 @@ use mathlib.Core.List.{List, [], _∷_, map}
 use mathlib.Core.Bool.{Bool, true, false, cond, _&&_, not, false≢true}
 use mathlib.Core.Path.{_≡_, refl, sym, ap, subst, _∙_}
 use lib.Dec.{eqb, ltb}
-use lib.ListN.{length, set}
+use lib.ListN.{length, set, getD}
 use borrow.Author.Tests.{ltb-true, ltb-false, lt-ltb, eqb-true, eq-eqb}
 use Rattle.terms.specs.Rules.{Kind, _>>=_, at, setAll, positions}
 use Rattle.terms.specs.Rules as R
@@ -19,7 +19,9 @@ use Rattle.terms.proofs.Lists.{length-set}
 use Rattle.table.specs.declared.Comp.{Comp}
 use Rattle.table.specs.declared.Head.{Head}
 use Rattle.table.specs.declared.Head.the-variants.{Stop, Go, Out, In, Call}
+use Rattle.waits.specs.Waits.{messages}
 use Rattle.table.specs.Words.{locsIn, headAt, bodyOf}
+use Rattle.table.specs.Meaning.{waitsOf}
 use Rattle.table.specs.Valid.{scriptOk}
 use Rattle.table.specs.Split.{dueAt}
 use Rattle.table.specs.Fire.{Left, moveTag, leftAt, becomesAt, handed, meetAt, aloneAt, togetherAt, leftBy, actOn, readyAt, hears, valueIn, loaded, mayLeave, mayMeet, grantedAt, rightly, rightIn, wouldAct, mustAct, sentOn, fitsAlone, fitsTogether}
@@ -30,7 +32,7 @@ use Rattle.calls_act.specs.declared.Met.{Met}
 use Rattle.calls_act.specs.Fired.{tagOf, oneOf, twoOf}
 use Rattle.calls_step.specs.declared.Visit.{Visit}
 use Rattle.calls_step.specs.Sweep.{chosenBy, choiceAt, visitAt, recOf}
-use Rattle.calls_step.specs.Visit.{sendsBy, sendsAt, kindBy, kindAt, Performed, recBy, kindOf}
+use Rattle.calls_step.specs.Visit.{sendsBy, sendsAt, kindBy, kindAt, Performed, recBy, kindOf, sentBy, waitBy}
 use Rattle.calls_wait.specs.Waits.{waits, hearers}
 use Rattle.calls_wait.proofs.Waiting.{foremost-of, first-partner, first-gone, nobody-waits, hearers-other}
 
@@ -94,6 +96,8 @@ recsOf (suc k) p q = recBy (suc k) p q ∷ []
 pub record Turned (w : List ℕ) (l p q k x : ℕ) (cs : List Comp) (c : Comp) (v : Visit) : Type 0 where
   pub actions : map recOf (visitAt w l p (at cs p) cs .actions) ≡ recsOf k p q
   pub comps : visitAt w l p (at cs p) cs .comps ≡ R.set (R.set cs p (v .x)) q (v .y)
+  pub sent : messages (visitAt w l p (at cs p) cs .actions) ≡ sentBy k
+  pub waited : visitAt w l p (at cs p) cs .sum ≡ waitBy k (c .wait)
   pub still : x ≡ 0 → (h : ℕ) → hearers w l h (R.set (R.set cs p (v .x)) q (v .y)) ≡ hearers w l h cs
   pub others : (x ≡ 0 → ⊥) → (h : ℕ) → eqb h (sendsAt w l c) ≡ false → hearers w l h (R.set (R.set cs p (v .x)) q (v .y)) ≡ hearers w l h cs
   pub first : (x ≡ 0 → ⊥) → (qs : List ℕ) → hearers w l (sendsAt w l c) cs ≡ q ∷ qs → hearers w l (sendsAt w l c) (R.set (R.set cs p (v .x)) q (v .y)) ≡ qs
@@ -103,6 +107,8 @@ rests : (w : List ℕ) (l p : ℕ) (cs : List Comp) (c : Comp) (v : Visit) (n : 
 rests w l p cs c v n e a x y = record {
   actions = rw (e, a);
   comps = rw (e, a) (sym same);
+  sent = unfold messages in rw (e, a);
+  waited = rw (e, a);
   still = λ z h. ap (hearers w l h) same;
   others = λ z. absurd (z refl);
   first = λ z. absurd (z refl);
@@ -117,6 +123,8 @@ unfolding actOn leftBy
 lacks w l p cs c v n e a b x y = record {
   actions = rw (e, a, e, b);
   comps = rw (e, a, e, b) (sym same);
+  sent = unfold messages in rw (e, a, e, b);
+  waited = rw (e, a, e, b);
   still = λ z h. ap (hearers w l h) same;
   others = λ z. absurd (z refl);
   first = λ z. absurd (z refl);
@@ -149,6 +157,20 @@ rec-one : (k : Kind) (p : ℕ) → recOf (single k p) ∷ [] ≡ recsOf (kindNo 
 rec-one calls p = refl
 rec-one moves p = refl
 
+none-sent : (k : Kind) → _≡_ {A = ℕ} 0 (sentBy (kindNo k))
+none-sent calls = refl
+none-sent moves = refl
+
+none-waited : (k : Kind) (n : ℕ) → _≡_ {A = ℕ} 0 (waitBy (kindNo k) n)
+none-waited calls n = refl
+none-waited moves n = refl
+
+wait-of : (cs : List Comp) (p : ℕ) (c : Comp) → at cs p ≡ accepted c → getD (waitsOf cs) p 0 ≡ c .wait
+unfolding at
+wait-of [] p c e = clash e
+wait-of (x ∷ cs) zero c e = ap (λ z. z .wait) (took e)
+wait-of (x ∷ cs) (suc p) c e = wait-of cs p c e
+
 -- a call or a move fires
 fires-one : (w : List ℕ) (l p : ℕ) (k : Kind) (cs : List Comp) (c : Comp) (v : Visit) (f : Fired) (g : Left) → at cs p ≡ accepted c → choiceAt w l p c cs ≡ accepted (single k p) → aloneAt w k c ≡ accepted g → oneOf f ≡ aloneAt w k c
     → unready l (g .after) → ((h : ℕ) → hears h (headAt w (c .place)) ≡ false) → v .x ≡ f .comp → v .y ≡ f .comp → Turned w l p p (kindNo k) 0 cs c v
@@ -156,6 +178,8 @@ unfolding actOn leftBy positions setAll
 fires-one w l p k cs c v f g e a b o u n x y = record {
   actions = rw (e, a, e, b) (rec-one k p);
   comps = rw (e, a, e, b, after) (sym once);
+  sent = unfold messages in rw (e, a, e, b) (none-sent k);
+  waited = rw (e, a, e, b) (none-waited k (c .wait));
   still = λ z h. ap (hearers w l h) once ∙ hearers-other w l h cs p c (f .comp) e (rw (n h) (and-none (readyAt l c))) (subst (unready l) after u .0);
   others = λ z. absurd (z refl);
   first = λ z. absurd (z refl);
@@ -178,6 +202,8 @@ unfolding actOn leftBy positions setAll
 fires-two w l p q d cs c e v m g few i j a b o u s n r x y = record {
   actions = rw (i, a, i, j, b);
   comps = rw (i, a, i, j, b, after) (sym (rw (x, y)));
+  sent = unfold messages in rw (i, a, i, j, b);
+  waited = rw (i, a, i, j, b) (wait-of cs p c i);
   still = λ z. absurd (omega arith);
   others = λ z h k. put x y h ∙ hearers-other w l h cs₁ q e (m .receiver) there (rw (r h, sym (ap (eqb h) s) ∙ k) (and-none (readyAt l e))) (marks .1 .0) ∙ sender h;
   first = λ z qs k. put x y (sendsAt w l c) ∙ first-gone w l (sendsAt w l c) cs₁ few₁ q qs (foremost-of w l (sendsAt w l c) cs₁ few₁ q qs (sender (sendsAt w l c) ∙ k)) (m .receiver) (marks .1 .0);

@@ -1,12 +1,13 @@
 -- One position of a step's sweep, in numbers: what the contracts of `sweep` cite.
 -- Serves inner contracts only.
-use Prim.Native.Nat.{ℕ, zero, suc, _≤_}
+use Prim.Native.Nat.{ℕ, zero, suc, _*_, _≤_}
 use mathlib.Core.List.{List, [], _∷_, map}
 use mathlib.Core.Bool.{cond}
 use mathlib.Core.Path.{_≡_}
 use lib.Dec.{eqb, ltb}
 use lib.ListN.{length, take, drop}
 use Rattle.terms.specs.Rules.Kind.{calls, moves}
+use Rattle.waits.specs.Waits.{messages}
 use Rattle.table.specs.declared.Comp.{Comp}
 use Rattle.table.specs.declared.State.{State}
 use Rattle.table.specs.declared.Head.{Head}
@@ -66,13 +67,24 @@ poppedOf (suc q) nx = nx
 abbrev pub recBy : ℕ → ℕ → ℕ → List ℕ
 recBy k p q = k ∷ p ∷ cond (eqb k 3) q 0 ∷ []
 
--- the sweep over all positions: its records in front of those that were lent, how many, and the components it leaves
-pub record SweepsAs (w : List ℕ) (l : ℕ) (st : State) (after : List ℕ) (before acts : List (List ℕ)) (count : ℕ) : Type 0 where
+-- of an action of kind k: how many messages it sends, and how long their senders had waited, where n is the wait of the component that acts
+abbrev pub sentBy : ℕ → ℕ
+sentBy k = cond (eqb k 3) 1 0
+
+abbrev pub waitBy : ℕ → ℕ → ℕ
+waitBy k n = cond (eqb k 3) n 0
+
+-- the sweep over all positions: its records in front of those that were lent, how many, the components it leaves, how many messages it sends, and how long
+-- their senders had waited together
+pub record SweepsAs (w : List ℕ) (l : ℕ) (st : State) (after : List ℕ) (before acts : List (List ℕ)) (count sent sum : ℕ) : Type 0 where
   pub room : length acts ≡ length before
   pub records : take count acts ≡ map recOf (sweepAt w l 0 (st .n) (compsOf st) .actions)
   pub rest : drop count acts ≡ drop count before
   pub number : count ≡ length (sweepAt w l 0 (st .n) (compsOf st) .actions)
   pub few : count ≤ st .n
   pub comps : compsOf (record { c = after; n = st .n }) ≡ sweepAt w l 0 (st .n) (compsOf st) .comps
+  pub sent-is : sent ≡ messages (sweepAt w l 0 (st .n) (compsOf st) .actions)
+  pub sum-is : sum ≡ sweepAt w l 0 (st .n) (compsOf st) .sum
+  pub small : sum ≤ 1_000_000 * sent
   pub slotted : length after ≡ stateWords
   pub past : PastKept (st .n) (st .c) after

@@ -10,7 +10,8 @@
 //   proofs/Queues    the chains of positions that hear a channel
 //   proofs/Sweeping  one position of the sweep in code
 //   proofs/Going     the loop over the positions
-//   proofs/Stepping  the step stands for the step of the rules, with questions 15 and 13
+//   proofs/Tallying  waits, total and count after the sweep are those of its actions one by one
+//   proofs/Stepping  the step stands for the step of the rules, with questions 15, 18 and 13
 pub mod step;
 mod sweep;
 
@@ -20,6 +21,13 @@ use table::Comp;
 pub struct Visit {
     pub x: Comp,
     pub y: Comp,
+}
+
+// What the actions of a step were: how many, how many of them sent a message, and how long the senders had waited together.
+pub struct Swept {
+    pub count: usize,
+    pub sent: u32,
+    pub sum: usize,
 }
 
 // The answer of a step: code 0 with the number of actions and the number of components after it, or the number of the question answered by no, 0 and the

@@ -1,12 +1,12 @@
-// The step at a location of a table that passes question 17: questions 8, 15 and 13. A refusal puts the components back.
+// The step at a location of a table that passes question 17: questions 8, 15, 18 and 13. A refusal puts the components back.
 ghost use mathlib.Core.Path.{_≡_};
 ghost use mathlib.Core.Bool.{true};
 ghost use mathlib.Core.List.{_++_};
-ghost use Prim.Native.Nat.{_<_, _≤_};
+ghost use Prim.Native.Nat.{_+_, _<_, _≤_};
 ghost use lib.ListN.{length, take, drop};
 ghost use Rattle.terms.specs.Same.{every};
 ghost use Rattle.table.specs.Words.{locsIn};
-ghost use Rattle.table.specs.Meaning.{compsOf};
+ghost use Rattle.table.specs.Meaning.{compsOf, countIn};
 ghost use Rattle.table.specs.Valid.{valid};
 ghost use Rattle.calls_steady.specs.Steady.{staysOne};
 ghost use Rattle.calls_step.specs.Stepped.{stepRule, stepsAs, refusal};
@@ -18,6 +18,9 @@ use table::Script;
 use table::Words;
 use table::comps::sized;
 use table::words;
+use table_waits::count_messages;
+use table_waits::messages;
+use waits::MOST;
 
 pub fn refuse(code: u32, n: usize) -> Stepped
     ensures { λ r. ⌜ r ≡ refusal code n ⌝ }
@@ -50,12 +53,16 @@ fn put_records(acts: &[[u32; 3]; 256], count: usize, records: &mut [[u32; 3]])
     }
 }
 
-// Is it known at little cost that neither 15 nor 13 is answered by no? There is room for an action at every position, and every component stays one.
+// Is it known at little cost that none of 15, 18 and 13 is answered by no? There is room for an action at every position, a count for a message of each, and
+// every component stays one.
 fn spared(w: &Script, c: &Words, n: usize, l: u32, size: usize) -> bool
     requires { ⌜ valid (now w) (record { c = now c; n = n }) ≡ true ⌝ }
-    ensures { λ r. ⌜ (r ≡ true → (n ≤ size) × (every (staysOne (now (w .entry)) l) (compsOf (record { c = now (c .entry); n = n })) ≡ true)) ⌝ }
+    ensures { λ r. ⌜ (r ≡ true → (n ≤ size) × (countIn (now (c .entry)) + n ≤ 1000000) × (every (staysOne (now (w .entry)) l) (compsOf (record { c = now (c .entry); n = n })) ≡ true)) ⌝ }
 {
     if size < n {
+        return false;
+    }
+    if MOST - 256 < messages(c) {
         return false;
     }
     known_steady(w, c, n, l)
@@ -63,20 +70,21 @@ fn spared(w: &Script, c: &Words, n: usize, l: u32, size: usize) -> bool
 
 // The step where it is so: nothing is to be put back, and the records are written where they are wanted.
 fn step_free(w: &Script, c: &mut Words, n: usize, l: u32, records: &mut [[u32; 3]]) -> Stepped
-    requires { ⌜ (valid (now w) (record { c = now c; n = n }) ≡ true) × (l < locsIn (now w)) × (n ≤ length (now records)) × (every (staysOne (now w) l) (compsOf (record { c = now c; n = n })) ≡ true) ⌝ }
+    requires { ⌜ (valid (now w) (record { c = now c; n = n }) ≡ true) × (l < locsIn (now w)) × (n ≤ length (now records)) × (countIn (now c) + n ≤ 1000000) × (every (staysOne (now w) l) (compsOf (record { c = now c; n = n })) ≡ true) ⌝ }
     ensures { λ r. ⌜ stepsAs (now (w .entry)) (record { c = now (c .entry); n = n }) (stepRule (now (w .entry)) (record { c = now (c .entry); n = n }) l (length (now (records .entry)))) r (now (c .exit)) (now (records .entry)) (now (records .exit)) ⌝ }
 {
     sized(*c);
-    let count = sweep::sweep(w, c, n, l, records);
+    let s = sweep::sweep(w, c, n, l, records);
+    count_messages(c, s.sent, s.sum);
     let k = pass::pass_all(w, c, n, l);
     Stepped {
         code: 0,
-        count: count,
+        count: s.count,
         n: k,
     }
 }
 
-// The step with questions 15 and 13: the records are written beside the lent ones, and a copy of the components is kept, until both are answered.
+// The step with questions 15, 18 and 13: the records are written beside the lent ones, and a copy of the components is kept, until all are answered.
 fn step_kept(w: &Script, c: &mut Words, n: usize, l: u32, records: &mut [[u32; 3]]) -> Stepped
     requires { ⌜ (valid (now w) (record { c = now c; n = n }) ≡ true) × (l < locsIn (now w)) ⌝ }
     ensures { λ r. ⌜ stepsAs (now (w .entry)) (record { c = now (c .entry); n = n }) (stepRule (now (w .entry)) (record { c = now (c .entry); n = n }) l (length (now (records .entry)))) r (now (c .exit)) (now (records .entry)) (now (records .exit)) ⌝ }
@@ -84,18 +92,22 @@ fn step_kept(w: &Script, c: &mut Words, n: usize, l: u32, records: &mut [[u32; 3
     sized(*c);
     let mut acts = [[0; 3]; 256];
     let held = *c;
-    let count = sweep::sweep(w, c, n, l, &mut acts);
-    if records.len() < count {
+    let s = sweep::sweep(w, c, n, l, &mut acts);
+    if records.len() < s.count {
         return put_back(15, n, &held, c);
     }
+    if MOST < messages(c) + s.sent {
+        return put_back(18, n, &held, c);
+    }
+    count_messages(c, s.sent, s.sum);
     let k = pass::pass_all(w, c, n, l);
     if 256 < k {
         return put_back(13, n, &held, c);
     }
-    put_records(&acts, count, records);
+    put_records(&acts, s.count, records);
     Stepped {
         code: 0,
-        count: count,
+        count: s.count,
         n: k,
     }
 }

@@ -2,11 +2,12 @@
 // the next output in front.
 ghost use mathlib.Core.Path.{_≡_};
 ghost use mathlib.Core.Bool.{true};
-ghost use Prim.Native.Nat.{_<_, _≤_};
+ghost use Prim.Native.Nat.{_+_, _<_, _≤_};
 ghost use lib.ListN.{length};
 ghost use Rattle.table.specs.Valid.{scriptOk, compOk, valid};
-ghost use Rattle.calls_step.specs.Visit.{sendsBy, sendsAt, kindOf, kindBy, kindAt, Performed, otherOf, poppedOf, recBy, SweepsAs};
+ghost use Rattle.calls_step.specs.Visit.{sendsBy, sendsAt, kindOf, kindBy, kindAt, Performed, otherOf, poppedOf, recBy, sentBy, waitBy, SweepsAs};
 ghost use Rattle.table.specs.Words.{stateWords};
+use super::Swept;
 use super::Visit;
 use calls_act::fire;
 use calls_act::rights::right_in;
@@ -124,15 +125,40 @@ fn rec_by(k: u32, p: usize, q: usize) -> [u32; 3]
     [k, p as u32, 0]
 }
 
-// How many actions there are. Their records are the first of acts, which has room for one at each position, and the components are left as they leave them.
-pub(crate) fn sweep(w: &Script, c: &mut Words, n: usize, l: u32, acts: &mut [[u32; 3]]) -> usize
+// One message more for an action of kind 3.
+fn sent_with(sent: u32, k: u32) -> u32
+    requires { ⌜ sent ≤ 256 ⌝ }
+    ensures { λ r. ⌜ r ≡ sent + sentBy k ⌝ }
+{
+    if k == 3 {
+        return sent + 1;
+    }
+    sent
+}
+
+// And the wait of its sender.
+fn waited_with(sum: usize, k: u32, wait: u32) -> usize
+    requires { ⌜ (sum ≤ 1000000000000) × (wait ≤ 1000000) ⌝ }
+    ensures { λ r. ⌜ r ≡ sum + waitBy k wait ⌝ }
+{
+    if k == 3 {
+        return sum + words::wide(wait);
+    }
+    sum
+}
+
+// The actions in order. Their records are the first of acts, which has room for one at each position, and the components are left as they leave them. Nothing
+// is counted yet.
+pub(crate) fn sweep(w: &Script, c: &mut Words, n: usize, l: u32, acts: &mut [[u32; 3]]) -> Swept
     requires { ⌜ (valid (now w) (record { c = now c; n = n }) ≡ true) × (length (now c) ≡ stateWords) × (n ≤ length (now acts)) ⌝ }
-    ensures { λ r. ⌜ SweepsAs (now (w .entry)) l (record { c = now (c .entry); n = n }) (now (c .exit)) (now (acts .entry)) (now (acts .exit)) r ⌝ }
+    ensures { λ r. ⌜ SweepsAs (now (w .entry)) l (record { c = now (c .entry); n = n }) (now (c .exit)) (now (acts .entry)) (now (acts .exit)) (r .count) (r .sent) (r .sum) ⌝ }
 {
     let mut heads = [0u32; 65];
     let mut nexts = [0u32; 256];
     wait_all(w, c, n, l, &mut heads, &mut nexts);
     let mut count: usize = 0;
+    let mut sent: u32 = 0;
+    let mut sum: usize = 0;
     let mut p: usize = 0;
     while p < n {
         let d = comp_at(c, p);
@@ -155,7 +181,13 @@ pub(crate) fn sweep(w: &Script, c: &mut Words, n: usize, l: u32, acts: &mut [[u3
         count += 1;
         let nx = nexts[q];
         heads[s] = popped_of(x, nx);
+        sent = sent_with(sent, k);
+        sum = waited_with(sum, k, d.wait);
         p += 1;
     }
-    count
+    Swept {
+        count: count,
+        sent: sent,
+        sum: sum,
+    }
 }

@@ -9,14 +9,13 @@ use mathlib.Core.Path.{_≡_, refl, sym, ap, _∙_}
 use lib.Dec.{ltb}
 use lib.ListN.{length, drop, length-append, List·getD-append}
 use lib.Seq.{sets, length-sets, drop-drop, drop-length}
-use borrow.Author.Tests.{lt-ltb, le-leb, ltb-true, ltb-false}
+use borrow.Author.Tests.{ltb-true, ltb-false}
 use Rattle.terms.specs.Same.{every}
-use Rattle.terms.proofs.Names.{and-in}
 use Rattle.table.specs.declared.Comp.{Comp}
 use Rattle.table.specs.declared.State.{State}
 use Rattle.table.specs.Words.{compSize, stateWords, partsIn}
 use Rattle.table.specs.Meaning.{listFrom, compIn, wordsIn, PastKept, compsOf, noComp}
-use Rattle.table.specs.Valid.{scriptOk, compOk, stateOk, valid}
+use Rattle.table.specs.Valid.{scriptOk, compOk, valid}
 use Rattle.table.specs.Fire.{passedAll}
 use Rattle.table.proofs.Tests.{every-getD, script-fine, comp-fine}
 use Rattle.table.proofs.Kept.{tick-kept, tick-grows}
@@ -26,9 +25,9 @@ use Rattle.calls_steady.specs.Steady.{touches}
 use Rattle.calls_tick.specs.Turn.{stepOf, turnOf, remaining}
 use Rattle.calls_tick.specs.Ticked.{passedFrom, PassedHere, passes}
 use Rattle.calls_tick.proofs.Turns.{turn-vals, turn-next, remaining-begin, remaining-turn, remaining-some, untouched}
-use Rattle.table.proofs.InUse.{comps-length, in-use, from-here, comp-at}
+use Rattle.table.proofs.InUse.{comps-length, in-use, from-here, comp-at, valid-ledger, ledger-same, is-valid}
 use Rattle.table.proofs.ValidLists.{every-all, listFrom-length, listFrom-at}
-use Rattle.table.proofs.Stores.{put-other, past-put, past-none, past-then, listFrom-same, listFrom-end, drop-from, comps-more}
+use Rattle.table.proofs.Stores.{put-other, past-put, past-none, past-then, past-total, past-count, listFrom-same, listFrom-end, drop-from, comps-more}
 
 -- k components are written to out, i are done with, and of the next one the parts from next on are left
 pub record Passing (w : List ℕ) (l : ℕ) (st : State) (goal : List Comp) (out : List ℕ) (k i next : ℕ) : Type 0 where
@@ -214,10 +213,10 @@ module _ (w : List ℕ) (l : ℕ) (st : State) where
 
     -- the copy still passes question 17
     pub copy-good : valid w st ≡ true → valid w (record { c = out; n = st .n }) ≡ true
-    unfolding valid stateOk
     copy-good v =
         let q = valid-parts w st v in
-        and-in _ _ (q .0) (and-in _ _ (lt-ltb 0 (st .n) (q .1 .some)) (and-in _ _ (le-leb (st .n) 256 (q .1 .few)) (every-all (compOk w) noComp (compsOf copy) (λ m b. let c : m < st .n = omega (arith, comps-length copy) in ap (compOk w) (in-use copy noComp m c) ∙ each v m c))))
+        let fine = every-all (compOk w) noComp (compsOf copy) (λ m b. let c : m < st .n = omega (arith, comps-length copy) in ap (compOk w) (in-use copy noComp m c) ∙ each v m c) in
+        is-valid w copy (q .0) (record { some = q .1 .some; few = q .1 .few; each = fine }) (ledger-same (past-total (q .1 .few) (p .past)) (past-count (q .1 .few) (p .past)) (valid-ledger w st v))
       where
         passed-fine : valid w st ≡ true → every (compOk w) (listFrom 0 i (compIn out) ++ passedAll w l (drop i (compsOf st))) ≡ true
         passed-fine v = ap (every (compOk w)) (p .front) ∙ tick-kept w (valid-parts w st v .0) l (compsOf st) (valid-parts w st v .1 .each)

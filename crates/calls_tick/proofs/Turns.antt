@@ -3,7 +3,7 @@
 use Prim.Native.Nat.{ℕ, zero, suc, _+_, _-_, _<_, _≤_}
 use native.Mathlib.Omega.{arith}
 use mathlib.Core.List.{List, [], _∷_, _++_, flatMap}
-use mathlib.Core.Bool.{Bool, true, false, cond, false≢true}
+use mathlib.Core.Bool.{Bool, true, false, cond, not, false≢true}
 use mathlib.Core.Path.{_≡_, refl, sym, ap, _∙_}
 use lib.Dec.{eqb, ltb}
 use lib.ListN.{length, drop, length-append}
@@ -20,7 +20,7 @@ use Rattle.table.proofs.Places.{out-fine, in-fine}
 use Rattle.table.proofs.Kept.{pass-some}
 use Rattle.calls_steady.specs.Steady.{touches}
 use Rattle.calls_tick.specs.declared.Turn.{Turn}
-use Rattle.calls_tick.specs.Turn.{whole, stepOf, partOf, elseTurn, waitTurn, firstTurn, turnOf, restOf, remaining}
+use Rattle.calls_tick.specs.Turn.{whole, stepOf, partOf, elseTurn, waitTurn, touchedTurn, onlyWaits, waitsOn, firstTurn, turnOf, restOf, remaining}
 
 -- ── a split, part by part ──
 next-small : (w : List ℕ) (i n : ℕ) → nextOk w i n ≡ true → n ≤ i
@@ -206,3 +206,34 @@ untouched w l c e = go (ltb (c .mark) 64) (eqb (c .mark) l) (eqb (c .loc) l) _ _
     go true false d xs ys e = refl
     go false b true xs ys e = absurd (false≢true (sym e))
     go false b false xs ys e = refl
+
+-- the first turn of what it touches
+pub touched-first : (w : List ℕ) (l : ℕ) (c : Comp) → touches l c ≡ true → touchedTurn w c ≡ firstTurn w l c
+unfolding touches touchedTurn firstTurn
+touched-first w l c e = go (ltb (c .mark) 64) (eqb (c .mark) l) (eqb (c .loc) l) _ _ _ e
+  where
+    go : (a b d : Bool) (x y z : Turn) → cond a b d ≡ true → cond a x y ≡ cond a (cond b x z) (cond d y z)
+    go true true d x y z e = refl
+    go true false d x y z e = absurd (false≢true e)
+    go false b true x y z e = refl
+    go false b false x y z e = absurd (false≢true e)
+
+-- the turn of what only waits
+pub waits-whole : (w : List ℕ) (c : Comp) → waitsOn w c ≡ true → touchedTurn w c ≡ whole (timed c (lessRaw (c .timer)))
+unfolding waitsOn touchedTurn onlyWaits waitTurn elseTurn
+waits-whole w c e = go (ltb (c .mark) 64) e
+  where
+    kept : (b : Bool) (x y : Turn) → not b ≡ true → cond b x y ≡ y
+    kept true x y e = absurd (false≢true e)
+    kept false x y e = refl
+
+    head : (h : Head) → onlyWaits w c h ≡ true → waitTurn w c h ≡ whole (timed c (lessRaw (c .timer)))
+    head Stop e = absurd (false≢true e)
+    head (Go t v p) e = refl
+    head (Out d t v p q) e = kept (expiredAt w c) _ _ e
+    head (In d t k p q) e = kept (expiredAt w c) _ _ e
+    head (Call d n) e = absurd (false≢true e)
+
+    go : (b : Bool) → cond b false (onlyWaits w c (headAt w (c .place))) ≡ true → cond b (partOf w c (c .place)) (waitTurn w c (headAt w (c .place))) ≡ whole (timed c (lessRaw (c .timer)))
+    go true e = absurd (false≢true e)
+    go false e = head (headAt w (c .place)) e

@@ -2,7 +2,7 @@
 -- Serves inner contracts only.
 use Prim.Native.Nat.{ℕ, zero, suc, _+_}
 use mathlib.Core.List.{List, [], _∷_, _++_}
-use mathlib.Core.Bool.{Bool, cond}
+use mathlib.Core.Bool.{Bool, true, false, cond, not}
 use lib.Dec.{eqb, ltb}
 use Rattle.terms.specs.Clock.{lessRaw}
 use Rattle.table.specs.declared.Comp.{Comp}
@@ -37,6 +37,21 @@ waitTurn w c (Go t v p) = whole (timed c (lessRaw (c .timer)))
 waitTurn w c (Out d t v p q) = elseTurn w c q
 waitTurn w c (In d t k p q) = elseTurn w c q
 waitTurn w c (Call d n) = whole c
+
+-- the first turn of a component that the tick touches
+unfoldable pub touchedTurn : List ℕ → Comp → Turn
+touchedTurn w c = cond (ltb (c .mark) 64) (partOf w c (c .place)) (waitTurn w c (headAt w (c .place)))
+
+-- a ready component with the head h, where the tick is: its timer is lowered or kept, and that is all
+unfoldable pub onlyWaits : List ℕ → Comp → Head → Bool
+onlyWaits w c Stop = false
+onlyWaits w c (Go t v p) = true
+onlyWaits w c (Out d t v p q) = not (expiredAt w c)
+onlyWaits w c (In d t k p q) = not (expiredAt w c)
+onlyWaits w c (Call d n) = false
+
+unfoldable pub waitsOn : List ℕ → Comp → Bool
+waitsOn w c = cond (ltb (c .mark) 64) false (onlyWaits w c (headAt w (c .place)))
 
 -- the first turn of a component in the tick at l
 unfoldable pub firstTurn : List ℕ → ℕ → Comp → Turn

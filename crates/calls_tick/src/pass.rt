@@ -7,10 +7,10 @@ ghost use lib.ListN.{length};
 ghost use Rattle.table.specs.Words.{stateWords, partsIn, editionIn};
 ghost use Rattle.table.specs.Meaning.{compsOf};
 ghost use Rattle.table.specs.Valid.{scriptOk, compOk, valid, headOk};
-ghost use Rattle.table.specs.Split.{timerIn, fresh, timed};
+ghost use Rattle.table.specs.Split.{timerIn, fresh, timed, expiredAt};
 ghost use Rattle.table.specs.Fire.{passedAll};
 ghost use Rattle.terms.specs.Clock.{lessRaw, isEdition};
-ghost use Rattle.calls_tick.specs.Turn.{whole, partOf, elseTurn, waitTurn, firstTurn, turnOf};
+ghost use Rattle.calls_tick.specs.Turn.{whole, partOf, elseTurn, waitTurn, touchedTurn, firstTurn, turnOf, onlyWaits, waitsOn};
 ghost use Rattle.calls_tick.specs.Ticked.{passes, passedFrom, PassedHere};
 use super::Turn;
 use calls_steady::touched;
@@ -23,6 +23,7 @@ use table::comps::comp_at;
 use table::comps::put_comp;
 use table::words;
 use terms::Timer;
+use waits::longer;
 
 fn timer_in(h: Head) -> u32
     ensures { λ r. ⌜ r ≡ timerIn h ⌝ }
@@ -36,7 +37,7 @@ fn timer_in(h: Head) -> u32
     }
 }
 
-// The part at a place as a component of its own.
+// The part at a place as a component of its own, which has not waited yet.
 pub(crate) fn fresh_at(w: &Script, l: u32, vals: [u32; 8], place: u32) -> Comp
     requires { ⌜ place < 4096 ⌝ }
     ensures { λ r. ⌜ r ≡ fresh (now (w .entry)) l vals place ⌝ }
@@ -48,6 +49,7 @@ pub(crate) fn fresh_at(w: &Script, l: u32, vals: [u32; 8], place: u32) -> Comp
         place: place,
         timer: timer_in(h),
         vals: vals,
+        wait: 0,
     }
 }
 
@@ -61,20 +63,36 @@ fn whole_turn(c: Comp) -> Turn
     }
 }
 
-// c, with its timer less one.
-fn timed_turn(c: Comp) -> Turn
-    ensures { λ r. ⌜ r ≡ whole (timed c (lessRaw (c .timer))) ⌝ }
+// c, with its timer less one; it has waited one tick more.
+fn waited(c: Comp) -> Comp
+    ensures { λ r. ⌜ r ≡ timed c (lessRaw (c .timer)) ⌝ }
 {
     let t = Timer { raw: c.timer };
     let u = t.less_one();
     let vals = c.vals;
-    whole_turn(Comp {
+    Comp {
         loc: c.loc,
         mark: c.mark,
         place: c.place,
         timer: u.raw,
         vals: vals,
-    })
+        wait: longer(c.wait),
+    }
+}
+
+fn timed_turn(c: Comp) -> Turn
+    ensures { λ r. ⌜ r ≡ whole (timed c (lessRaw (c .timer))) ⌝ }
+{
+    let d = waited(c);
+    whole_turn(d)
+}
+
+fn is_expired(w: &Script, c: Comp) -> bool
+    requires { ⌜ isEdition (editionIn (now w)) ≡ true ⌝ }
+    ensures { λ r. ⌜ r ≡ expiredAt (now (w .entry)) c ⌝ }
+{
+    let t = Timer { raw: c.timer };
+    t.is_expired(words::word(w, EDITION))
 }
 
 fn part_turn(w: &Script, c: Comp, place: u32) -> Turn
@@ -102,8 +120,7 @@ fn else_turn(w: &Script, c: Comp, q: u32) -> Turn
     requires { ⌜ (q < 4096) × (isEdition (editionIn (now w)) ≡ true) ⌝ }
     ensures { λ r. ⌜ r ≡ elseTurn (now (w .entry)) c q ⌝ }
 {
-    let t = Timer { raw: c.timer };
-    if t.is_expired(words::word(w, EDITION)) {
+    if is_expired(w, c) {
         return part_turn(w, c, q);
     }
     timed_turn(c)
@@ -149,7 +166,44 @@ fn turn(w: &Script, l: u32, c: Comp, next: u32) -> Turn
     part_turn(w, c, next - 1)
 }
 
-// The components in place, up to the first that splits: its position, or n. One that the tick does not touch is left alone.
+// The first turn of a component that the tick touches. It has one caller, so that it is compiled in place there, where most time is spent.
+fn touched_turn(w: &Script, c: Comp) -> Turn
+    requires { ⌜ (scriptOk (now w) ≡ true) × (compOk (now w) c ≡ true) ⌝ }
+    ensures { λ r. ⌜ r ≡ touchedTurn (now (w .entry)) c ⌝ }
+{
+    if c.mark < 64 {
+        return part_turn(w, c, c.place);
+    }
+    let h = words::head_at(w, words::wide(c.place));
+    wait_turn(w, c, h)
+}
+
+// A ready component with the head h: does it only wait in a tick?
+fn only_waits(w: &Script, c: Comp, h: Head) -> bool
+    requires { ⌜ isEdition (editionIn (now w)) ≡ true ⌝ }
+    ensures { λ r. ⌜ r ≡ onlyWaits (now (w .entry)) c h ⌝ }
+{
+    match h {
+        Head::Stop => false,
+        Head::Go(_, _, _) => true,
+        Head::Out(_, _, _, _, _) => !is_expired(w, c),
+        Head::In(_, _, _, _, _) => !is_expired(w, c),
+        Head::Call(_, _) => false,
+    }
+}
+
+fn waits_on(w: &Script, c: Comp) -> bool
+    requires { ⌜ (scriptOk (now w) ≡ true) × (compOk (now w) c ≡ true) ⌝ }
+    ensures { λ r. ⌜ r ≡ waitsOn (now (w .entry)) c ⌝ }
+{
+    if c.mark < 64 {
+        return false;
+    }
+    let h = words::head_at(w, words::wide(c.place));
+    only_waits(w, c, h)
+}
+
+// The components in place, up to the first that splits: its position, or n. One that the tick does not touch is left alone, and most of the others only wait.
 fn pass_here(w: &Script, c: &mut Words, n: usize, l: u32) -> usize
     requires { ⌜ (valid (now w) (record { c = now c; n = n }) ≡ true) × (length (now c) ≡ stateWords) ⌝ }
     ensures { λ r. ⌜ PassedHere (now (w .entry)) l (record { c = now (c .entry); n = n }) (now (c .exit)) r ⌝ }
@@ -161,7 +215,13 @@ fn pass_here(w: &Script, c: &mut Words, n: usize, l: u32) -> usize
             i += 1;
             continue;
         }
-        let t = turn(w, l, x, 0);
+        if waits_on(w, x) {
+            let y = waited(x);
+            put_comp(c, i, y);
+            i += 1;
+            continue;
+        }
+        let t = touched_turn(w, x);
         if t.next != 0 {
             return i;
         }

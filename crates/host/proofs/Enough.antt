@@ -10,14 +10,13 @@ use lib.ListN.{length}
 use borrow.Author.Tests.{le-leb}
 use Rattle.terms.specs.Rules.{Answer, Action, Acted, _>>=_, act}
 use Rattle.terms.specs.Rules.Answer.{refused, accepted}
-use Rattle.terms.specs.Step.{step}
 use Rattle.table.specs.declared.State.{State}
 use Rattle.table.specs.Words.{locsIn, chansIn, locName, chanName}
-use Rattle.table.specs.Meaning.{contextOf, compsOf, netOf}
+use Rattle.table.specs.Meaning.{contextOf, compsOf, netOf, countedOf}
 use Rattle.table.specs.Valid.{valid}
 use Rattle.table.specs.Fire.{Left, labelOf, leftBy}
-use Rattle.calls_act.specs.Acted.{asked, actionOf, actionRule, actionAnswer}
-use Rattle.calls_tick.specs.Ticked.{room}
+use Rattle.calls_act.specs.Acted.{asked, actionOf, actionAllowed}
+use Rattle.calls_step.specs.Stepped.{stepCounted}
 use Rattle.run_line.specs.Line.{labelText, lineText, stepLabels}
 use Rattle.run_line.proofs.Fits.{name-short, label-short, line-short}
 use Rattle.host.specs.Shown.{holding, nameAnswer, labelAnswer, lineAnswer}
@@ -53,11 +52,13 @@ module _ (w : List ℕ) (st : State) (n : ℕ) (h : 51 ≤ n) where
       go (refused m) = refl
       go (accepted f) = held (labelText (labelOf w (f .tag))) 51 n (label-short w (f .tag)) h
 
-  pub label-held : (k p q : ℕ) → labelAnswer w st k p q n ≡ (actionAnswer w st k p q >>= λ a. accepted (labelText (a .label)))
-  unfolding labelAnswer actionAnswer actionRule
+  pub label-held : (k p q : ℕ) → labelAnswer w st k p q n ≡ asked 17 (valid w st) (actionAllowed w st k p q >>= λ a. accepted (labelText (a .label)))
+  unfolding labelAnswer actionAllowed
   label-held k p q = go (valid w st) refl
     where
-      go : (b : Bool) → valid w st ≡ b → each (asked 17 b (actionOf k p q >>= λ a. act (contextOf w) a (netOf w st)))
+      go : (b : Bool) → valid w st ≡ b
+          → asked 17 b ((actionOf k p q >>= λ a. act (contextOf w) a (netOf w st)) >>= λ a. holding (labelText (a .label)) n)
+          ≡ asked 17 b ((actionOf k p q >>= λ a. act (contextOf w) a (netOf w st)) >>= λ a. accepted (labelText (a .label)))
       go true v = by-action v (actionOf k p q)
       go false v = refl
 
@@ -66,12 +67,12 @@ module _ (w : List ℕ) (st : State) (l n : ℕ) (h : 13_329 ≤ n) where
   abbrev Line : List ℕ
   Line = lineText (locName w l) (stepLabels w st l)
 
-  pub line-held : lineAnswer w st l n ≡ asked 17 (valid w st) (asked 8 (ltb l (locsIn w)) (step (contextOf w) (locName w l) (netOf w st) >>= λ s. room (s .comps) >>= λ cs. accepted Line))
+  pub line-held : lineAnswer w st l n ≡ asked 17 (valid w st) (asked 8 (ltb l (locsIn w)) (stepCounted (contextOf w) (locName w l) (countedOf w st) >>= λ s. accepted Line))
   unfolding lineAnswer
   line-held = go (valid w st) refl
     where
       go : (b : Bool) → valid w st ≡ b
-          → asked 17 b (asked 8 (ltb l (locsIn w)) (step (contextOf w) (locName w l) (netOf w st) >>= λ s. room (s .comps) >>= λ cs. holding Line n))
-          ≡ asked 17 b (asked 8 (ltb l (locsIn w)) (step (contextOf w) (locName w l) (netOf w st) >>= λ s. room (s .comps) >>= λ cs. accepted Line))
+          → asked 17 b (asked 8 (ltb l (locsIn w)) (stepCounted (contextOf w) (locName w l) (countedOf w st) >>= λ s. holding Line n))
+          ≡ asked 17 b (asked 8 (ltb l (locsIn w)) (stepCounted (contextOf w) (locName w l) (countedOf w st) >>= λ s. accepted Line))
       go true v = rw (held Line 13_329 n (line-short w st v l) h)
       go false v = refl

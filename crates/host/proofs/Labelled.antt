@@ -11,15 +11,15 @@ use Rattle.table.specs.Valid.{valid}
 use Rattle.table.specs.Fire.{labelOf}
 use Rattle.calls_act.specs.declared.Acted.{Acted as Answered}
 use Rattle.calls_act.specs.Fired.{tagOf}
-use Rattle.calls_act.specs.Acted.{actionRule, actionAnswer}
+use Rattle.calls_act.specs.Acted.{actionAllowed}
 use Rattle.calls_act.specs.Labelled.{named, labelled}
 use Rattle.run_line.specs.Line.{labelText}
 use Rattle.host.specs.Shown.{holding, labelAnswer}
 
-module _ (w : List ℕ) (st : State) (k p q n : ℕ) (r : Answered) (v : valid w st ≡ true) (e : named w r ≡ labelled (actionRule w st k p q)) where
+module _ (w : List ℕ) (st : State) (k p q n : ℕ) (r : Answered) (v : valid w st ≡ true) (e : named w r ≡ labelled (actionAllowed w st k p q)) where
   by-label : labelAnswer w st k p q n ≡ (named w r >>= λ x. holding (labelText x) n)
-  unfolding labelAnswer actionAnswer
-  by-label = rw v (go (actionRule w st k p q) ∙ ap (λ y. y >>= λ x. holding (labelText x) n) (sym e))
+  unfolding labelAnswer
+  by-label = rw v (go (actionAllowed w st k p q) ∙ ap (λ y. y >>= λ x. holding (labelText x) n) (sym e))
     where
       go : (x : Answer Acted) → (x >>= λ a. holding (labelText (a .label)) n) ≡ (labelled x >>= λ y. holding (labelText y) n)
       go (refused m) = refl

@@ -12,7 +12,6 @@ use Rattle.terms.proofs.Names.{and-inv}
 use Rattle.table.specs.declared.State.{State}
 use Rattle.table.specs.Valid.{valid}
 use Rattle.table.proofs.Fires.{map-append}
-use Rattle.calls_act.specs.Acted.{actionAnswer}
 use Rattle.calls_step.specs.declared.Stepped.{Stepped}
 use Rattle.calls_step.specs.Stepped.{stepAnswer, stepsAs}
 use Rattle.run_line.specs.Line.{labelText, stepLabels}
@@ -26,7 +25,7 @@ shown w st m e = labelAnswer w st (getD e 0 0) (getD e 1 0) (getD e 2 0) m
 
 module _ (w : List ℕ) (st : State) (m : ℕ) (v : valid w st ≡ true) where
   shown-one : (e : List ℕ) → mayFire w st e ≡ true → shown w st m e ∷ [] ≡ map (λ x. holding (labelText x) m) (labelIn w st e)
-  unfolding labelAnswer actionAnswer
+  unfolding labelAnswer
   shown-one e h = rw v (go (answerBy w st e) h)
     where
       go : (x : Answer Acted) → ok x ≡ true → (x >>= λ a. holding (labelText (a .label)) m) ∷ [] ≡ map (λ x. holding (labelText x) m) (labelBy x)

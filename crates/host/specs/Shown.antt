@@ -8,13 +8,12 @@ use lib.ListN.{length, take, drop}
 use Rattle.terms.specs.Names.{Name}
 use Rattle.terms.specs.Rules.{Answer, _>>=_}
 use Rattle.terms.specs.Rules.Answer.{refused, accepted}
-use Rattle.terms.specs.Step.{step}
 use Rattle.table.specs.declared.State.{State}
 use Rattle.table.specs.Words.{locsIn, locName}
-use Rattle.table.specs.Meaning.{contextOf, netOf}
+use Rattle.table.specs.Meaning.{contextOf, countedOf}
 use Rattle.table.specs.Valid.{valid}
-use Rattle.calls_act.specs.Acted.{asked, actionAnswer}
-use Rattle.calls_tick.specs.Ticked.{room}
+use Rattle.calls_act.specs.Acted.{asked, actionAllowed}
+use Rattle.calls_step.specs.Stepped.{stepCounted}
 use Rattle.run_line.specs.Line.{labelText, lineText, stepLabels}
 use Rattle.host.specs.declared.Counted.{Counted}
 
@@ -35,17 +34,16 @@ counted (accepted k) = record { code = 0; count = k }
 unfoldable pub nameAnswer : List ℕ → State → ℕ → (ℕ → Name) → ℕ → ℕ → Answer (List ℕ)
 nameAnswer w st m f k n = asked 17 (valid w st) (asked 8 (ltb k m) (holding (f k) n))
 
--- ── the label of an action of kind k at p, and q for kind 3: 17, 8 to 11 and 20 as for the action, 15 ──
+-- ── the label of an action of kind k at p, and q for kind 3: 17, 8 to 11 and 20 as for the action, 15. Nothing is counted, so 18 is not asked. ──
 unfoldable pub labelAnswer : List ℕ → State → ℕ → ℕ → ℕ → ℕ → Answer (List ℕ)
-labelAnswer w st k p q n = actionAnswer w st k p q >>= λ a. holding (labelText (a .label)) n
+labelAnswer w st k p q n = asked 17 (valid w st) (actionAllowed w st k p q >>= λ a. holding (labelText (a .label)) n)
 
--- ── the line of the step at the location numbered l: 17, 8 and 13 as for the step, 15 ──
+-- ── the line of the step at the location numbered l: 17, 8, 18 and 13 as for the step, 15 ──
 unfoldable pub lineAnswer : List ℕ → State → ℕ → ℕ → Answer (List ℕ)
 lineAnswer w st l n =
     asked 17 (valid w st)
     (asked 8 (ltb l (locsIn w))
-    (step (contextOf w) (locName w l) (netOf w st) >>= λ s. room (s .comps) >>= λ cs.
-    holding (lineText (locName w l) (stepLabels w st l)) n))
+    (stepCounted (contextOf w) (locName w l) (countedOf w st) >>= λ s. holding (lineText (locName w l) (stepLabels w st l)) n))
 
 -- ── a text s that is never refused, in lent bytes that held d: the length r of all of it, and as much of it as they hold ──
 pub record Shows (s d : List ℕ) (r : ℕ) (e : List ℕ) : Type 0 where

@@ -126,7 +126,7 @@ fn give_label(w: &Script, x: Label, buf: &mut [u8]) -> Written
     give(&text, k, buf)
 }
 
-// The label of an action: questions 17, 8 to 11 and 20 as for the action itself, 15. Asked of the network before a step, the records of the step have the
+// The label of an action: questions 17, 8 to 11 and 20 as for the action itself, 15; not 18, for nothing is counted. Asked of the network before a step, the records of the step have the
 // labels that its actions have when they fire (proofs/Records, by the law step-before of run_line).
 pub fn action_label(
     w: &Script,
@@ -153,7 +153,7 @@ pub fn action_label(
     give_label(w, x, buf)
 }
 
-// The line of the step at the location numbered l, as `timorun` prints it: questions 17, 8, 13 as for the step, 15. The step is made on a copy. A line
+// The line of the step at the location numbered l, as `timorun` prints it: questions 17, 8, 18, 13 as for the step, 15. The step is made on a copy. A line
 // has at most 13,329 bytes.
 pub fn step_line(w: &Script, c: &Words, n: usize, l: u32, buf: &mut [u8]) -> Written
     ensures { λ r. ⌜ Answers (lineAnswer (now (w .entry)) (record { c = now (c .entry); n = n }) l (length (now (buf .entry)))) (now (buf .entry)) r (now (buf .exit)) ⌝ }

@@ -22,18 +22,19 @@ use Rattle.terms.proofs.Answers.{clash, took}
 use Rattle.terms.proofs.Steps.{step-accepted}
 use Rattle.table.specs.declared.State.{State}
 use Rattle.table.specs.Words.{rowSize, locsAt, locsIn, nameAt, locName, chanName, defName, idsAt, nameSize}
-use Rattle.table.specs.Meaning.{contextOf, netOf}
+use Rattle.table.specs.Meaning.{contextOf, netOf, tallyOf}
 use Rattle.table.specs.Valid.{valid}
 use Rattle.table.specs.Fire.{labelOf}
 use Rattle.table.proofs.Tests.{every-getD}
 use Rattle.calls_act.specs.declared.Acted.{Acted}
 use Rattle.calls_act.specs.Fired.{tagOf}
-use Rattle.calls_act.specs.Acted.{asked, actionOf, actionRule}
+use Rattle.calls_act.specs.Acted.{asked, actionOf, actionAllowed}
 use Rattle.calls_act.specs.Labelled.{named, labelled}
+use Rattle.waits.specs.Waits.{Tally, stepTally, countable}
 use Rattle.calls_tick.specs.Ticked.{room}
 use Rattle.calls_step.specs.Sweep.{recOf}
 use Rattle.calls_step.specs.declared.Stepped.{Stepped}
-use Rattle.calls_step.specs.Stepped.{stepOf, stepRule, stepAnswer, Took, stepsAs}
+use Rattle.calls_step.specs.Stepped.{stepOf, stepCounted, stepRule, stepAnswer, Took, stepsAs}
 use Rattle.run_line.specs.Line.{labelText, spaced, stepLabels}
 use Rattle.run_line.specs.Records.{labelBy, answerBy, labelIn, mayFire, Holds}
 use Rattle.run_line.proofs.Labels.{Before, step-before}
@@ -97,7 +98,7 @@ module _ (w : List ℕ) (st : State) (records : List (List ℕ)) (n : ℕ) where
 -- ── the records of a step ──
 -- the rules answer a record as they answer its action
 answered : (w : List ℕ) (st : State) (a : Action) → answerBy w st (recOf a) ≡ act (contextOf w) a (netOf w st)
-unfolding actionRule actionOf
+unfolding actionAllowed actionOf
 answered w st (single calls p) = refl
 answered w st (single moves p) = refl
 answered w st (pair p q) = refl
@@ -128,8 +129,8 @@ module _ (w : List ℕ) (st : State) (l size : ℕ) (r : Stepped) (ds : List ℕ
   abbrev xs : List Action
   xs = fires (contextOf w) (locName w l) (netOf w st) .actions
 
-  took-holds : (cs : List Component) → valid w st ≡ true → Took w st (stepOf (fires (contextOf w) (locName w l) (netOf w st) .actions) cs) r ds before after → Holds w st l after (r .count)
-  took-holds cs v t =
+  took-holds : (cs : List Component) (u : Tally) → valid w st ≡ true → Took w st (stepOf (fires (contextOf w) (locName w l) (netOf w st) .actions) cs u) r ds before after → Holds w st l after (r .count)
+  took-holds cs u v t =
       let n : length (map recOf xs) ≡ r .count = length-map xs recOf ∙ sym (t .count) in
       record {
         good = v;
@@ -138,17 +139,18 @@ module _ (w : List ℕ) (st : State) (l size : ℕ) (r : Stepped) (ds : List ℕ
       }
 
   -- a refusal has its number, which is not 0
-  by-questions : (v a b c : Bool) (cs : List Component) → valid w st ≡ v
-      → stepsAs w st (asked 17 v (asked 8 a (asked 15 b (asked 13 c (accepted cs) >>= λ cs. accepted (stepOf (fires (contextOf w) (locName w l) (netOf w st) .actions) cs))))) r ds before after
+  by-questions : (v a b x c : Bool) (cs : List Component) (u : Tally) → valid w st ≡ v
+      → stepsAs w st (asked 17 v (asked 8 a (asked 15 b (asked 18 x (asked 13 c (accepted cs) >>= λ cs. accepted (stepOf (fires (contextOf w) (locName w l) (netOf w st) .actions) cs u)))))) r ds before after
       → r .code ≡ 0 → Holds w st l after (r .count)
-  by-questions true true true true cs v t z = took-holds cs v t
-  by-questions false a b c cs v t z = absurd (omega (arith, z, ap (λ r. r .code) (t .0)))
-  by-questions true false b c cs v t z = absurd (omega (arith, z, ap (λ r. r .code) (t .0)))
-  by-questions true true false c cs v t z = absurd (omega (arith, z, ap (λ r. r .code) (t .0)))
-  by-questions true true true false cs v t z = absurd (omega (arith, z, ap (λ r. r .code) (t .0)))
+  by-questions true true true true true cs u v t z = took-holds cs u v t
+  by-questions false a b x c cs u v t z = absurd (omega (arith, z, ap (λ r. r .code) (t .0)))
+  by-questions true false b x c cs u v t z = absurd (omega (arith, z, ap (λ r. r .code) (t .0)))
+  by-questions true true false x c cs u v t z = absurd (omega (arith, z, ap (λ r. r .code) (t .0)))
+  by-questions true true true false c cs u v t z = absurd (omega (arith, z, ap (λ r. r .code) (t .0)))
+  by-questions true true true true false cs u v t z = absurd (omega (arith, z, ap (λ r. r .code) (t .0)))
 
   pub step-holds : stepsAs w st (stepAnswer w st l size) r ds before after → r .code ≡ 0 → Holds w st l after (r .count)
-  unfolding stepAnswer stepRule room
+  unfolding stepAnswer stepRule stepCounted room
   step-holds s z =
       let cs = flatMap (pass (contextOf w) (λ m. sameName m (locName w l)) (locName w l)) (fires (contextOf w) (locName w l) (netOf w st) .comps) in
-      by-questions (valid w st) (ltb l (locsIn w)) (leb (length xs) size) (leb (length cs) 256) cs refl (rw (step-accepted (contextOf w) (locName w l) (netOf w st)) at s) z
+      by-questions (valid w st) (ltb l (locsIn w)) (leb (length xs) size) (countable xs (tallyOf st .count)) (leb (length cs) 256) cs (stepTally (contextOf w) (locName w l) (netOf w st) (tallyOf st)) refl (rw (step-accepted (contextOf w) (locName w l) (netOf w st)) at s) z

@@ -14,7 +14,7 @@ use Rattle.table.specs.declared.State.{State}
 use Rattle.table.specs.Words.{locName}
 use Rattle.table.specs.Meaning.{contextOf, netOf}
 use Rattle.table.specs.Valid.{valid}
-use Rattle.calls_act.specs.Acted.{actionRule}
+use Rattle.calls_act.specs.Acted.{actionAllowed}
 use Rattle.calls_step.specs.Sweep.{recOf}
 
 -- the label of an action, if it is accepted
@@ -24,7 +24,7 @@ labelBy (accepted a) = a .label ∷ []
 
 -- what the rules answer to the action of a record
 abbrev pub answerBy : List ℕ → State → List ℕ → Answer Acted
-answerBy w st e = actionRule w st (getD e 0 0) (getD e 1 0) (getD e 2 0)
+answerBy w st e = actionAllowed w st (getD e 0 0) (getD e 1 0) (getD e 2 0)
 
 abbrev pub labelIn : List ℕ → State → List ℕ → List Label
 labelIn w st e = labelBy (answerBy w st e)

@@ -5,12 +5,13 @@
 ghost use mathlib.Core.Bool.{true, false};
 ghost use mathlib.Core.Path.{_≡_};
 ghost use Prim.Native.Nat.{_≤_};
-ghost use lib.ListN.{length, take, drop};
+ghost use lib.ListN.{length};
 ghost use Rattle.table.specs.Meaning.{contextOf, netOf};
 ghost use Rattle.table.specs.Valid.{valid};
 ghost use Rattle.text_answer.specs.Answer.{ReadsOver};
-ghost use Rattle.run_print.specs.Print.{ending, printSettings};
-ghost use Rattle.run_pieces.specs.Pieces.{pieces, piecesLeft, ProgressOk, PieceIs};
+ghost use Rattle.run_print.specs.Print.{shown, printSettings};
+ghost use Rattle.run_pieces.specs.Pieces.{EndingIs, pieces, piecesLeft, ProgressOk, PieceIs};
+use run_print::put_mean;
 use run_turn::put_refused;
 use run_turn::turn;
 use table::Script;
@@ -18,8 +19,10 @@ use table::State;
 use table::words::wide;
 use table::words::word;
 use text_answer::given::all_rights;
+use text_write::Written;
 
-// How far a printout by pieces is: over; or a refusal is next, by its number; or the step at the location l in a round, or after four rounds the network.
+// How far a printout by pieces is: over; or a refusal is next, by its number; or the step at the location l in a round, or after four rounds the network,
+// or after that the mean.
 pub struct Progress {
     pub over: bool,
     pub code: u32,
@@ -61,16 +64,46 @@ fn before_step(round: usize, l: usize, st: State) -> Progress
     }
 }
 
-// The network, or the refusal to write it, at the front of a buffer of 65,536 bytes.
-fn put_ending(w: &Script, st: State, buf: &mut [u8]) -> usize
+// The network, or the refusal to write it, at the front of a buffer of 65,536 bytes: 0 or the number of the refusal, and the length.
+fn put_ending(w: &Script, st: State, buf: &mut [u8]) -> Written
     requires { ⌜ (valid (now w) st ≡ true) × (length (now buf) ≡ 65536) ⌝ }
-    ensures { λ r. ⌜ (r ≤ 65536) × (take r (now (buf .exit)) ≡ ending (contextOf (now (w .entry))) (netOf (now (w .entry)) st)) × (drop r (now (buf .exit)) ≡ drop r (now (buf .entry))) ⌝ }
+    ensures { λ r. ⌜ EndingIs (shown (contextOf (now (w .entry))) (netOf (now (w .entry)) st)) (now (buf .entry)) (now (buf .exit)) r ⌝ }
 {
     let r = text_write::write(w, &st.c, st.n, buf);
     if r.code != 0 {
-        return put_refused(r.code, buf, 0);
+        let a = put_refused(r.code, buf, 0);
+        return Written {
+            code: r.code,
+            len: a,
+        };
     }
-    r.len
+    r
+}
+
+// The pieces after the last step: the network, then the mean.
+fn last_piece(w: &Script, c: Progress, buf: &mut [u8]) -> Piece
+    requires { ⌜ (c .over ≡ false) × ProgressOk (now w) c × (c .code ≡ 0) × (4 ≤ c .round) × (length (now buf) ≡ 65536) ⌝ }
+    ensures { λ r. ⌜ PieceIs (now (w .entry)) c (now (buf .entry)) (now (buf .exit)) r ⌝ }
+{
+    let st = c.state;
+    if 5 <= c.round {
+        let b = put_mean(&st.c, buf, 0);
+        let e = finished(c);
+        return Piece { len: b, next: e };
+    }
+    let r = put_ending(w, st, buf);
+    if r.code != 0 {
+        let e = finished(c);
+        return Piece {
+            len: r.len,
+            next: e,
+        };
+    }
+    let e = before_step(5, 0, st);
+    Piece {
+        len: r.len,
+        next: e,
+    }
 }
 
 // The start of a printout by pieces: reads the text under edition 1 and with all rights into the lent script, as `read_over` does. All its pieces are left.
@@ -88,7 +121,7 @@ pub fn begin(text: &[u8], w: &mut Script) -> Progress
     }
 }
 
-// The next piece, in a buffer of 65,536 bytes: the line of a step, the network, or a refusal.
+// The next piece, in a buffer of 65,536 bytes: the line of a step, the network, the mean, or a refusal.
 pub fn next_piece(w: &Script, c: Progress, buf: &mut [u8]) -> Piece
     requires { ⌜ (c .over ≡ false) × ProgressOk (now w) c × (length (now buf) ≡ 65536) ⌝ }
     ensures { λ r. ⌜ PieceIs (now (w .entry)) c (now (buf .entry)) (now (buf .exit)) r ⌝ }
@@ -100,9 +133,7 @@ pub fn next_piece(w: &Script, c: Progress, buf: &mut [u8]) -> Piece
     }
     let st = c.state;
     if 4 <= c.round {
-        let b = put_ending(w, st, buf);
-        let e = finished(c);
-        return Piece { len: b, next: e };
+        return last_piece(w, c, buf);
     }
     let t = turn(w, st, c.l as u32, buf, 0);
     if t.code != 0 {

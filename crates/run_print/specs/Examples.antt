@@ -1,22 +1,40 @@
--- Document 01's own text and printout, computed; and the empty text.
+-- Document 01's own text and printout, computed, with the line of the mean; a mean of one and a half; a text without messages; and the empty text.
 use mathlib.Core.List.{[]}
 use mathlib.Core.Path.{_≡_, refl}
 use Rattle.terms.specs.Names.{bytes}
 use Rattle.terms.specs.Runs.{rules}
+use Rattle.waits.specs.Waits.{waiting}
+use Rattle.waits.specs.Mean.{meanOf, rounded}
 use Rattle.text.specs.Tokens.{tokenwise}
 use Rattle.text.specs.Grammar.{grammar}
 use Rattle.text.specs.Questions.{questions}
 use Rattle.text.specs.Write.{writing}
 use Rattle.calls_tick.specs.Ticked.{room}
+use Rattle.calls_step.specs.Stepped.{stepCounted}
 use Rattle.run_line.specs.Line.{labelText, spaced, lineText}
 use Rattle.run_turn.specs.Turn.{refusedText, turnOf}
-use Rattle.run_print.specs.Print.{ending, playing, printout}
+use Rattle.run_print.specs.Print.{shown, meanText, ending, playing, printout}
+
+unfoldable printing : Unit {0}
+unfolding rules waiting meanOf rounded tokenwise grammar questions writing room stepCounted labelText spaced lineText refusedText turnOf shown meanText ending playing printout
+printing = tt
 
 own : printout (bytes "Page(x) = go(0,x,out(c,1,x,stop,stop)) .\nA[Page(B)] | B[in(c,2,y,go(0,y,stop),stop)] .\n")
-    ≡ bytes "A Page@A\nB\nA B@A\nB c<B>@B\nA\nB B@B\nA\nB\nPage(x) = go(0,x,out(c,1,x,stop,stop)) .\nB[stop] | B[stop] .\n"
-unfolding rules tokenwise grammar questions writing room labelText spaced lineText refusedText turnOf ending playing printout
+    ≡ bytes "A Page@A\nB\nA B@A\nB c<B>@B\nA\nB B@B\nA\nB\nPage(x) = go(0,x,out(c,1,x,stop,stop)) .\nB[stop] | B[stop] .\n0\n"
+unfolding printing
 own = refl
 
 empty : printout [] ≡ bytes "refused 2\n"
-unfolding rules tokenwise grammar questions writing room labelText spaced lineText refusedText turnOf ending playing printout
+unfolding printing
 empty = refl
+
+-- One sender waits for one tick, the other for two, until their readers have come: three over two messages is one and a half, which is printed as 2. The
+-- readers come from A, whose steps are first in every round.
+late : printout (bytes "A[go(1,B,in(c,9,x,stop,stop)) | go(2,B,in(d,9,x,stop,stop))] | B[out(c,9,A,stop,stop) | out(d,9,A,stop,stop)] .")
+    ≡ bytes "A\nB\nA B@A\nB c<A>@B\nA B@A\nB d<A>@B\nA\nB\nB[stop] | B[stop] | B[stop] | B[stop] .\n2\n"
+unfolding printing
+late = refl
+
+quiet : printout (bytes "A[go(inf,A,stop)] .") ≡ bytes "A\nA\nA\nA\nA[go(inf,A,stop)] .\n-\n"
+unfolding printing
+quiet = refl

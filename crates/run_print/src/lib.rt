@@ -4,25 +4,32 @@
 // specs/Rounds    the locations whose steps are left
 // specs/Examples  document 01's own printout, computed
 // proofs/Playing  the ways of the code to the printout
-// proofs/Fits     what its parts add to its length, which is at most 3,477,760
+// proofs/Means    how long the line of the mean is
+// proofs/Fits     what its parts add to its length, which is at most 3,477,768
 ghost use mathlib.Core.Bool.{true};
 ghost use mathlib.Core.Path.{_≡_};
-ghost use Prim.Native.Nat.{_≤_};
+ghost use Prim.Native.Nat.{_*_, _≤_};
 ghost use lib.ListN.{length, take};
+ghost use Rattle.waits.specs.Mean.{meanOf};
 ghost use Rattle.text_letters.specs.Put.{Wrote};
-ghost use Rattle.table.specs.Meaning.{contextOf, netOf};
+ghost use Rattle.table.specs.Meaning.{contextOf, totalIn, countIn, countedOf};
 ghost use Rattle.table.specs.Valid.{valid};
 ghost use Rattle.text_build.specs.Rows.{locsOf};
-ghost use Rattle.run_print.specs.Print.{ending, four, playing, printout};
+ghost use Rattle.run_print.specs.Print.{meanText, ending, four, playing, printout};
+use calls_mean::mean_of;
 use run_turn::put_refused;
 use run_turn::turn;
 use table::SCRIPT_WORDS;
 use table::Script;
 use table::State;
+use table::Words;
 use table::words::wide;
 use table::words::word;
 use text_answer::given::all_rights;
+use text_letters::put;
 use text_letters::put_all;
+use text_letters::put_number;
+use waits::rounded;
 
 // The first n bytes of s.
 fn put_first(s: &[u8], n: usize, buf: &mut [u8], at: usize) -> usize
@@ -32,23 +39,37 @@ fn put_first(s: &[u8], n: usize, buf: &mut [u8], at: usize) -> usize
     put_all(&s[..n], buf, at)
 }
 
-// The network, in 65,536 bytes, or the refusal to write it.
+// The line of the mean: rounded to a whole tick, or `-` where there were no messages.
+pub fn put_mean(c: &Words, buf: &mut [u8], at: usize) -> usize
+    requires { ⌜ (countIn (now c) ≤ 1000000) × (totalIn (now c) ≤ 1000000 * countIn (now c)) ⌝ }
+    ensures { λ r. ⌜ Wrote (now (buf .entry)) at (meanText (meanOf (totalIn (now (c .entry))) (countIn (now (c .entry))))) (now (buf .exit)) r ⌝ }
+{
+    let m = mean_of(c);
+    if m.count == 0 {
+        return put_all(b"-\n", buf, at);
+    }
+    let a = put_number(rounded(m.quotient, m.remainder, m.count), buf, at);
+    put(b'\n', buf, a)
+}
+
+// The network, in 65,536 bytes, and the mean, or the refusal to write the network.
 fn put_network(w: &Script, st: State, buf: &mut [u8], at: usize) -> usize
     requires { ⌜ valid (now w) st ≡ true ⌝ }
-    ensures { λ r. ⌜ Wrote (now (buf .entry)) at (ending (contextOf (now (w .entry))) (netOf (now (w .entry)) st)) (now (buf .exit)) r ⌝ }
+    ensures { λ r. ⌜ Wrote (now (buf .entry)) at (ending (contextOf (now (w .entry))) (countedOf (now (w .entry)) st)) (now (buf .exit)) r ⌝ }
 {
     let mut text = [0; 65536];
     let r = text_write::write(w, &st.c, st.n, &mut text);
     if r.code != 0 {
         return put_refused(r.code, buf, at);
     }
-    put_first(&text, r.len, buf, at)
+    let a = put_first(&text, r.len, buf, at);
+    put_mean(&st.c, buf, a)
 }
 
-// Four rounds of steps over all locations by number, then the network. That is at most 4 rounds of 64 lines of 13,329 bytes, and 65,536 bytes.
+// Four rounds of steps over all locations by number, then the network and the mean. That is at most 4 rounds of 64 lines of 13,329 bytes, 65,536 bytes and 8.
 fn play(w: &Script, st: State, buf: &mut [u8]) -> usize
     requires { ⌜ valid (now w) st ≡ true ⌝ }
-    ensures { λ r. ⌜ Wrote (now (buf .entry)) 0 (playing (contextOf (now (w .entry))) (four (locsOf (now (w .entry)))) (netOf (now (w .entry)) st)) (now (buf .exit)) r × (r ≤ 3477760) ⌝ }
+    ensures { λ r. ⌜ Wrote (now (buf .entry)) 0 (playing (contextOf (now (w .entry))) (four (locsOf (now (w .entry)))) (countedOf (now (w .entry)) st)) (now (buf .exit)) r × (r ≤ 3477768) ⌝ }
 {
     let n = wide(word(w, 1));
     let mut now = st;
@@ -72,10 +93,10 @@ fn play(w: &Script, st: State, buf: &mut [u8]) -> usize
     put_network(w, now, buf, at)
 }
 
-// The printout of a text, under edition 1 and with all rights, from the buffer's first byte on: its length, which is at most 3,477,760. Bytes behind the buffer's end are counted and
+// The printout of a text, under edition 1 and with all rights, from the buffer's first byte on: its length, which is at most 3,477,768. Bytes behind the buffer's end are counted and
 // dropped.
 pub fn printout(text: &[u8], buf: &mut [u8]) -> usize
-    ensures { λ r. ⌜ Wrote (now (buf .entry)) 0 (printout (now (text .entry))) (now (buf .exit)) r × (r ≤ 3477760) ⌝ }
+    ensures { λ r. ⌜ Wrote (now (buf .entry)) 0 (printout (now (text .entry))) (now (buf .exit)) r × (r ≤ 3477768) ⌝ }
 {
     let mut w = [0; SCRIPT_WORDS];
     let r = text_read::read(text, all_rights(1), &mut w);

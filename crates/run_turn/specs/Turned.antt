@@ -6,7 +6,7 @@ use mathlib.Core.Bool.{true}
 use mathlib.Core.Path.{_≡_}
 use Rattle.terms.specs.Rules.{Answer}
 use Rattle.terms.specs.Rules.Answer.{refused, accepted}
-use Rattle.table.specs.Meaning.{netOf}
+use Rattle.table.specs.Meaning.{countedOf}
 use Rattle.table.specs.Valid.{valid}
 use Rattle.text_letters.specs.Put.{Wrote}
 use Rattle.run_turn.specs.declared.Turned.{Turned}
@@ -17,10 +17,10 @@ pub record Stopped (n : ℕ) (d : List ℕ) (at : ℕ) (e : List ℕ) (r : Turne
   pub code : r .code ≡ 0 → ⊥
   pub wrote : Wrote d at (refusedText n) e (r .at)
 
--- the line was written, and the state stands for the components after the step
+-- the line was written, and the state stands for the components after the step, with what is kept beside them
 pub record Went (w : List ℕ) (t : Turn) (d : List ℕ) (at : ℕ) (e : List ℕ) (r : Turned) : Type 0 where
   pub code : r .code ≡ 0
-  pub comps : netOf w (r .state) ≡ t .comps
+  pub net : countedOf w (r .state) ≡ t .net
   pub good : valid w (r .state) ≡ true
   pub wrote : Wrote d at (t .line) e (r .at)
 

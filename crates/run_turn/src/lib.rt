@@ -9,7 +9,7 @@ ghost use mathlib.Core.Path.{_≡_};
 ghost use Prim.Native.Nat.{_<_};
 ghost use Rattle.text_letters.specs.Put.{Wrote};
 ghost use Rattle.table.specs.Words.{locsIn, locName};
-ghost use Rattle.table.specs.Meaning.{contextOf, netOf};
+ghost use Rattle.table.specs.Meaning.{contextOf, countedOf};
 ghost use Rattle.table.specs.Valid.{valid};
 ghost use Rattle.run_turn.specs.Turn.{refusedText, turnOf};
 ghost use Rattle.run_turn.specs.Turned.{TurnIs};
@@ -40,7 +40,7 @@ pub fn put_refused(n: u32, buf: &mut [u8], at: usize) -> usize
 // The step at the location l, and its line or its refusal.
 pub fn turn(w: &Script, st: State, l: u32, buf: &mut [u8], at: usize) -> Turned
     requires { ⌜ (valid (now w) st ≡ true) × (l < locsIn (now w)) ⌝ }
-    ensures { λ r. ⌜ TurnIs (now (w .entry)) (turnOf (contextOf (now (w .entry))) (locName (now (w .entry)) l) (netOf (now (w .entry)) st)) (now (buf .entry)) at (now (buf .exit)) r ⌝ }
+    ensures { λ r. ⌜ TurnIs (now (w .entry)) (turnOf (contextOf (now (w .entry))) (locName (now (w .entry)) l) (countedOf (now (w .entry)) st)) (now (buf .entry)) at (now (buf .exit)) r ⌝ }
 {
     let mut records = [[0; 3]; 256];
     let mut next = st;

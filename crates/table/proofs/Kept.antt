@@ -18,6 +18,7 @@ use Rattle.terms.specs.Rules.Kind.{calls, moves}
 use Rattle.terms.specs.Rules.Action.{single, pair}
 use Rattle.terms.proofs.Lists.{every-at}
 use Rattle.terms.proofs.Names.{and-inv, and-in}
+use Rattle.waits.proofs.Waits.{longer-halts}
 use Rattle.table.specs.declared.Head.{Head}
 use Rattle.table.specs.declared.Head.the-variants.{Stop, Go, Out, In, Call}
 use Rattle.table.specs.declared.Comp.{Comp}
@@ -99,7 +100,7 @@ rightly-kept w f (accepted y) e = go (grantedAt w (y .tag))
 
 left-ok : (w : List ℕ) (l k i : ℕ) (vs : List ℕ) → l < locsIn w → k < locsIn w → i < partsIn w → length vs ≡ 8 → every (inRange w) vs ≡ true → compOk w (leftAt l k i vs) ≡ true
 unfolding leftAt markOk timerOk
-left-ok w l k i vs a b c n e = comp-ok w (leftAt l k i vs) (record { loc = b; mark = or-right (eqb l 64) (ltb l (locsIn w)) (lt-ltb l (locsIn w) a); place = c; timer = refl; slots = n; vals = e })
+left-ok w l k i vs a b c n e = comp-ok w (leftAt l k i vs) (record { loc = b; mark = or-right (eqb l 64) (ltb l (locsIn w)) (lt-ltb l (locsIn w) a); place = c; timer = refl; slots = n; vals = e; wait = omega arith })
   where
     or-right : (x y : Bool) → y ≡ true → (x || y) ≡ true
     or-right true y q = refl
@@ -239,7 +240,7 @@ module _ (w : List ℕ) (good : scriptOk w ≡ true) where
     parts-kept (suc k) i h =
         let r = part-fine w good i h in
         rest-kept l i vs (partsFrom w l vs k) (nextAt w i)
-        (comp-ok w (fresh w l vs i) (record { loc = b; mark = refl; place = h; timer = fresh-timer w i (headAt w i) (r .head); slots = n; vals = e }))
+        (comp-ok w (fresh w l vs i) (record { loc = b; mark = refl; place = h; timer = fresh-timer w i (headAt w i) (r .head); slots = n; vals = e; wait = omega arith }))
         (r .next) (λ j q. parts-kept k j (omega arith))
 
     split-kept : (i : ℕ) → i < partsIn w → every (compOk w) (splitAt w l vs i) ≡ true
@@ -248,7 +249,7 @@ module _ (w : List ℕ) (good : scriptOk w ≡ true) where
 
   timed-kept : (c : Comp) (t : ℕ) → CompFine w c → timerOk t ≡ true → every (compOk w) (timed c t ∷ []) ≡ true
   unfolding every timed
-  timed-kept c t f e = and-in _ _ (comp-ok w (timed c t) (record { loc = f .loc; mark = f .mark; place = f .place; timer = e; slots = f .slots; vals = f .vals })) refl
+  timed-kept c t f e = and-in _ _ (comp-ok w (timed c t) (record { loc = f .loc; mark = f .mark; place = f .place; timer = e; slots = f .slots; vals = f .vals; wait = longer-halts (c .wait) (f .wait) })) refl
 
   one-kept : (c : Comp) → CompFine w c → every (compOk w) (c ∷ []) ≡ true
   unfolding every

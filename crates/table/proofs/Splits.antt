@@ -7,7 +7,7 @@ use mathlib.Core.Bool.{Bool, true, false, cond, _||_}
 use mathlib.Core.Path.{_≡_, refl, ap, _∙_}
 use lib.Dec.{eqb, ltb}
 use borrow.Author.Tests.{ltb-true, eqb-true}
-use Rattle.terms.specs.Names.{Name, sameName}
+use Rattle.terms.specs.Names.{sameName}
 use Rattle.terms.specs.Terms.{Timer, Part, Process, less, expired}
 use Rattle.terms.specs.Terms.Part.{go}
 use Rattle.terms.specs.Terms.Process.{one}
@@ -21,7 +21,7 @@ use Rattle.terms.specs.Letters.{isLocation}
 use Rattle.table.specs.declared.Head.{Head}
 use Rattle.table.specs.declared.Head.the-variants.{Stop, Go, Out, In, Call}
 use Rattle.table.specs.declared.Comp.{Comp}
-use Rattle.table.specs.Words.{partsIn, locsIn, editionIn, locName, headAt, nextAt, boundAt, scopeAt, namesAt}
+use Rattle.table.specs.Words.{partsIn, locsIn, editionIn, locName, headAt, nextAt, scopeAt, namesAt}
 use Rattle.table.specs.Meaning.{partOf, joined, processAt, partAt, contextOf, withTimer, envAt, markOf, processOf, means}
 use Rattle.table.specs.Valid.{headOk, nextOk, scriptOk, markOk}
 use Rattle.table.specs.Split.{timerIn, fresh, andThen, partsFrom, splitAt, timed, orElse, waited, passed, expiredAt}
@@ -97,7 +97,7 @@ module _ (w : List ℕ) (good : scriptOk w ≡ true) where
 
   -- ── waiting ──
   -- the Q at q of the part at i
-  q-means : (l i q : ℕ) (vs : List ℕ) → i < partsIn w → Inner w i q (scopeAt w i) → map (means w) (splitAt w l vs q) ≡ split (locName w l) (subP (processAt w q) (envAt w i vs))
+  pub q-means : (l i q : ℕ) (vs : List ℕ) → i < partsIn w → Inner w i q (scopeAt w i) → map (means w) (splitAt w l vs q) ≡ split (locName w l) (subP (processAt w q) (envAt w i vs))
   q-means l i q vs b r = split-means l vs q (omega (arith, r .lesser)) ∙ ap (λ e. split (locName w l) (subP (processAt w q) e)) (same-scope w i q vs (r .scope))
 
   -- what an unmarked component with another timer stands for

@@ -12,8 +12,8 @@ use lib.Seq.{sets, getD-set-same, getD-set-other}
 use Rattle.terms.specs.Rules as R
 use Rattle.table.specs.declared.Comp.{Comp}
 use Rattle.table.specs.declared.State.{State}
-use Rattle.table.specs.Words.{compSize, compUsed, stateWords, word}
-use Rattle.table.specs.Meaning.{listFrom, compIn, wordsIn, PastKept, compsOf}
+use Rattle.table.specs.Words.{compSize, compUsed, stateWords, totalAt, countAt, word}
+use Rattle.table.specs.Meaning.{listFrom, compIn, wordsIn, PastKept, compsOf, totalIn, countIn}
 
 pub set-out : (l : List ℕ) (i j a : ℕ) → (j ≡ i → ⊥) → word (set l i a) j ≡ word l j
 set-out l i j a h = getD-set-other l i j a 0 h
@@ -35,10 +35,10 @@ sets-in (a ∷ vs) l i (suc k) h b =
     let e : i + suc k ≡ suc i + k = omega arith in
     rw e (sets-in vs (set l i a) (suc i) k (omega arith) (rw (length-set l i a) (omega arith)))
 
--- twelve stores, one after the other
-pub twelve-stores : (l : List ℕ) (o a b c d e f g h i j k m : ℕ)
-    → set (set (set (set (set (set (set (set (set (set (set (set l o a) (o + 1) b) (o + 2) c) (o + 3) d) (o + 4) e) (o + 5) f) (o + 6) g) (o + 7) h) (o + 8) i) (o + 9) j) (o + 10) k) (o + 11) m ≡ sets l o (a ∷ b ∷ c ∷ d ∷ e ∷ f ∷ g ∷ h ∷ i ∷ j ∷ k ∷ m ∷ [])
-twelve-stores l o a b c d e f g h i j k m =
+-- thirteen stores, one after the other
+pub thirteen-stores : (l : List ℕ) (o a b c d e f g h i j k m n : ℕ)
+    → set (set (set (set (set (set (set (set (set (set (set (set (set l o a) (o + 1) b) (o + 2) c) (o + 3) d) (o + 4) e) (o + 5) f) (o + 6) g) (o + 7) h) (o + 8) i) (o + 9) j) (o + 10) k) (o + 11) m) (o + 12) n ≡ sets l o (a ∷ b ∷ c ∷ d ∷ e ∷ f ∷ g ∷ h ∷ i ∷ j ∷ k ∷ m ∷ n ∷ [])
+thirteen-stores l o a b c d e f g h i j k m n =
     let e₁ : o + 1 ≡ suc o = omega arith in
     let e₂ : o + 2 ≡ suc (suc o) = omega arith in
     let e₃ : o + 3 ≡ suc (suc (suc o)) = omega arith in
@@ -50,7 +50,8 @@ twelve-stores l o a b c d e f g h i j k m =
     let e₉ : o + 9 ≡ suc (suc (suc (suc (suc (suc (suc (suc (suc o)))))))) = omega arith in
     let e₁₀ : o + 10 ≡ suc (suc (suc (suc (suc (suc (suc (suc (suc (suc o))))))))) = omega arith in
     let e₁₁ : o + 11 ≡ suc (suc (suc (suc (suc (suc (suc (suc (suc (suc (suc o)))))))))) = omega arith in
-    rw (e₁, e₂, e₃, e₄, e₅, e₆, e₇, e₈, e₉, e₁₀, e₁₁)
+    let e₁₂ : o + 12 ≡ suc (suc (suc (suc (suc (suc (suc (suc (suc (suc (suc (suc o))))))))))) = omega arith in
+    rw (e₁, e₂, e₃, e₄, e₅, e₆, e₇, e₈, e₉, e₁₀, e₁₁, e₁₂)
 
 -- ── a component written ──
 module _ (c : List ℕ) (p : ℕ) (x : Comp) where
@@ -76,7 +77,7 @@ module _ (c : List ℕ) (p : ℕ) (x : Comp) where
     unfolding compIn
     put-other =
         rw
-        (first, same 1 (omega arith), same 2 (omega arith), same 3 (omega arith), same 4 (omega arith), same 5 (omega arith), same 6 (omega arith), same 7 (omega arith), same 8 (omega arith), same 9 (omega arith), same 10 (omega arith), same 11 (omega arith))
+        (first, same 1 (omega arith), same 2 (omega arith), same 3 (omega arith), same 4 (omega arith), same 5 (omega arith), same 6 (omega arith), same 7 (omega arith), same 8 (omega arith), same 9 (omega arith), same 10 (omega arith), same 11 (omega arith), same 12 (omega arith))
 
   module _ (room : p * compSize + compUsed ≤ length c) where
     stored : (j : ℕ) → j < compUsed → word after (p * compSize + j) ≡ getD (wordsIn x) j 0
@@ -101,8 +102,8 @@ module _ (c : List ℕ) (p : ℕ) (x : Comp) where
     unfolding compIn
     put-same e =
         rw
-        (head, stored 1 (omega arith), stored 2 (omega arith), stored 3 (omega arith), stored 4 (omega arith), stored 5 (omega arith), stored 6 (omega arith), stored 7 (omega arith), stored 8 (omega arith), stored 9 (omega arith), stored 10 (omega arith), stored 11 (omega arith))
-        (ap (λ v. record { loc = x .loc; mark = x .mark; place = x .place; timer = x .timer; vals = v }) (eight (x .vals) e))
+        (head, stored 1 (omega arith), stored 2 (omega arith), stored 3 (omega arith), stored 4 (omega arith), stored 5 (omega arith), stored 6 (omega arith), stored 7 (omega arith), stored 8 (omega arith), stored 9 (omega arith), stored 10 (omega arith), stored 11 (omega arith), stored 12 (omega arith))
+        (ap (λ v. record { loc = x .loc; mark = x .mark; place = x .place; timer = x .timer; vals = v; wait = x .wait }) (eight (x .vals) e))
 
 -- ── words of no component in use ──
 pub past-put : (c : List ℕ) (k p : ℕ) (x : Comp) → p < k → PastKept k c (sets c (p * compSize) (wordsIn x))
@@ -116,6 +117,15 @@ past-then h p q = record { words = λ o b. q .words o b ∙ p .words o (omega ar
 
 pub past-to : {j k : ℕ} {a b : List ℕ} → j ≤ k → PastKept j a b → PastKept k a b
 past-to h p = past-then h p (past-none _ _)
+
+-- so the total and the count are as they were
+module _ {k : ℕ} {a b : List ℕ} (few : k ≤ 256) (p : PastKept k a b) where
+  pub past-total : totalIn b ≡ totalIn a
+  unfolding totalIn
+  past-total = rw (p .words totalAt (omega arith), p .words (totalAt + 1) (omega arith))
+
+  pub past-count : countIn b ≡ countIn a
+  past-count = p .words countAt (omega arith)
 
 -- ── a list by numbers, of which one is another ──
 pub listFrom-same : {A : Type 0} (k n : ℕ) (f g : ℕ → A) → ((j : ℕ) → k ≤ j → g j ≡ f j) → listFrom k n g ≡ listFrom k n f
@@ -143,7 +153,7 @@ comps-put st p x b m l v =
     listFrom-set 0 (st .n) (compIn (st .c)) (compIn w) p x b (ap (compIn w) z ∙ put-same (st .c) p x (omega (arith, l)) v) (λ j d. put-other (st .c) p x j (λ e. d (e ∙ sym z)))
 
 -- components written one after the other
-listFrom-until : {A : Type 0} (i n : ℕ) (f g : ℕ → A) → ((j : ℕ) → j < i + n → g j ≡ f j) → listFrom i n g ≡ listFrom i n f
+pub listFrom-until : {A : Type 0} (i n : ℕ) (f g : ℕ → A) → ((j : ℕ) → j < i + n → g j ≡ f j) → listFrom i n g ≡ listFrom i n f
 unfolding listFrom
 listFrom-until i zero f g h = refl
 listFrom-until i (suc n) f g h = rw (h i (omega arith), listFrom-until (suc i) n f g (λ j b. h j (omega arith)))

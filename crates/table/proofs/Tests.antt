@@ -7,7 +7,7 @@ use mathlib.Core.Bool.{Bool, true, false, _&&_, _||_, not, false≢true}
 use mathlib.Core.Path.{_≡_, refl, ap, _∙_}
 use lib.Dec.{eqb, leb, ltb}
 use lib.ListN.{length, getD}
-use borrow.Author.Tests.{ltb-true, ltb-false, leb-true, lt-ltb, eqb-true, eqb-false}
+use borrow.Author.Tests.{ltb-true, ltb-false, leb-true, lt-ltb, le-leb, eqb-true, eqb-false}
 use Rattle.terms.specs.Names.{Name, sameName}
 use Rattle.terms.specs.Rules.{some}
 use Rattle.terms.specs.Same.{every}
@@ -18,7 +18,7 @@ use Rattle.table.specs.declared.Comp.{Comp}
 use Rattle.table.specs.declared.State.{State}
 use Rattle.table.specs.Words.{partsIn, locsIn, chansIn, defsIn, editionIn, locName, chanName, arityOf, bodyOf, defName, paramsAt, paramsOf, field, headAt, nextAt, scopeAt, kindField}
 use Rattle.table.specs.Meaning.{listFrom, compsOf}
-use Rattle.table.specs.Valid.{below, alike, timerOk, innerOk, headOk, nextOk, scopeOk, treeOk, partOk, defOk, sortOk, scriptOk, markOk, compOk, stateOk}
+use Rattle.table.specs.Valid.{below, alike, timerOk, innerOk, headOk, nextOk, scopeOk, treeOk, partOk, defOk, sortOk, scriptOk, markOk, waitOk, compOk, stateOk}
 
 -- ── lists and numbers ──
 pub below-at : (n : ℕ) (f : ℕ → Bool) → below n f ≡ true → (i : ℕ) → i < n → f i ≡ true
@@ -138,22 +138,24 @@ pub record CompFine (w : List ℕ) (c : Comp) : Type 0 where
   pub mark : markOk w (c .mark) ≡ true
   pub place : c .place < partsIn w
   pub timer : timerOk (c .timer) ≡ true
+  pub wait : c .wait ≤ 1_000_000
   pub slots : length (c .vals) ≡ 8
   pub vals : every (λ v. ltb v (locsIn w)) (c .vals) ≡ true
 
 pub comp-fine : (w : List ℕ) (c : Comp) → compOk w c ≡ true → CompFine w c
-unfolding compOk
+unfolding compOk waitOk
 comp-fine w c e =
     let a = and-inv (ltb (c .loc) (locsIn w)) _ e in
     let b = and-inv (markOk w (c .mark)) _ (a .1) in
     let d = and-inv (ltb (c .place) (partsIn w)) _ (b .1) in
     let f = and-inv (timerOk (c .timer)) _ (d .1) in
-    let g = and-inv (eqb (length (c .vals)) 8) _ (f .1) in
-    record { loc = ltb-true _ _ (a .0); mark = b .0; place = ltb-true _ _ (d .0); timer = f .0; slots = eqb-true _ 8 (g .0); vals = g .1 }
+    let h = and-inv (waitOk (c .wait)) _ (f .1) in
+    let g = and-inv (eqb (length (c .vals)) 8) _ (h .1) in
+    record { loc = ltb-true _ _ (a .0); mark = b .0; place = ltb-true _ _ (d .0); timer = f .0; wait = leb-true _ 1_000_000 (h .0); slots = eqb-true _ 8 (g .0); vals = g .1 }
 
 pub comp-ok : (w : List ℕ) (c : Comp) → CompFine w c → compOk w c ≡ true
-unfolding compOk
-comp-ok w c f = rw (lt-ltb _ _ (f .loc), f .mark, lt-ltb _ _ (f .place), f .timer, f .slots, f .vals)
+unfolding compOk waitOk
+comp-ok w c f = rw (lt-ltb _ _ (f .loc), f .mark, lt-ltb _ _ (f .place), f .timer, le-leb _ 1_000_000 (f .wait), f .slots, f .vals)
 
 -- ── names held once: two places of a list without repetition that hold the same name are one ──
 pub getD-listFrom : {A : Type 0} (f : ℕ → A) (d : A) (k n i : ℕ) → i < n → getD (listFrom k n f) i d ≡ f (k + i)

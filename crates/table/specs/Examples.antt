@@ -21,8 +21,8 @@ use Rattle.terms.specs.Rules.{some}
 use Rattle.table.specs.declared.Comp.{Comp}
 use Rattle.table.specs.declared.State.{State}
 use Rattle.table.specs.Words.{strip, letters, nameAt, locName, chanName, arityOf, bodyOf, defName, paramsAt, paramsOf, headAt, nextAt, lowAt, ownAt, boundAt, scopeAt, namesAt}
-use Rattle.table.specs.Meaning.{valueOf, valuesOf, partOf, joined, deep, processAt, partAt, listFrom, defOf, defsOf, contextOf, withTimer, envAt, markOf, processOf, means, compIn, wordsIn, compsOf, netOf, networkOf}
-use Rattle.table.specs.Valid.{below, alike, index, timerOk, slotOk, refOk, innerOk, entered, headOk, nextOk, scopeOk, stacked, floor, lowOk, treeOk, partOk, defOk, sortOk, scriptOk, markOk, compOk, stateOk, valid}
+use Rattle.table.specs.Meaning.{valueOf, valuesOf, partOf, joined, deep, processAt, partAt, listFrom, defOf, defsOf, contextOf, withTimer, envAt, markOf, processOf, means, compIn, wordsIn, compsOf, netOf, totalIn, tallyOf, networkOf}
+use Rattle.table.specs.Valid.{below, alike, index, timerOk, slotOk, refOk, innerOk, entered, headOk, nextOk, scopeOk, stacked, floor, lowOk, treeOk, partOk, defOk, sortOk, scriptOk, markOk, waitOk, compOk, stateOk, ledgerOk, valid}
 
 unfoldable pub words : Unit {0}
 unfolding strip letters nameAt locName chanName arityOf bodyOf defName paramsAt paramsOf headAt nextAt lowAt ownAt boundAt scopeAt namesAt
@@ -33,7 +33,7 @@ unfolding rules ticksOf valueOf valuesOf partOf joined deep processAt partAt lis
 meaning = tt
 
 unfoldable pub tables : Unit {0}
-unfolding words meaning classOf member some isName isLocation isSmall isIdentifier below alike distinct index timerOk slotOk refOk innerOk entered headOk nextOk scopeOk isEdition stacked floor lowOk treeOk partOk defOk sortOk scriptOk markOk compOk stateOk valid
+unfolding words meaning classOf member some isName isLocation isSmall isIdentifier below alike distinct index timerOk slotOk refOk innerOk entered headOk nextOk scopeOk isEdition stacked floor lowOk treeOk partOk defOk sortOk scriptOk markOk waitOk compOk stateOk totalIn ledgerOk tallyOf valid
 tables = tt
 
 abbrev zeros : ℕ → List ℕ
@@ -70,10 +70,10 @@ abbrev script : List ℕ
 script = scriptUnder 1
 
 abbrev at : ℕ → ℕ → ℕ → ℕ → Comp
-at l m i t = record { loc = l; mark = m; place = i; timer = t; vals = zeros 8 }
+at l m i t = record { loc = l; mark = m; place = i; timer = t; vals = zeros 8; wait = 0 }
 
 abbrev state : List Comp → State
-state cs = record { c = flatMap (λ x. wordsIn x ++ zeros 4) cs; n = length cs }
+state cs = record { c = flatMap (λ x. wordsIn x ++ zeros 3) cs; n = length cs }
 
 stands-for : networkOf script (state (at 0 64 1 0 ∷ at 1 0 1 0 ∷ at 0 64 3 7 ∷ []))
     ≡ record {
@@ -120,3 +120,38 @@ edition-second = (refl, refl)
 edition-out : (valid (scriptUnder 0) (state (at 0 64 1 0 ∷ [])) ≡ false) × (valid (scriptUnder 3) (state (at 0 64 1 0 ∷ [])) ≡ false)
 unfolding tables
 edition-out = (refl, refl)
+
+-- ── waits, total and count: document 02, R-1 ──
+-- two components that have waited m and n ticks, 254 positions that are not in use, and the words behind them
+abbrev waited : ℕ → ℕ → List ℕ → State
+waited m n ledger = record {
+  c =
+      (wordsIn (record { loc = 0; mark = 64; place = 3; timer = 7; vals = zeros 8; wait = m }) ++ zeros 3)
+      ++ ((wordsIn (record { loc = 1; mark = 64; place = 0; timer = 0; vals = zeros 8; wait = n }) ++ zeros 3) ++ (zeros 4_064 ++ ledger));
+  n = 2;
+}
+
+tally-read : tallyOf (waited 5 1_000_000 (7 ∷ 1 ∷ 9 ∷ [])) ≡ record { waits = 5 ∷ 1_000_000 ∷ []; total = 4_294_967_303; count = 9 }
+unfolding tables
+tally-read = refl
+
+-- the longest wait, the greatest count and the greatest total are in range, and nothing above them
+ledger-good : valid script (waited 0 1_000_000 (3_567_587_328 ∷ 232 ∷ 1_000_000 ∷ [])) ≡ true
+unfolding tables
+ledger-good = refl
+
+wait-bad : valid script (waited 0 1_000_001 []) ≡ false
+unfolding tables
+wait-bad = refl
+
+total-bad : valid script (waited 0 0 (1 ∷ [])) ≡ false
+unfolding tables
+total-bad = refl
+
+total-high-bad : valid script (waited 0 0 (3_567_587_329 ∷ 232 ∷ 1_000_000 ∷ [])) ≡ false
+unfolding tables
+total-high-bad = refl
+
+count-bad : valid script (waited 0 0 (0 ∷ 0 ∷ 1_000_001 ∷ [])) ≡ false
+unfolding tables
+count-bad = refl

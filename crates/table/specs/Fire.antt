@@ -76,7 +76,7 @@ valueIn vs v = cond (ltb v 64) v (getD vs (v - 64) 0)
 
 -- a component that an action at l leaves at k
 unfoldable pub leftAt : ℕ → ℕ → ℕ → List ℕ → Comp
-leftAt l k i vs = record { loc = k; mark = l; place = i; timer = 0; vals = vs }
+leftAt l k i vs = record { loc = k; mark = l; place = i; timer = 0; vals = vs; wait = 0 }
 
 -- the n arguments of the call at the place i in the first slots
 unfoldable pub argIn : List ℕ → ℕ → List ℕ → ℕ → ℕ → ℕ

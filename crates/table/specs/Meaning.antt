@@ -4,7 +4,7 @@ use mathlib.Core.List.{List, [], _∷_, map}
 use mathlib.Core.Bool.{cond}
 use mathlib.Core.Path.{_≡_}
 use lib.Dec.{ltb}
-use lib.ListN.{getD, take}
+use lib.ListN.{getD}
 use Rattle.terms.specs.Names.{Name}
 use Rattle.terms.specs.Terms.{Timer, Value, Part, Process, Mark, Component, Def, Network, Context, Rights}
 use Rattle.terms.specs.Terms.Value.{loc, var}
@@ -16,11 +16,13 @@ use Rattle.terms.specs.Terms.Def.{define}
 use Rattle.terms.specs.Rights.{byName}
 use Rattle.terms.specs.Substitution.{Env, env, sub, subP}
 use Rattle.terms.specs.Clock.{ticksOf, editionOf}
+use Rattle.waits.specs.Waits.{Tally}
+use Rattle.waits.specs.Counted.{Counted}
 use Rattle.table.specs.declared.Head.{Head}
 use Rattle.table.specs.declared.Head.the-variants.{Stop, Go, Out, In, Call}
 use Rattle.table.specs.declared.Comp.{Comp}
 use Rattle.table.specs.declared.State.{State}
-use Rattle.table.specs.Words.{compSize, compUsed, word, locsIn, chansIn, defsIn, editionIn, rightsIn, locName, chanName, defName, bodyOf, paramsOf, headAt, nextAt, boundAt, namesAt, argsAt}
+use Rattle.table.specs.Words.{compSize, compUsed, totalAt, countAt, ledgerEnd, word, locsIn, chansIn, defsIn, editionIn, rightsIn, locName, chanName, defName, bodyOf, paramsOf, headAt, nextAt, boundAt, namesAt, argsAt}
 
 -- ── terms ──
 -- what a value's word stands for where the names ys are in scope
@@ -75,7 +77,7 @@ unfoldable pub contextOf : List ℕ → Context
 contextOf w = record { defs = defsOf w; edition = editionOf (editionIn w); rights = rightsOf w }
 
 -- ── components ──
--- A component has a location, a mark (64 for none), a place, its own timer, and a location for each slot.
+-- A component has a location, a mark (64 for none), a place, its own timer, a location for each slot, and its wait, which the network does not show.
 -- Unmarked it is the one part at its place with its own timer, marked the process from its place on.
 unfoldable pub withTimer : Timer → Part → Part
 withTimer u stop = stop
@@ -102,7 +104,7 @@ means w c = comp (locName w (c .loc)) (markOf w (c .mark)) (processOf w c)
 
 -- what a list of components gives past its end: no call reads there
 abbrev pub noComp : Comp
-noComp = record { loc = 0; mark = 0; place = 0; timer = 0; vals = [] }
+noComp = record { loc = 0; mark = 0; place = 0; timer = 0; vals = []; wait = 0 }
 
 -- the component at position i of a state's words, and the words of a component
 unfoldable pub compIn : List ℕ → ℕ → Comp
@@ -114,17 +116,24 @@ compIn c i = record {
   vals =
       word c (i * compSize + 4) ∷ word c (i * compSize + 5) ∷ word c (i * compSize + 6) ∷ word c (i * compSize + 7) ∷ word c (i * compSize + 8) ∷ word c (i * compSize + 9)
       ∷ word c (i * compSize + 10) ∷ word c (i * compSize + 11) ∷ [];
+  wait = word c (i * compSize + 12);
 }
 
 abbrev pub wordsIn : Comp → List ℕ
 wordsIn x =
     x .loc ∷ x .mark ∷ x .place ∷ x .timer ∷ word (x .vals) 0 ∷ word (x .vals) 1 ∷ word (x .vals) 2 ∷ word (x .vals) 3 ∷ word (x .vals) 4 ∷ word (x .vals) 5
-    ∷ word (x .vals) 6 ∷ word (x .vals) 7 ∷ []
+    ∷ word (x .vals) 6 ∷ word (x .vals) 7 ∷ x .wait ∷ []
 
 -- every word of b that is none of the first k components' own is that of a: those past them, and the spare words of every position
 pub record PastKept (k : ℕ) (a b : List ℕ) : Type 0 where
   pub words : (o : ℕ) → k * compSize ≤ o → word b o ≡ word a o
   pub spare : (i j : ℕ) → compUsed ≤ j → j < compSize → word b (i * compSize + j) ≡ word a (i * compSize + j)
+
+-- the same but for the words of the total and of the count
+pub record OthersKept (k : ℕ) (a b : List ℕ) : Type 0 where
+  pub words : (o : ℕ) → k * compSize ≤ o → o < totalAt → word b o ≡ word a o
+  pub behind : (o : ℕ) → ledgerEnd ≤ o → word b o ≡ word a o
+  pub spare : (i j : ℕ) → i < 256 → compUsed ≤ j → j < compSize → word b (i * compSize + j) ≡ word a (i * compSize + j)
 
 -- the components in use
 unfoldable pub compsOf : State → List Comp
@@ -132,6 +141,23 @@ compsOf st = listFrom 0 (st .n) (compIn (st .c))
 
 unfoldable pub netOf : List ℕ → State → List Component
 netOf w st = map (means w) (compsOf st)
+
+-- ── waits, total and count: document 02, R-1 ──
+unfoldable pub totalIn : List ℕ → ℕ
+totalIn c = word c totalAt + word c (totalAt + 1) * 4_294_967_296
+
+abbrev pub countIn : List ℕ → ℕ
+countIn c = word c countAt
+
+abbrev pub waitsOf : List Comp → List ℕ
+waitsOf cs = map (λ x. x .wait) cs
+
+unfoldable pub tallyOf : State → Tally
+tallyOf st = record { waits = waitsOf (compsOf st); total = totalIn (st .c); count = countIn (st .c) }
+
+-- the components in use with what is kept beside them
+abbrev pub countedOf : List ℕ → State → Counted
+countedOf w st = record { comps = netOf w st; tally = tallyOf st }
 
 -- the network that a script and a state stand for
 unfoldable pub networkOf : List ℕ → State → Network

@@ -6,6 +6,7 @@ use mathlib.Core.Bool.{Bool, cond}
 use lib.Dec.{eqb, ltb}
 use Rattle.terms.specs.Terms.{expired, due}
 use Rattle.terms.specs.Clock.{ticksOf, lessRaw, editionOf}
+use Rattle.waits.specs.Waits.{longer}
 use Rattle.table.specs.declared.Head.{Head}
 use Rattle.table.specs.declared.Head.the-variants.{Stop, Go, Out, In, Call}
 use Rattle.table.specs.declared.Comp.{Comp}
@@ -19,9 +20,9 @@ timerIn (Out c t v p q) = t
 timerIn (In c t k p q) = t
 timerIn (Call d n) = 0
 
--- the part at a place as a component of its own, unmarked, with the timer that it is written with
+-- the part at a place as a component of its own, unmarked, with the timer that it is written with; it has not waited yet
 unfoldable pub fresh : List ℕ → ℕ → List ℕ → ℕ → Comp
-fresh w l vs i = record { loc = l; mark = 64; place = i; timer = timerIn (headAt w i); vals = vs }
+fresh w l vs i = record { loc = l; mark = 64; place = i; timer = timerIn (headAt w i); vals = vs; wait = 0 }
 
 unfoldable pub andThen : (ℕ → List Comp) → ℕ → List Comp
 andThen f zero = []
@@ -35,8 +36,9 @@ partsFrom w l vs (suc n) i = fresh w l vs i ∷ andThen (partsFrom w l vs n) (ne
 unfoldable pub splitAt : List ℕ → ℕ → List ℕ → ℕ → List Comp
 splitAt w l vs i = partsFrom w l vs (suc i) i
 
+-- the component after a tick that lowers or keeps its timer, which is t then: it has waited one tick more
 unfoldable pub timed : Comp → ℕ → Comp
-timed c t = record { loc = c .loc; mark = c .mark; place = c .place; timer = t; vals = c .vals }
+timed c t = record { loc = c .loc; mark = c .mark; place = c .place; timer = t; vals = c .vals; wait = longer (c .wait) }
 
 -- The tests of a component's timer are those of the timer that it stands for: a ready `in` or `out` that takes its Q under the script's edition, a ready `go` that must move.
 unfoldable pub expiredAt : List ℕ → Comp → Bool

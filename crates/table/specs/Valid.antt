@@ -1,10 +1,10 @@
 -- Question 17: document 01, *Questions, asked downward*. Every test is local to a part, a definition, a name or a component.
 -- That each process has a part, and each unmarked component one part, holds by what places mean (Meaning).
-use Prim.Native.Nat.{ℕ, zero, suc, _-_, _+_}
+use Prim.Native.Nat.{ℕ, zero, suc, _-_, _+_, _*_}
 use mathlib.Core.List.{List, [], _∷_, _++_}
 use mathlib.Core.Bool.{Bool, true, false, cond, _&&_, _||_}
 use lib.Dec.{eqb, leb, ltb}
-use lib.ListN.{length, getD, take}
+use lib.ListN.{length, getD}
 use Rattle.terms.specs.Names.{Name, sameName}
 use Rattle.terms.specs.Same.{every}
 use Rattle.terms.specs.Clock.{isEdition}
@@ -14,7 +14,7 @@ use Rattle.table.specs.declared.Head.the-variants.{Stop, Go, Out, In, Ca
 use Rattle.table.specs.declared.Comp.{Comp}
 use Rattle.table.specs.declared.State.{State}
 use Rattle.table.specs.Words.{lastName, partsIn, locsIn, chansIn, defsIn, editionIn, locName, chanName, arityOf, bodyOf, defName, paramsAt, paramsOf, field, headAt, argsAt, nextAt, lowAt, ownAt, boundAt, scopeAt, namesAt, countField, kindField}
-use Rattle.table.specs.Meaning.{listFrom, compsOf}
+use Rattle.table.specs.Meaning.{listFrom, compsOf, totalIn, countIn}
 
 -- of each number below n
 unfoldable pub below : ℕ → (ℕ → Bool) → Bool
@@ -122,15 +122,23 @@ scriptOk w =
 unfoldable pub markOk : List ℕ → ℕ → Bool
 markOk w m = eqb m 64 || ltb m (locsIn w)
 
+-- document 02, R-1: a wait halts at 1,000,000
+unfoldable pub waitOk : ℕ → Bool
+waitOk n = leb n 1_000_000
+
 unfoldable pub compOk : List ℕ → Comp → Bool
 compOk w c =
-    ltb (c .loc) (locsIn w) && (markOk w (c .mark) && (ltb (c .place) (partsIn w) && (timerOk (c .timer)
-    && (eqb (length (c .vals)) 8 && every (λ v. ltb v (locsIn w)) (c .vals)))))
+    ltb (c .loc) (locsIn w) && (markOk w (c .mark) && (ltb (c .place) (partsIn w) && (timerOk (c .timer) && (waitOk (c .wait)
+    && (eqb (length (c .vals)) 8 && every (λ v. ltb v (locsIn w)) (c .vals))))))
 
 -- at least one component, and at most 256
 unfoldable pub stateOk : List ℕ → State → Bool
 stateOk w st = ltb 0 (st .n) && (leb (st .n) 256 && every (compOk w) (compsOf st))
 
+-- document 02, R-1: at most 1,000,000 messages, and the total within 1,000,000 times their count
+unfoldable pub ledgerOk : List ℕ → Bool
+ledgerOk c = leb (countIn c) 1_000_000 && leb (totalIn c) (1_000_000 * countIn c)
+
 -- question 17
 unfoldable pub valid : List ℕ → State → Bool
-valid w st = scriptOk w && stateOk w st
+valid w st = scriptOk w && (stateOk w st && ledgerOk (st .c))

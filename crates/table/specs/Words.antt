@@ -26,7 +26,7 @@ use Rattle.table.specs.declared.Head.{Head}
 use Rattle.table.specs.declared.Head.the-variants.{Stop, Go, Out, In, Call}
 
 -- ── the layout's numbers ──
--- how many words a script has, and a state: 256 components and 16 spare words
+-- how many words a script has, and a state: 256 components, and behind them 16 words for the total, the count of messages and what is spare
 abbrev pub scriptWords : ℕ
 scriptWords = 111_888
 
@@ -79,7 +79,17 @@ abbrev pub compSize : ℕ
 compSize = 16
 
 abbrev pub compUsed : ℕ
-compUsed = 12
+compUsed = 13
+
+-- where in a state the two words of the total stand, the low one first, where the count of messages stands, and where what is spare begins
+abbrev pub totalAt : ℕ
+totalAt = 4_096
+
+abbrev pub countAt : ℕ
+countAt = 4_098
+
+abbrev pub ledgerEnd : ℕ
+ledgerEnd = 4_099
 
 -- where in the row of definition 0 its number of parameters, the place of its body, its identifier and its four parameters stand
 abbrev pub defsAt : ℕ

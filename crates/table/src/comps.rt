@@ -35,6 +35,7 @@ pub fn comp_at(c: &Words, i: usize) -> Comp
             c[o + 10],
             c[o + 11],
         ],
+        wait: c[o + 12],
     }
 }
 
@@ -57,4 +58,5 @@ pub fn put_comp(c: &mut Words, i: usize, x: Comp)
     c[o + 9] = v[5];
     c[o + 10] = v[6];
     c[o + 11] = v[7];
+    c[o + 12] = x.wait;
 }

@@ -112,10 +112,17 @@ pub const ROW_SIZE: usize = 24;
 
 pub const COMP_SIZE: usize = 16;
 
+// Where in a state the low word of the total, its high word and the count of messages stand.
+pub const TOTAL_LOW: usize = 4096;
+
+pub const TOTAL_HIGH: usize = 4097;
+
+pub const COUNT: usize = 4098;
+
 // The words of a script, written by reading and then only lent.
 pub type Script = [u32; SCRIPT_WORDS];
 
-// The words of a state: its components, then 16 spare words.
+// The words of a state: its components, then the total, the count and what is spare.
 pub type Words = [u32; STATE_WORDS];
 
 // A part without its inner processes, which are places, and without a call's arguments, which are read from its row.
@@ -131,16 +138,18 @@ pub enum Head {
     Call(u32, u32),
 }
 
-// A component: location, mark (64 for none), place, timer, and a location for each slot.
+// A component: location, mark (64 for none), place, timer, a location for each slot, and how many ticks it has waited.
 pub struct Comp {
     pub loc: u32,
     pub mark: u32,
     pub place: u32,
     pub timer: u32,
     pub vals: [u32; 8],
+    pub wait: u32,
 }
 
-// The components, sixteen words for each: twelve in the order of its fields, then four spare ones; the first n of 256 are in use.
+// The components, sixteen words for each: thirteen in the order of its fields, then three spare ones; the first n of 256 are in use. Behind them the total of
+// all senders' waits in two words, the low one first, the count of messages, and thirteen spare words.
 #[repr(C)]
 pub struct State {
     pub c: Words,

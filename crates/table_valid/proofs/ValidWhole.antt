@@ -17,7 +17,7 @@ use Rattle.table_names.specs.declared.Sort.{Sort}
 use Rattle.table_names.specs.declared.Sort.the-variants.{Location, Small, Identifier}
 use Rattle.table.specs.Words.{chansAt, locsAt, partsIn, locsIn, chansIn, defsIn, locName, chanName, defName, idsAt, nameSize, rowSize}
 use Rattle.table.specs.Meaning.{listFrom, compIn, compsOf, noComp}
-use Rattle.table.specs.Valid.{below, timerOk, sortOk, markOk, compOk}
+use Rattle.table.specs.Valid.{below, timerOk, sortOk, markOk, waitOk, compOk}
 use Rattle.table.specs.Tests.{rowName}
 use Rattle.table_names.specs.Tests.{firstOf}
 use Rattle.table_valid.specs.declared.Sums.{Sums}
@@ -80,13 +80,14 @@ same-truth false false f g = refl
 -- a component's test is that of its head and that of its values
 comp-is : (w : List ℕ) (x : Comp) → compOk w x ≡ (headFine w x && (eqb (length (x .vals)) 8 && every (λ v. ltb v (locsIn w)) (x .vals)))
 unfolding compOk headFine
-comp-is w x = go (ltb (x .loc) (locsIn w)) (markOk w (x .mark)) (ltb (x .place) (partsIn w)) (timerOk (x .timer)) _
+comp-is w x = go (ltb (x .loc) (locsIn w)) (markOk w (x .mark)) (ltb (x .place) (partsIn w)) (timerOk (x .timer)) (waitOk (x .wait)) _
   where
-    go : (a b c d e : Bool) → (a && (b && (c && (d && e)))) ≡ ((a && (b && (c && d))) && e)
-    go false b c d e = refl
-    go true false c d e = refl
-    go true true false d e = refl
-    go true true true d e = refl
+    go : (a b c d e f : Bool) → (a && (b && (c && (d && (e && f))))) ≡ ((a && (b && (c && (d && e)))) && f)
+    go false b c d e f = refl
+    go true false c d e f = refl
+    go true true false d e f = refl
+    go true true true false e f = refl
+    go true true true true e f = refl
 
 pub comp-no-head : (w : List ℕ) (x : Comp) → headFine w x ≡ false → compOk w x ≡ false
 comp-no-head w x h = comp-is w x ∙ rw h

@@ -9,7 +9,7 @@ use Rattle.terms.specs.Same.{every}
 use Rattle.terms.specs.Clock.{isEdition}
 use Rattle.table.specs.declared.Comp.{Comp}
 use Rattle.table.specs.Words.{partsIn, locsIn, chansIn, defsIn, editionIn}
-use Rattle.table.specs.Valid.{timerOk, markOk}
+use Rattle.table.specs.Valid.{timerOk, markOk, waitOk}
 use Rattle.table_valid.specs.declared.Sums.{Sums}
 
 -- as many parts, locations, channels and definitions as there is room for, and a known edition
@@ -18,7 +18,7 @@ countsOk w = leb (partsIn w) 4_096 && (leb (locsIn w) 64 && (leb (chansIn w) 64 
 
 -- the words of a component but for its values
 unfoldable pub headFine : List ℕ → Comp → Bool
-headFine w x = ltb (x .loc) (locsIn w) && (markOk w (x .mark) && (ltb (x .place) (partsIn w) && timerOk (x .timer)))
+headFine w x = ltb (x .loc) (locsIn w) && (markOk w (x .mark) && (ltb (x .place) (partsIn w) && (timerOk (x .timer) && waitOk (x .wait))))
 
 -- no sum is above k
 pub record Few (k : ℕ) (s : Sums) : Type 0 where

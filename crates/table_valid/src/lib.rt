@@ -35,7 +35,9 @@ use table_names::sort_ok;
 use table_parts::parts_ok;
 use table_parts::timer_ok;
 use table_scopes::at_most_8;
+use table_waits::ledger_ok;
 use terms::is_edition;
+use waits::LONGEST;
 
 // ── definitions ──
 
@@ -163,7 +165,10 @@ fn head_ok(w: &Script, c: &Words, i: usize) -> bool
     if p <= c[o + 2] {
         return false;
     }
-    timer_ok(c[o + 3])
+    if !timer_ok(c[o + 3]) {
+        return false;
+    }
+    c[o + 12] <= LONGEST
 }
 
 // 1 for a value above m.
@@ -228,7 +233,7 @@ fn comps_ok(w: &Script, c: &Words, n: usize, m: u32) -> bool
     s.a + s.b + s.c + s.d == 0
 }
 
-// A state by itself.
+// The components of a state.
 pub fn state_ok(w: &Script, c: &Words, n: usize) -> bool
     ensures { λ r. ⌜ r ≡ stateOk (now (w .entry)) (record { c = now (c .entry); n = n }) ⌝ }
 {
@@ -245,12 +250,15 @@ pub fn state_ok(w: &Script, c: &Words, n: usize) -> bool
     comps_ok(w, c, n, l - 1)
 }
 
-// Question 17, of a state's words and the number of its components.
+// Question 17, of a state's words and the number of its components: the script, the components, and the total and the count.
 pub fn is_valid(w: &Script, c: &Words, n: usize) -> bool
     ensures { λ r. ⌜ r ≡ valid (now (w .entry)) (record { c = now (c .entry); n = n }) ⌝ }
 {
     if !script_ok(w) {
         return false;
     }
-    state_ok(w, c, n)
+    if !state_ok(w, c, n) {
+        return false;
+    }
+    ledger_ok(c)
 }

@@ -333,6 +333,10 @@ swept d l net =
     let s = sweep-ok d l (length net) 0 net (omega arith) (λ i c k e. absurd (omega arith)) in
     record { acts = s .acts; size = s .size; quiet = λ i c k e. s .quiet i c (omega arith) e }
 
+-- the step's actions, each firing at l
+pub fires-acts : (d : Context) (l : Name) (net : List Component) → actAll d l (fires d l net .actions) net ≡ accepted (record { labels = fires d l net .labels; comps = fires d l net .comps })
+fires-acts d l net = swept d l net .acts
+
 at-length : {A : Type 0} (xs : List A) (p : ℕ) (x : A) → at xs p ≡ accepted x → p < length xs
 unfolding at
 at-length [] p x e = clash e
@@ -365,7 +369,7 @@ step-accepted d l net = rw (step-free d l net)
 fires-whole : (d : Context) (l : Name) (net : List Component)
     → wholeStep d l (fires d l net .actions) net ≡ accepted (record { labels = fires d l net .labels; comps = flatMap (pass d (λ m. sameName m l) l) (fires d l net .comps) })
 unfolding wholeStep tick tickWith
-fires-whole d l net = rw (swept d l net .acts, step-free d l net)
+fires-whole d l net = rw (fires-acts d l net, step-free d l net)
 
 pub step-whole : (d : Context) (l : Name) (net : List Component) (s : Swept) → step d l net ≡ accepted s
     → wholeStep d l (s .actions) net ≡ accepted (record { labels = s .labels; comps = s .comps })

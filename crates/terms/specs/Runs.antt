@@ -91,22 +91,23 @@ answer d (acting a) s = act d a s >>= λ r. accepted (r .comps)
 answer d (ticking l) s = tick d l s
 
 -- A list of calls one after another, each on the components that the call before it returned or, if refused, left. A call is accepted if the
--- rules accept it and it is not turned down for want of space: `full` says of which calls that is so.
-unfoldable pub judged : Context → (Call → List Component → Bool) → List Call → List Component → List Fed
-judged d full [] s = []
-judged d full (c ∷ cs) s =
+-- rules accept it and it is not turned down for want of space. What there is space for may depend on more than the components: t is what is kept beside
+-- them, `next` what an accepted call makes of it, and `full` says of which calls there is no space.
+unfoldable pub judged : {S : Type 0} → Context → (Call → List Component → S → S) → (Call → List Component → S → Bool) → List Call → List Component → S → List Fed
+judged d next full [] s t = []
+judged d next full (c ∷ cs) s t =
     elim (answer d c s) [
-      | refused n ↦ fed c false ∷ judged d full cs s
-      | accepted s′ ↦ cond (full c s) (fed c false ∷ judged d full cs s) (fed c true ∷ judged d full cs s′)
+      | refused n ↦ fed c false ∷ judged d next full cs s t
+      | accepted s′ ↦ cond (full c s t) (fed c false ∷ judged d next full cs s t) (fed c true ∷ judged d next full cs s′ (next c s t))
     ]
 
 -- the components at its end
-unfoldable pub lastOf : Context → (Call → List Component → Bool) → List Call → List Component → List Component
-lastOf d full [] s = s
-lastOf d full (c ∷ cs) s =
+unfoldable pub lastOf : {S : Type 0} → Context → (Call → List Component → S → S) → (Call → List Component → S → Bool) → List Call → List Component → S → List Component
+lastOf d next full [] s t = s
+lastOf d next full (c ∷ cs) s t =
     elim (answer d c s) [
-      | refused n ↦ lastOf d full cs s
-      | accepted s′ ↦ cond (full c s) (lastOf d full cs s) (lastOf d full cs s′)
+      | refused n ↦ lastOf d next full cs s t
+      | accepted s′ ↦ cond (full c s t) (lastOf d next full cs s t) (lastOf d next full cs s′ (next c s t))
     ]
 
 -- all definitions of the rules, for `unfolding rules`

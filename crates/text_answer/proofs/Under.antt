@@ -13,12 +13,12 @@ use Rattle.terms.specs.Names.{Name}
 use Rattle.terms.specs.Terms.{Network, contextIn}
 use Rattle.terms.specs.Clock.{editionOf}
 use Rattle.terms.specs.Rights.{byName}
-use Rattle.terms.proofs.Names.{and-inv}
 use Rattle.table.specs.declared.State.{State}
 use Rattle.table.specs.Words.{editionAt, rightsAt, rightsSize, sendField, receiveField, leaveField, scriptWords, word, locsIn, chansIn, editionIn, rightAt, rightsIn, locName, chanName}
 use Rattle.text.specs.Questions.{form}
 use Rattle.table.specs.Meaning.{listFrom, rightsOf, contextOf, networkOf}
-use Rattle.table.specs.Valid.{scriptOk, valid}
+use Rattle.table.specs.Valid.{valid}
+use Rattle.table.proofs.InUse.{valid-script}
 use Rattle.table.proofs.Tests.{script-fine}
 use Rattle.table.proofs.Stores.{set-out, sets-under, sets-in, listFrom-end}
 use Rattle.table.proofs.ValidLists.{listFrom-length, listFrom-at}
@@ -187,9 +187,9 @@ module _ (g : Settings) (w : List ℕ) where
 
       -- and so by name, in a valid table
       pub names-given : (st : State) → valid v st ≡ true → {ls cs : List Name} → locsOf v ≡ ls → chansOf v ≡ cs → rightsOf v ≡ byName ls cs (given g)
-      unfolding valid rightsOf locsOf chansOf
+      unfolding rightsOf locsOf chansOf
       names-given st good e f =
-          let fine = script-fine v (and-inv (scriptOk v) _ good .0) in
+          let fine = script-fine v (valid-script v st good) in
           let a = fine .locs in
           let b = fine .chans in
           let m = listFrom-length 0 (locsIn v) (locName v) in

@@ -14,9 +14,10 @@ use Rattle.terms.specs.Rules.Answer.{refused, accepted}
 use Rattle.text.specs.Syntax.{Text}
 use Rattle.text.specs.Tree.{settled}
 use Rattle.text.specs.Questions.{form, channels, locations, readUnder, partCount}
+use Rattle.waits.specs.Waits.{begun}
 use Rattle.table.specs.declared.State.{State}
 use Rattle.table.specs.Words.{rowSize, partsAt, editionAt, rightsAt, scriptWords, stateWords, word, partsIn, editionIn}
-use Rattle.table.specs.Meaning.{PastKept, listFrom, rightsOf, compsOf, networkOf}
+use Rattle.table.specs.Meaning.{PastKept, listFrom, rightsOf, compsOf, tallyOf, networkOf}
 use Rattle.table.specs.Valid.{valid}
 use Rattle.text_build.specs.Rows.{locsOf, chansOf}
 use Rattle.text_tree.specs.Asked.{compOf}
@@ -89,7 +90,7 @@ under g w = sets (set w editionAt (g .edition)) rightsAt (rightsWords (g .rights
 
 -- an accepted text s: the script v and the components stand for the network m, pass question 17, have the edition and the rights that were given, the text's
 -- numbers, and as many rows as it has parts. The words of the script behind the row of the last part are those of the script w before the call but for what
--- was given, and the words of the state that are no component's are zero: only the places in use are free.
+-- was given, no component has waited, no message is counted, and the words of the state that are no component's are zero: only the places in use are free.
 pub record Took (s : List ℕ) (g : Settings) (w v : List ℕ) (m : Network) (r : Reading) : Type 0 where
   pub code : r .code ≡ 0
   pub network : networkOf v (r .state) ≡ m
@@ -101,6 +102,7 @@ pub record Took (s : List ℕ) (g : Settings) (w v : List ℕ) (m : Network) (r 
   pub parts : partsIn v ≡ partsOf (form s)
   pub size : length v ≡ scriptWords
   pub behind : (o : ℕ) → partsAt + partsIn v * rowSize ≤ o → word v o ≡ word (under g w) o
+  pub tally : tallyOf (r .state) ≡ begun (m .comps)
   pub past : PastKept (r .state .n) (replicate stateWords 0) (r .state .c)
 
 -- the code's answer r for the text s with what was given, g, and the lent script before and after, w and v, stand for the answer of the definition; a refusal

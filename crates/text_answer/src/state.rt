@@ -16,7 +16,7 @@ use table::State;
 use table::TIMER_FIELD;
 use table::comps::put_comp;
 
-// The component at the place i and the location l: unmarked, with the timer of its part.
+// The component at the place i and the location l: unmarked, with the timer of its part; it has not waited.
 fn comp_of(w: &Script, l: u32, i: u32) -> Comp
     ensures { λ r. ⌜ r ≡ compOf (now (w .entry)) (l ∷ i ∷ []) ⌝ }
 {
@@ -27,6 +27,7 @@ fn comp_of(w: &Script, l: u32, i: u32) -> Comp
         place: i,
         timer: t,
         vals: [0; 8],
+        wait: 0,
     }
 }
 

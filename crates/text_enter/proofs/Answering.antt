@@ -30,6 +30,8 @@ use Rattle.text_scan.proofs.Scanning.{capped-within}
 use Rattle.table.specs.declared.State.{State}
 use Rattle.table.specs.Words.{rowSize, partsAt, editionAt, scriptWords, stateWords, word, editionIn}
 use Rattle.table.specs.Meaning.{PastKept, compsOf}
+use Rattle.waits.specs.Waits.{begun}
+use Rattle.table.proofs.InUse.{valid-state}
 use Rattle.text_build.specs.Rows.{placeKnown}
 use Rattle.text_build.proofs.Places.{sizeP-some}
 use Rattle.text_tree.specs.Pass.{Within, Blank, heads, afterBodies, brackets, spots, started, top, defined, behind, scriptOf, spotsOf}
@@ -57,6 +59,7 @@ use Rattle.text_fill.proofs.Quiet.{Quiet, quiet-then, bodies-quiet, brackets-qu
 use Rattle.text_answer.specs.Front.{Front}
 use Rattle.text_fill.proofs.Beyond.{Beyond, filled-beyond}
 use Rattle.text_answer.proofs.Kept.{front-blank}
+use Rattle.text_answer.proofs.States.{tally-new}
 use Rattle.text_answer.proofs.Under.{under-length, under-edition, names-given}
 
 -- ── 1 to 4 by the scan ──
@@ -253,12 +256,13 @@ module _ {s : List ℕ} (x : Passing s) (base : List ℕ) (blank : Blank base (p
 
           took : (q : Reading) → q .code ≡ 0 → q .state .n ≡ length (spotsOf base T) → compsOf (q .state) ≡ map (compOf S) (spotsOf base T) → (g : Settings) (w : List ℕ) → Around g w (q .state) → Took s g w S (networkOf T) q
           took q z n c g w a =
-              let good-now = valid-is base T blank (x .ready .within) (x .ready .well) flag distinct-yes known-yes (ap isEdition (a .edition) ∙ a .known-one) (q .state) n c in
+              let good-now = valid-is base T blank (x .ready .within) (x .ready .well) flag distinct-yes known-yes (ap isEdition (a .edition) ∙ a .known-one) (q .state) n c (a .past) in
+              let net-now = network-is base T blank (x .ready .within) (x .ready .well) flag distinct-yes known-yes (ap isEdition (a .edition) ∙ a .known-one) (q .state) n c in
               let locs-now = W .locs ∙ sym (ap locationsIn (x .form-is)) in
               let chans-now = W .chans ∙ sym (ap channelsIn (x .form-is)) in
               record {
                 code = z;
-                network = network-is base T blank (x .ready .within) (x .ready .well) flag distinct-yes known-yes (ap isEdition (a .edition) ∙ a .known-one) (q .state) n c;
+                network = net-now;
                 edition = a .edition;
                 rights = names-given g w (a .before) S (λ o h. a .behind o (omega (arith, x .ready .within .parts))) (q .state) good-now locs-now chans-now;
                 good = good-now;
@@ -267,6 +271,7 @@ module _ {s : List ℕ} (x : Passing s) (base : List ℕ) (blank : Blank base (p
                 parts = parts-kept base T blank ∙ sym (ap partsOf (x .form-is));
                 size = a .size;
                 behind = λ o h. a .behind o (omega (arith, parts-kept base T blank));
+                tally = tally-new S S (spotsOf base T) (q .state) c (valid-state S (q .state) good-now .few) (a .past) ∙ ap (λ n. begun (n .comps)) net-now;
                 past = a .past;
               }
 

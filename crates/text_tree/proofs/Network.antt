@@ -7,7 +7,7 @@ use mathlib.Core.Bool.{Bool, true, false, cond}
 use mathlib.Core.Path.{_≡_, refl, ap, sym, _∙_}
 use borrow.Author.Tests.{ltb-true, lt-ltb, le-leb}
 use lib.Dec.{eqb}
-use lib.ListN.{length, length-append}
+use lib.ListN.{length, replicate, length-append}
 use Rattle.terms.specs.Names.{Name}
 use Rattle.terms.specs.Terms.{Part, Process}
 use Rattle.terms.specs.Terms.Part.{stop, go, out, inp, call}
@@ -29,10 +29,11 @@ use Rattle.text.proofs.Gives.{some-comps, filled}
 use Rattle.table.specs.declared.Head.{Head}
 use Rattle.table.specs.declared.Head.the-variants.{Stop, Go, Out, In, Call}
 use Rattle.table.specs.declared.State.{State}
-use Rattle.table.specs.Words.{word, partsIn, locsIn, editionIn, locName, field, headAt, nextAt, namesAt, firstField, kindField, nameField, secondField, timerField, valueField}
-use Rattle.table.specs.Meaning.{joined, processAt, partAt, withTimer, envAt, markOf, processOf, means, compsOf, netOf, networkOf}
-use Rattle.table.specs.Valid.{index, timerOk, markOk, compOk, stateOk, valid, scriptOk}
+use Rattle.table.specs.Words.{stateWords, word, partsIn, locsIn, editionIn, locName, field, headAt, nextAt, namesAt, firstField, kindField, nameField, secondField, timerField, valueField}
+use Rattle.table.specs.Meaning.{joined, processAt, partAt, withTimer, envAt, markOf, processOf, means, PastKept, compsOf, netOf, networkOf}
+use Rattle.table.specs.Valid.{index, timerOk, markOk, compOk, waitOk, valid, scriptOk}
 use Rattle.table.specs.Size.{size, sizeP}
+use Rattle.table.proofs.InUse.{blank-ledger, is-valid}
 use Rattle.table.proofs.Tests.{every-append}
 use Rattle.table.proofs.Places.{process-is}
 use Rattle.table.proofs.Fires.{map-append}
@@ -116,7 +117,7 @@ module _ (w : List ℕ) (few : locsIn w ≤ 64) (good : scriptOk w ≡ true) (ti
 
   module _ (some : 0 < locsIn w) where
     comp-ok : (i j : ℕ) → j < locsIn w → i < partsIn w → compOk w (compOf w (j ∷ i ∷ [])) ≡ true
-    unfolding compOk compOf markOk timerOk every
+    unfolding compOk compOf markOk timerOk waitOk every
     comp-ok i j a b =
         let z = lt-ltb 0 (locsIn w) some in
         rw (lt-ltb j (locsIn w) a, lt-ltb i (partsIn w) b, le-leb (field w i timerField) 1_000_001 (timely i b), z)
@@ -199,15 +200,14 @@ module _ (base : List ℕ) (t : Tree) (blank : Blank base (partCount t)) (l : Wi
       rw (defs-are t (scriptOf base t) h f l e k, m)
 
   -- and it passes question 17
-  pub valid-is : valid (scriptOf base t) st ≡ true
-  unfolding valid stateOk
-  valid-is =
+  pub valid-is : PastKept (st .n) (replicate stateWords 0) (st .c) → valid (scriptOf base t) st ≡ true
+  valid-is zeros =
       let h = whole base t blank l f z in
       let s = parts-are t in
       let p = h .parts in
       let r = count-is base t in
       let few = l .components in
       let some : 0 < componentCount t = unfold componentCount T.networkOf in filled (flatMap components (t .located)) (some-comps (t .located) (f .some-located)) in
-      and-in _ _ good
-      (and-in _ _ (lt-ltb 0 (st .n) (omega arith)) (and-in _ _ (le-leb (st .n) 256 (omega arith))
-      (rw comps-are (all-ok (scriptOf base t) (h .making .locs) good (λ j b. timers-small base t blank l f z j (omega (arith, h .parts, b))) (t .located) (behind t) (partCount t - sizeDefs (t .defs)) (behind-is (t .defs) (top t) (partCount t) refl) (omega arith) (omega arith) (h .located)))))
+      is-valid (scriptOf base t) st good
+      (record { some = omega arith; few = omega arith; each = rw comps-are (all-ok (scriptOf base t) (h .making .locs) good (λ j b. timers-small base t blank l f z j (omega (arith, h .parts, b))) (t .located) (behind t) (partCount t - sizeDefs (t .defs)) (behind-is (t .defs) (top t) (partCount t) refl) (omega arith) (omega arith) (h .located)) })
+      (blank-ledger (omega arith) zeros)

@@ -4,7 +4,7 @@ use Prim.Native.Nat.{ℕ, _+_}
 use mathlib.Core.List.{List, [], _∷_}
 use mathlib.Core.Bool.{Bool, true, _&&_}
 use lib.Dec.{eqb, ltb}
-use lib.ListN.{getD, take}
+use lib.ListN.{getD}
 use Rattle.terms.specs.Same.{every}
 use Rattle.terms.specs.Letters.{distinct}
 use Rattle.table.specs.declared.Head.{Head}
@@ -47,7 +47,7 @@ valuesBound w i n (Call d m) = every (inScope n) (argsAt w i m)
 unfoldable pub allBound : List ℕ → Bool
 allBound w = below (partsIn w) (λ i. valuesBound w i (field w i countField) (headAt w i))
 
--- ── the components: unmarked, the timer of the part, no value in any slot ──
+-- ── the components: unmarked, the timer of the part, no value in any slot, no tick waited ──
 unfoldable pub compOf : List ℕ → List ℕ → Comp
 compOf w x = record {
   loc = getD x 0 0;
@@ -55,4 +55,5 @@ compOf w x = record {
   place = getD x 1 0;
   timer = field w (getD x 1 0) timerField;
   vals = 0 ∷ 0 ∷ 0 ∷ 0 ∷ 0 ∷ 0 ∷ 0 ∷ 0 ∷ [];
+  wait = 0;
 }

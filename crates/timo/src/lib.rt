@@ -10,6 +10,7 @@ ghost use Rattle.calls_tick.specs.Ticked.{tickAnswer, ticksAs};
 ghost use Rattle.calls_step.specs.Stepped.{stepAnswer, stepsAs};
 ghost use Rattle.calls_propose.specs.Proposed.{proposeAnswer};
 ghost use Rattle.calls_forced.specs.Report.{forcedReport};
+ghost use Rattle.calls_mean.specs.Averaged.{meanAnswer, averaged};
 ghost use Rattle.calls_same.specs.Answer.{compared, sameAnswer};
 ghost use Rattle.text_answer.specs.Answer.{ReadsAs, allSettings};
 ghost use Rattle.text_write.specs.Answer.{Answers, writeAnswer};
@@ -21,6 +22,8 @@ use calls::step_at;
 use calls::tick_at;
 use calls_act::Acted;
 use calls_forced::Report;
+use calls_mean::Averaged;
+use calls_mean::mean;
 use calls_propose::Record;
 use calls_propose::outward::propose;
 use calls_same::Compared;
@@ -67,7 +70,7 @@ pub extern "C" fn timo_valid(w: &Script, c: &Words, n: usize) -> bool
     is_valid(w, c, n)
 }
 
-// A single action: questions 17, 8, 9, 10, 11, 20. A refusal leaves the lent components as they were, here and in the three calls below.
+// A single action: questions 17, 8, 9, 10, 11, 20, 18. A refusal leaves the lent components as they were, here and in the three calls below.
 #[no_mangle]
 pub extern "C" fn timo_action(
     w: &Script,
@@ -90,7 +93,7 @@ pub extern "C" fn timo_tick(w: &Script, c: &mut Words, n: usize, l: u32) -> Tick
     tick_at(w, c, n, l)
 }
 
-// The step at a location: questions 17, 8, 15, 13. A refusal leaves the lent records as they were too.
+// The step at a location: questions 17, 8, 15, 18, 13. A refusal leaves the lent records as they were too.
 #[no_mangle]
 pub extern "C" fn timo_step(
     w: &Script,
@@ -104,7 +107,7 @@ pub extern "C" fn timo_step(
     step_at(w, c, n, l, records)
 }
 
-// A proposal: questions 17, 8 for the location, 8 to 11, 20 and 16 for each record, 12, 13.
+// A proposal: questions 17, 8 for the location, 8 to 11, 20, 18 and 16 for each record, 12, 13.
 #[no_mangle]
 pub extern "C" fn timo_propose(
     w: &Script,
@@ -124,6 +127,14 @@ pub extern "C" fn timo_forced(w: &Script, c: &Words, n: usize) -> Report
     ensures { λ r. ⌜ r ≡ forcedReport (now (w .entry)) (record { c = now (c .entry); n = n }) ⌝ }
 {
     forced_report(w, c, n)
+}
+
+// The mean wait of the senders of all messages: question 17.
+#[no_mangle]
+pub extern "C" fn timo_mean(w: &Script, c: &Words, n: usize) -> Averaged
+    ensures { λ r. ⌜ r ≡ averaged (meanAnswer (now (w .entry)) (record { c = now (c .entry); n = n })) ⌝ }
+{
+    mean(w, c, n)
 }
 
 // Writing: questions 17, 14, 15.
@@ -210,7 +221,7 @@ pub extern "C" fn timo_action_label(
     action_label(w, c, n, kind, p, q, buf)
 }
 
-// The line of the step at a location, from the components before it: questions 17, 8, 13, 15.
+// The line of the step at a location, from the components before it: questions 17, 8, 18, 13, 15.
 #[no_mangle]
 pub extern "C" fn timo_step_line(w: &Script, c: &Words, n: usize, l: u32, buf: &mut [u8]) -> Written
     ensures { λ r. ⌜ Answers (lineAnswer (now (w .entry)) (record { c = now (c .entry); n = n }) l (length (now (buf .entry)))) (now (buf .entry)) r (now (buf .exit)) ⌝ }
@@ -218,11 +229,11 @@ pub extern "C" fn timo_step_line(w: &Script, c: &Words, n: usize, l: u32, buf: &
     step_line(w, c, n, l, buf)
 }
 
-// The whole printout of a text, as `timorun` prints it, under edition 1 and with all rights: its length, which is at most 3,477,760, and as much of it as the buffer holds. What `run_print`
+// The whole printout of a text, as `timorun` prints it, under edition 1 and with all rights: its length, which is at most 3,477,768, and as much of it as the buffer holds. What `run_print`
 // promises of its place and bytes, said without its way of counting.
 #[no_mangle]
 pub extern "C" fn timo_printout(text: &[u8], buf: &mut [u8]) -> usize
-    ensures { λ r. ⌜ Shows (printout (now (text .entry))) (now (buf .entry)) r (now (buf .exit)) × (r ≤ 3477760) ⌝ }
+    ensures { λ r. ⌜ Shows (printout (now (text .entry))) (now (buf .entry)) r (now (buf .exit)) × (r ≤ 3477768) ⌝ }
 {
     run_print::printout(text, buf)
 }

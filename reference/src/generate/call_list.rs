@@ -1,32 +1,55 @@
 //! Call lists on a network: mostly what is enabled there, about a third
-//! refused, all locations mixed. The list is made by following the network
+//! refused, all locations mixed. In half of the lists a host writes waits and
+//! messages, at first and at times later. The list is made by following the network
 //! with the right engine.
 
 use super::damage::damage_tokens;
 use super::draft::{cut, spaced, Tokens};
+use super::host;
 use crate::calls::{Engine, Record};
 use crate::lists::Call;
 use crate::random::Random;
+use crate::refusal::Refusal;
 use crate::rules::{Action, Rules};
-use crate::term::{Component, Network, Part, Script, Timer};
+use crate::term::{Component, Ledger, Network, Part, Script, Timer};
 use crate::writing;
 
-/// That many calls from a network just read. One list in four begins with a step.
+/// That many calls from a network just read, and what a host writes before them. One
+/// list in four has a step first.
 pub fn calls(random: &mut Random, network: Network, count: usize) -> Vec<Call> {
     let mut network = network;
-    let mut calls = Vec::new();
+    let writes = random.chance(1, 2);
+    let mut calls = if writes {
+        first_calls(random, &network)
+    } else {
+        Vec::new()
+    };
+    for call in &calls {
+        network = next(&network, call).unwrap_or(network);
+    }
     for index in 0..count {
-        let call = if index == 0 && random.chance(1, 4) {
-            step(random, &network)
+        let some = if index == 0 && random.chance(1, 4) {
+            vec![step(random, &network)]
+        } else if is_full(&network) && random.chance(1, 6) {
+            vec![host::counts_anew(random)]
+        } else if writes && random.chance(1, 16) {
+            written(random, &network)
+        } else if writes && random.chance(1, 4) {
+            at_the_edge(random, &network)
         } else {
-            call(random, &network)
+            vec![call(random, &network)]
         };
-        if let Some(next) = next(&network, &call) {
-            network = next;
+        for call in some {
+            network = next(&network, &call).unwrap_or(network);
+            calls.push(call);
         }
-        calls.push(call);
     }
     calls
+}
+
+/// At a full count nothing is handed over; a host lets that last for a few calls.
+fn is_full(network: &Network) -> bool {
+    network.ledger.messages == Ledger::MOST_MESSAGES
 }
 
 /// The network after a call, if the call changes it.
@@ -46,12 +69,12 @@ pub fn next(network: &Network, call: &Call) -> Option<Network> {
             .proposal(network, *location, records)
             .ok()
             .map(|(next, _)| next),
-        _ => None,
+        _ => call.written_into(network),
     }
 }
 
 fn call(random: &mut Random, network: &Network) -> Call {
-    match random.weighted(&[38, 8, 12, 16, 6, 10, 9, 4, 2, 4, 4, 3]) {
+    match random.weighted(&[37, 8, 12, 16, 6, 10, 11, 4, 2, 4, 4, 2, 5]) {
         0 => enabled_action(random, network),
         1 => Call::Action(any_record(random, network)),
         2 => Call::Action(fitting_record(random, network)),
@@ -63,6 +86,7 @@ fn call(random: &mut Random, network: &Network) -> Call {
         8 => Call::Keep,
         9 => same(random, network),
         10 => write(random, network),
+        11 => Call::Mean,
         _ => Call::Tick(location_of_a_last_chance(random, network)),
     }
 }
@@ -290,7 +314,7 @@ fn whole_step(random: &mut Random, network: &Network, location: &str) -> Vec<Rec
             return records;
         }
         let action = *random.pick(&enabled);
-        rules.take(&network.script, &mut components, action);
+        let _ = rules.take(&network.script, &mut components, action);
         records.push(Record::of(action));
     }
 }
@@ -312,6 +336,130 @@ fn spoil(random: &mut Random, network: &Network, records: &mut Vec<Record>) {
     };
     let at = random.below(records.len() + 1);
     records.insert(at, bad);
+}
+
+// --- what a host writes ---------------------------------------------------------
+
+/// What a host writes into a table just read; before it, if the network grows so, steps
+/// into both limits.
+fn first_calls(random: &mut Random, network: &Network) -> Vec<Call> {
+    let mut calls = steps_into_both_limits(random, network);
+    if !matches!(calls.as_slice(), [.., Call::Messages(_), _]) {
+        calls.clear();
+    }
+    calls.extend(host::first_writes(random, network));
+    calls
+}
+
+/// A wait or messages, or steps into both limits.
+fn written(random: &mut Random, network: &Network) -> Vec<Call> {
+    if random.chance(1, 3) {
+        steps_into_both_limits(random, network)
+    } else {
+        vec![host::write(random, network)]
+    }
+}
+
+/// Where a pair may meet, a count that a call behind it just reaches or passes; then the
+/// count is as it was, so that it is not full for long. Elsewhere any call.
+fn at_the_edge(random: &mut Random, network: &Network) -> Vec<Call> {
+    let (enabled, _) = fitting(&network.script, &network.components, None);
+    let meets = |action: &&Action| matches!(action, Action::Communication(..));
+    let meetings: Vec<&Action> = enabled.iter().filter(meets).collect();
+    if meetings.is_empty() {
+        return vec![call(random, network)];
+    }
+    let (one, location) = meeting(random, network, &meetings);
+    let mut lent = vec![Record::new(0, 0, 0); 256];
+    let free = network.clone().after(Ledger::default());
+    let stepped = Engine::default().step(&free, location, &mut lent);
+    let (count, messages) = match &stepped {
+        Ok(stepped) => (stepped.labels.len(), stepped.network.ledger.messages),
+        Err(_) => (0, 1),
+    };
+    let past = *random.pick(&[0, 1, 1, 1, messages]);
+    let room = messages.saturating_sub(past);
+    let (room, edge) = match random.weighted(&[4, 2, 2, 2, 1, 6]) {
+        0 => (room, proposal_of(location, &lent[..count])),
+        1 => (
+            0,
+            proposal_of(any_location(random, network), &[Record::of(one)]),
+        ),
+        2 => (0, Call::Tick(location)),
+        3 => (past.min(1), Call::Action(Record::of(one))),
+        4 => (0, Call::Forced),
+        _ => (room, step_with_room(random, location, count)),
+    };
+    let ledger = host::with_room_for(random, room);
+    let before = Call::Messages(network.ledger);
+    vec![Call::Messages(ledger), edge, before]
+}
+
+/// A step whose buffer holds all its records, or only half of them.
+fn step_with_room(random: &mut Random, location: u32, count: usize) -> Call {
+    let room = *random.pick(&[256, 256, count, count / 2]);
+    Call::Step { location, room }
+}
+
+/// Steps at a location, until one there would neither fit the table nor be counted.
+fn steps_into_both_limits(random: &mut Random, network: &Network) -> Vec<Call> {
+    let calls = |p: &usize| {
+        let part = network.components[*p].ready_part();
+        matches!(part, Some(Part::Call { .. }))
+    };
+    let calls: Vec<usize> = (0..network.components.len()).filter(calls).collect();
+    let location = location_of_one(random, network, &calls);
+    let step = Call::Step {
+        location,
+        room: 256,
+    };
+    let engine = Engine::default();
+    let mut lent = vec![Record::new(0, 0, 0); 256];
+    let mut made = Vec::new();
+    let mut network = network.clone();
+    for _ in 0..8 {
+        let full = host::with_room_for(random, 0);
+        let mut refused = |ledger| {
+            let network = network.clone().after(ledger);
+            engine.step(&network, location, &mut lent).err()
+        };
+        let both = [refused(Ledger::default()), refused(full)];
+        if both == [Some(Refusal::TableFull), Some(Refusal::MessagesFull)] {
+            made.extend([Call::Messages(full), step]);
+            return made;
+        }
+        let Some(after) = next(&network, &step) else {
+            return made;
+        };
+        network = after;
+        made.push(step.clone());
+    }
+    made
+}
+
+/// One of these meetings with its location; mostly one beside which another pair may
+/// meet in the same step.
+fn meeting(random: &mut Random, network: &Network, of: &[&Action]) -> (Action, u32) {
+    let at = |action: &Action| &network.components[action.positions()[0]].location;
+    let apart = |one: &Action, other: &Action| {
+        let positions = other.positions();
+        at(one) == at(other) && !one.positions().iter().any(|p| positions.contains(p))
+    };
+    let beside_another = |one: &&&Action| of.iter().any(|other| apart(one, other));
+    let several: Vec<&&Action> = of.iter().filter(beside_another).collect();
+    let one = if several.is_empty() || random.chance(1, 4) {
+        **random.pick(of)
+    } else {
+        ***random.pick(&several)
+    };
+    (one, location_of_one(random, network, &one.positions()[..1]))
+}
+
+fn proposal_of(location: u32, records: &[Record]) -> Call {
+    Call::Proposal {
+        location,
+        records: records.to_vec(),
+    }
 }
 
 // --- comparing and writing -----------------------------------------------------

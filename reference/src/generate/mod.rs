@@ -5,12 +5,14 @@
 //! | `draft`  | scripts as lists of tokens, and their spacing                  |
 //! | `random_script` | readable scripts from few names, so that many meet      |
 //! | `urgent` | readable scripts with several inputs for an output             |
+//! | `waiting` | readable scripts in which articles wait                       |
 //! | `edges`  | every limit and one past it; deep and long texts               |
 //! | `damage` | damaged texts, and texts that several questions refuse         |
 //! | `hostile` | deep, long and wide texts with their numbers              |
 //! | `faults` | every fault that questions 1 to 7 ask for, in pairs            |
 //! | `vectors` | small scripts with their printouts                            |
 //! | `rights` | rights that matter, while most scripts still run               |
+//! | `host`   | waits and messages that a host writes into its table           |
 //! | `call_list` | calls on a network, biased toward what is enabled           |
 
 pub mod call_list;
@@ -18,11 +20,13 @@ pub mod damage;
 pub mod draft;
 pub mod edges;
 pub mod faults;
+pub mod host;
 pub mod hostile;
 pub mod random_script;
 pub mod rights;
 pub mod urgent;
 pub mod vectors;
+pub mod waiting;
 
 pub use self::rights::rights;
 
@@ -48,13 +52,14 @@ pub fn script(seed: u64) -> Vec<u8> {
 }
 
 /// A text that is meant to be read and then run; one in five has several inputs for
-/// an output, one in ten is of any sort.
+/// an output, one in five has articles that wait, one in twelve is of any sort.
 pub fn script_to_run(seed: u64) -> Vec<u8> {
     let mut random = Random::new(seed);
-    match random.weighted(&[64, 6, 20, 10]) {
+    match random.weighted(&[45, 5, 20, 22, 8]) {
         0 => random_script::text(&mut random),
         1 => random_script::crowded_text(&mut random),
         2 => urgent::text(&mut random),
+        3 => waiting::text(&mut random),
         _ => script(seed.wrapping_add(1)),
     }
 }

@@ -1,6 +1,7 @@
 //! Small scripts with what `timorun` prints on them, to be stored and run by
 //! another engine: most run to their end, some of them with several inputs for an
-//! output, and some are refused by each question that a small text can meet.
+//! output or with articles that wait, and some are refused by each question that a
+//! small text can meet.
 //!
 //! Several scripts stand in one text, each followed by a line `#`, and so do
 //! their printouts. The sign stands nowhere else in a script or a printout.
@@ -9,7 +10,7 @@ use std::collections::HashSet;
 
 use super::damage::damage_tokens;
 use super::draft::{cut, spaced};
-use super::{random_script, urgent};
+use super::{random_script, urgent, waiting};
 use crate::calls::Engine;
 use crate::program;
 use crate::random::Random;
@@ -30,7 +31,7 @@ const FEWEST_LABELS: usize = 3;
 #[derive(Clone, Copy, PartialEq, Eq)]
 enum End {
     Network,
-    /// A network, after a communication.
+    /// A network and a mean, after a communication.
     Met,
     Refused(u8),
 }
@@ -64,11 +65,14 @@ pub fn vectors(seed: u64, count: usize) -> Vec<Vector> {
 
 /// A small script that is meant to end so.
 fn script(random: &mut Random, end: End) -> Vec<u8> {
-    let mut draft = if end == End::Met && random.chance(1, 2) {
-        urgent::draft(random)
-    } else {
-        let located = random.between(1, 4);
-        random_script::draft(random, located)
+    let sort = if end == End::Met { random.below(4) } else { 3 };
+    let mut draft = match sort {
+        0 => urgent::draft(random),
+        1 | 2 => waiting::draft(random),
+        _ => {
+            let located = random.between(1, 4);
+            random_script::draft(random, located)
+        }
     };
     if let End::Refused(number) = end {
         let faults = faults(number);
@@ -138,8 +142,8 @@ fn vector(script: Vec<u8>, end: End) -> Option<Vector> {
     let text = String::from_utf8_lossy(&printout);
     let last = text.lines().next_back()?;
     let ends_so = match end {
-        End::Network => last.contains('['),
-        End::Met => last.contains('[') && text.contains('<'),
+        End::Network => !last.starts_with("refused "),
+        End::Met => last != "-" && !last.starts_with("refused "),
         End::Refused(number) => last == format!("refused {number}"),
     };
     let labels = text.matches('@').count();

@@ -3,7 +3,6 @@
 use native.Mathlib.Omega.{arith}
 use mathlib.Core.Path.{sym, _∙_}
 use borrow.Author.Tests.{not-true, not-false}
-use Rattle.calls_act.specs.Acted.{actionAnswer}
 use Rattle.host.specs.Shown.{labelAnswer}
 use Rattle.host.proofs.Given.{refuses, answers-as}
 use Rattle.host.proofs.Labelled.{label-refused, label-taken}
@@ -12,7 +11,7 @@ use Rattle.host.proofs.action_label.Statement.{statement}
 use Rattle.host.proofs.action_label.Tie as tie
 
 returns : tie.Need-returns
-unfolding labelAnswer actionAnswer
+unfolding labelAnswer
 returns c = let v = sym (c .before .is-valid .ensures) ∙ not-true _ (c .if1 .taken) in rw v (refuses 17 _)
 
 label-at-requires : tie.Need-label-at-requires

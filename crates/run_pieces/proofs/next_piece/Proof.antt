@@ -3,7 +3,7 @@ use native.Mathlib.Omega.{arith}
 use mathlib.Core.Path.{sym, _∙_}
 use borrow.Author.Needs.{needs}
 use Rattle.run_print.proofs.Playing.{locs-few}
-use Rattle.run_pieces.proofs.Pieces.{piece-refused, piece-ending, piece-stopped, piece-on, piece-next}
+use Rattle.run_pieces.proofs.Pieces.{piece-refused, piece-stopped, piece-on, piece-next}
 use Rattle.run_pieces.proofs.next_piece.Statement.{statement}
 use Rattle.run_pieces.proofs.next_piece.Tie as tie
 
@@ -12,15 +12,13 @@ returns c =
     let p = c .before .before .before .before .before .before .before .before .pre in
     piece-refused _ _ (p .0) (p .1) _ (c .before .before .before .before .before .if1 .taken) (c .finished .ensures) (p .2) (c .before .before .before .put-refused .ensures)
 
-put-ending-requires : tie.Need-put-ending-requires
-put-ending-requires c κs =
+last-piece-requires : tie.Need-last-piece-requires
+last-piece-requires c κs =
     let p = c .before .before .before .before .before .before .before .pre in
-    (p .1 .1 (omega (arith, c .before .before .before .before .if1 .left)) .0, p .2)
+    (p .0, p .1, omega (arith, c .before .before .before .before .if1 .left), c .before .if2 .taken, p .2)
 
 returns-2 : tie.Need-returns-2
-returns-2 c =
-    let p = c .before .before .before .before .before .before .before .before .before .before .before .pre in
-    piece-ending _ _ (p .0) (p .1) (omega (arith, c .before .before .before .before .before .before .before .before .if1 .left)) _ (c .before .before .before .before .before .if2 .taken) (c .finished2 .ensures) (c .before .before .before .put-ending .ensures .0) (c .before .before .before .put-ending .ensures .1) (c .before .before .before .put-ending .ensures .2)
+returns-2 c = c .before .before .last-piece .ensures
 
 cast-turn : tie.Need-cast-turn
 cast-turn c =
@@ -37,7 +35,7 @@ turn-requires c κs =
 returns-3 : tie.Need-returns-3
 returns-3 c =
     let p = c .before .before .before .before .before .before .before .before .before .before .before .before .before .before .pre in
-    piece-stopped _ _ (p .0) (p .1) (omega (arith, c .before .before .before .before .before .before .before .before .before .before .before .if1 .left)) (omega (arith, c .before .before .before .before .before .before .before .before .if2 .left)) _ _ _ (c .before .before .before .before .before .turn .ensures) (p .2) _ (c .before .if3 .taken) (c .finished3 .ensures)
+    piece-stopped _ _ (p .0) (p .1) (omega (arith, c .before .before .before .before .before .before .before .before .before .before .before .if1 .left)) (omega (arith, c .before .before .before .before .before .before .before .before .if2 .left)) _ _ _ (c .before .before .before .before .before .turn .ensures) (p .2) _ (c .before .if3 .taken) (c .finished2 .ensures)
 
 add-if4 : tie.Need-add-if4
 add-if4 c =
@@ -77,8 +75,7 @@ next-piece-spec =
     (λ c κs. search needs)
     (λ c. search needs)
     returns
-    put-ending-requires
-    (λ c κs. search needs)
+    last-piece-requires
     (λ c. search needs)
     returns-2
     cast-turn

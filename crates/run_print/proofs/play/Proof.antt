@@ -6,7 +6,7 @@ use mathlib.Core.Bool.{true}
 use mathlib.Core.Path.{_≡_, refl, _∙_}
 use lib.ListN.{length}
 use borrow.Author.Needs.{needs}
-use Rattle.table.specs.Meaning.{contextOf, netOf}
+use Rattle.table.specs.Meaning.{contextOf, countedOf}
 use Rattle.table.specs.Valid.{valid}
 use Rattle.text_build.specs.Rows.{locsOf}
 use Rattle.run_print.specs.Print.{four, playing}
@@ -17,7 +17,7 @@ use Rattle.run_print.proofs.play.Statement.{statement}
 use Rattle.run_print.proofs.play.Tie as tie
 
 abbrev Inv-loop : tie.InvT-loop
-Inv-loop w buf₀ n now₀ at₀ round₀ l₀ buf now at round l = (valid w now ≡ true) × (l < n) × (round * 64 + l ≤ 256) × (length buf ≡ length buf₀) × Playing w buf₀ (playing (contextOf w) (four (locsOf w)) (netOf w now₀)) buf at now round l × (at ≤ 13_329 * (round * 64 + l))
+Inv-loop w buf₀ n now₀ at₀ round₀ l₀ buf now at round l = (valid w now ≡ true) × (l < n) × (round * 64 + l ≤ 256) × (length buf ≡ length buf₀) × Playing w buf₀ (playing (contextOf w) (four (locsOf w)) (countedOf w now₀)) buf at now round l × (at ≤ 13_329 * (round * 64 + l))
 
 abbrev μ-loop : tie.MeasureT-loop
 μ-loop w buf₀ n now₀ at₀ round₀ l₀ buf now at round l = (4 - round) * 100 - l
@@ -121,7 +121,7 @@ same-length-2 c =
 returns-2 : tie.Need-returns-2 Inv-loop μ-loop
 returns-2 c =
     let v = c .before .before .before .before .before .loop .inv in
-    let f = ending-ends _ _ (c .before .before .put-network .ensures) in
+    let f = ending-ends _ _ (v .0) (c .before .before .put-network .ensures) in
     (play-end _ (c .before .before .before .before .before .loop .now) (c .before .before .before .before .before .loop .round) (c .before .before .before .before .before .loop .l) (c .before .before .before .before .loop-test .left) (v .4) (c .before .before .put-network .ensures), omega arith)
 
 pub play-spec : {M : Type 1} → statement M

@@ -1,4 +1,4 @@
--- The first four words of a component are in range.
+-- The words of a component are in range but for its values.
 -- By each test's answer.
 use native.Mathlib.Omega.{arith}
 use mathlib.Core.Path.{_≡_, ap, _∙_}
@@ -8,7 +8,7 @@ use borrow.Author.Tests.{lt-ltb, le-ltb}
 use borrow.Author.Needs.{needs}
 use Rattle.table.specs.Words.{partsIn, locsIn}
 use Rattle.table.specs.Meaning.{compIn}
-use Rattle.table.specs.Valid.{markOk}
+use Rattle.table.specs.Valid.{markOk, waitOk}
 use Rattle.table_valid.specs.Tests.{headFine}
 use Rattle.table.proofs.ValidBool.{failed, passed, and-false}
 use Rattle.table_valid.proofs.head_ok.Statement.{statement}
@@ -44,9 +44,14 @@ returns-3 c =
     simp (n, and-false)
 
 returns-4 : tie.Need-returns-4
-unfolding headFine markOk compIn
-returns-4 c =
-    let past = c .before .before .before .before .before in
+unfolding headFine compIn
+returns-4 c = simp (failed (c .if4 .taken) (c .before .timer-ok .ensures), and-false)
+
+returns-5 : tie.Need-returns-5
+unfolding headFine markOk waitOk compIn
+returns-5 c =
+    let t = c .before .before in
+    let past = t .before .before .before .before .before in
     let far = past .before .before .before .before in
     let a = far .before .before .args in
     let w = a .w .now in
@@ -54,8 +59,8 @@ returns-4 c =
     let l : far .before .word .result ≡ locsIn w = far .before .word .ensures in
     let m : ltb (x .loc) (locsIn w) ≡ true = lt-ltb (x .loc) (locsIn w) (omega (arith, l, past .before .before .before .if1 .left)) in
     let n : (eqb (x .mark) 64 || ltb (x .mark) (locsIn w)) ≡ true = passed (past .if2 .left) (past .before .mark-ok .ensures ∙ ap (λ v. eqb (x .mark) 64 || ltb (x .mark) v) l) in
-    let p : ltb (x .place) (partsIn w) ≡ true = lt-ltb (x .place) (partsIn w) (omega (arith, c .before .before .before .before .word2 .ensures, c .before .before .if3 .left)) in
-    c .timer-ok .ensures ∙ rw (m, n, p)
+    let p : ltb (x .place) (partsIn w) ≡ true = lt-ltb (x .place) (partsIn w) (omega (arith, t .before .before .before .before .word2 .ensures, t .before .before .if3 .left)) in
+    rw (m, n, p, passed (c .before .if4 .left) (t .timer-ok .ensures))
 
 pub head-ok-spec : {M : Type 1} → statement M
 head-ok-spec =
@@ -80,4 +85,8 @@ head-ok-spec =
     (λ c. search needs)
     (λ c. search needs)
     (λ c κs. search needs)
-    returns-4)
+    returns-4
+    (λ c. search needs)
+    (λ c. search needs)
+    (λ c. search needs)
+    returns-5)

@@ -1,7 +1,9 @@
 -- `act_pair` meets its contract: two positions in use hold good components, and what they become is put in their places.
 use native.Mathlib.Omega.{arith}
-use mathlib.Core.Path.{refl}
+use mathlib.Core.Path.{refl, ap}
 use Rattle.table.specs.declared.State.{State}
+use Rattle.table.proofs.InUse.{valid-ledger}
+use Rattle.table.proofs.Tests.{comp-fine}
 use Rattle.calls_act.proofs.Positions.{few-comps, comp-good, valid-parts, two-left, two-out-p, two-out-q}
 use borrow.Author.Needs.{needs}
 use Rattle.calls_act.proofs.act.act_pair.Statement.{statement}
@@ -32,15 +34,20 @@ fire-pair-requires c κs =
 
 settle-two-requires : tie.Need-settle-two-requires
 settle-two-requires c κs =
-    let h = few-comps _ _ (c .before .before .before .before .before .before .before .before .before .before .pre) in
-    (omega arith, omega arith)
+    let far = c .before .before .before .before .before .before .before .before .before .before in
+    let a = far .args in
+    let st : State = record { c = a .c .now; n = a .n } in
+    let h = few-comps (a .w .now) st (far .pre) in
+    let g = valid-ledger (a .w .now) st (far .pre) in
+    let x = comp-fine (a .w .now) _ (comp-good (a .w .now) st (far .pre) (a .p) (omega arith)) .wait in
+    (omega arith, omega arith, omega (arith, g .few, g .within, x, ap (λ y. y .wait) (c .before .before .before .before .comp-at .ensures)))
 
 returns-3 : tie.Need-returns-3
 returns-3 c =
     let past = c .before .before .before .before .before in
     let a = past .before .before .before .before .before .before .args in
     let st : State = record { c = a .c .now; n = a .n } in
-    rw (c .settle-two .ensures .0, c .settle-two .ensures .1)
+    rw (c .settle-two .ensures .0, c .settle-two .ensures .1, past .comp-at .ensures)
     (two-left (a .w .now) st (a .p) (a .q) (c .before .before .fire-pair .result) (past .before .before .before .before .before .before .pre) (past .before .before .sized .ensures) (past .before .before .before .before .before .if1 .left) (past .before .before .before .before .if2 .left) (rw (past .comp-at .ensures, c .before .before .before .comp-at2 .ensures) at (c .before .before .fire-pair .ensures)))
 
 pub act-pair-spec : {M : Type 1} → statement M

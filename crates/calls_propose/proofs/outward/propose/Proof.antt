@@ -56,7 +56,7 @@ use denote.Exit.{yes}
 use Rattle.table.specs.declared.State.{State}
 use Rattle.table.specs.Words.{locsIn, scriptWords, stateWords}
 use Rattle.table.specs.Valid.{valid}
-use Rattle.table.proofs.Stores.{past-then}
+use Rattle.table_waits.proofs.Ledger.{others-then}
 use Rattle.calls_act.specs.Acted.{after}
 use Rattle.calls_tick.specs.declared.Ticked.{Ticked}
 use Rattle.calls_tick.specs.Ticked.{ticksAs}
@@ -164,7 +164,7 @@ module _ (ws : List ℕ) (s : State) (l : ℕ) (ys : List Record) where
     cs = cs;
     within = omega arith;
     fits = f;
-    held = λ e. record { good = a .held e .good; here = a .held e .here; past = past-then (omega arith) (t .held z .past) (a .held e .past) };
+    held = λ e. record { good = a .held e .good; here = a .held e .here; past = others-then (omega arith) (t .held z .past) (a .held e .past) };
     left = ap (firedAll ws l (dropped (t .i + 1) ys)) (a .far) ∙ sym (one-more ws l ys (soFar ws 0 (after s (t .cs))) (t .i) small) ∙ ap (λ j. firedAll ws l (dropped (t .i) ys) (soFar ws j (after s (t .cs)))) (sym z) ∙ t .left;
   }
 

@@ -20,7 +20,7 @@ step-free-requires c κs =
     let a = past .before .args in
     let h : a .l < locsIn (a .w .now) = omega (arith, past .word .ensures) in
     let r = c .before .before .before .spared .ensures (c .before .before .if2 .taken) in
-    (past .before .pre, h, r .0, r .1)
+    (past .before .pre, h, r .0, r .1, r .2)
 
 step-kept-requires : tie.Need-step-kept-requires
 step-kept-requires c κs =

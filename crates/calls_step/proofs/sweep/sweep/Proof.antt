@@ -9,17 +9,19 @@ use borrow.Author.Needs.{needs}
 use Rattle.table.specs.declared.State.{State}
 use Rattle.table.specs.Meaning.{compIn}
 use Rattle.table.specs.Valid.{scriptOk, compOk}
+use Rattle.table.proofs.Tests.{comp-fine}
 use Rattle.calls_act.proofs.Positions.{few-comps, valid-parts}
 use Rattle.calls_step.specs.Visit.{sendsAt, otherOf}
-use Rattle.calls_step.proofs.Going.{Going, going-begin, going-fires, going-idle, going-end, good-at, channel-fits, other-fits}
+use Rattle.calls_step.proofs.Going.{Going, Adding, going-begin, going-fires, going-idle, going-end, adding-begin, adding-turn, adding-idle, adding-end, good-at, channel-fits, other-fits}
 use Rattle.calls_step.proofs.sweep.sweep.Statement.{statement}
 use Rattle.calls_step.proofs.sweep.sweep.Tie as tie
 
 abbrev Inv-loop : tie.InvT-loop
-Inv-loop w c₀ n l acts₀ heads₀ nexts count₀ p₀ c acts heads count p = Going w l (record { c = c₀; n = n }) (record { c = c; n = n }) heads nexts acts₀ acts count p
+Inv-loop w c₀ n l acts₀ heads₀ nexts count₀ sent₀ sum₀ p₀ c acts heads count sent sum p =
+    Going w l (record { c = c₀; n = n }) (record { c = c; n = n }) heads nexts acts₀ acts count p × Adding w l (record { c = c₀; n = n }) (record { c = c; n = n }) sent sum p
 
 abbrev μ-loop : tie.MeasureT-loop
-μ-loop w c₀ n l acts₀ heads₀ nexts count₀ p₀ c acts heads count p = n - p
+μ-loop w c₀ n l acts₀ heads₀ nexts count₀ sent₀ sum₀ p₀ c acts heads count sent sum p = n - p
 
 -- ── what is known at a position ──
 module _ (c : tie.In-loop Inv-loop μ-loop) where
@@ -33,20 +35,20 @@ module _ (c : tie.In-loop Inv-loop μ-loop) where
   below = c .loop-test .taken
 
   fine : (q : ℕ) → q < c .before .before .before .before .before .before .args .n → compOk (c .before .before .before .before .before .before .args .w .now) (compIn (c .before .loop .c) q) ≡ true
-  fine = good-at _ script _ _ _ _ _ _ _ _ _ few (c .before .loop .inv) below
+  fine = good-at _ script _ _ _ _ _ _ _ _ _ few (c .before .loop .inv .0) below
 
   channel : sendsAt (c .before .before .before .before .before .before .args .w .now) (c .before .before .before .before .before .before .args .l) (compIn (c .before .loop .c) (c .before .loop .p)) ≤ 64
-  channel = channel-fits _ script _ _ _ _ _ _ _ _ _ few (c .before .loop .inv) below
+  channel = channel-fits _ script _ _ _ _ _ _ _ _ _ few (c .before .loop .inv .0) below
 
   other : otherOf (c .before .loop .p) (getD (c .before .loop .heads) (sendsAt (c .before .before .before .before .before .before .args .w .now) (c .before .before .before .before .before .before .args .l) (compIn (c .before .loop .c) (c .before .loop .p))) 0) < c .before .before .before .before .before .before .args .n
-  other = other-fits _ script _ _ _ _ _ _ _ _ _ few (c .before .loop .inv) below
+  other = other-fits _ script _ _ _ _ _ _ _ _ _ few (c .before .loop .inv .0) below
 
 loop-holds : tie.Need-loop-holds Inv-loop μ-loop
 loop-holds c =
     let a = c .before .before .before .before .args in
     let v = c .before .before .before .before .pre in
     let st : State = record { c = a .c .now; n = a .n } in
-    going-begin (a .w .now) (a .l) st _ _ _ (v .1) (v .2) (valid-parts (a .w .now) st (v .0) .1 .each) (c .wait-all .ensures)
+    (going-begin (a .w .now) (a .l) st _ _ _ (v .1) (v .2) (valid-parts (a .w .now) st (v .0) .1 .each) (c .wait-all .ensures), adding-begin (a .w .now) (a .l) st)
 
 comp-at-requires : tie.Need-comp-at-requires Inv-loop μ-loop
 comp-at-requires c κs = omega (arith, few (c .before), below (c .before))
@@ -72,7 +74,9 @@ loop-less c = omega arith
 loop-again : tie.Need-loop-again Inv-loop μ-loop
 loop-again c =
     let e = rw (c .before .before .wide .ensures, c .before .before .before .sends-at .ensures, c .before .before .before .before .comp-at .ensures) at (sym (c .before .kind-at .ensures) ∙ c .if1 .taken) in
-    going-idle _ (script (c .before .before .before .before .before .before)) _ _ _ _ _ _ _ _ _ (few (c .before .before .before .before .before .before)) (c .before .before .before .before .before .before .before .loop .inv) (below (c .before .before .before .before .before .before)) e
+    let l = c .before .before .before .before .before .before in
+    let i = l .before .loop .inv in
+    (going-idle _ (script l) _ _ _ _ _ _ _ _ _ (few l) (i .0) (below l) e, adding-idle _ (script l) _ _ _ _ _ _ _ _ _ (few l) (i .0) (below l) e _ _ (i .1))
 
 comp-at-requires-2 : tie.Need-comp-at-requires-2 Inv-loop μ-loop
 comp-at-requires-2 c κs =
@@ -105,17 +109,17 @@ rec-by-requires c κs =
 mul-r : tie.Need-mul-r Inv-loop μ-loop
 mul-r c =
     let past = c .before .before .before .before .before .before .before .before .before .before .before .before .before .before .before .before .before in
-    omega (arith, few (past), below (past), past .before .loop .inv .few-count, past .before .loop .inv .enough, past .before .loop .inv .room)
+    omega (arith, few (past), below (past), past .before .loop .inv .0 .few-count, past .before .loop .inv .0 .enough, past .before .loop .inv .0 .room)
 
 slice-set-from-r : tie.Need-slice-set-from-r Inv-loop μ-loop
 slice-set-from-r c =
     let past = c .before .before .before .before .before .before .before .before .before .before .before .before .before .before .before .before .before in
-    omega (arith, few (past), below (past), past .before .loop .inv .few-count, past .before .loop .inv .enough, past .before .loop .inv .room)
+    omega (arith, few (past), below (past), past .before .loop .inv .0 .few-count, past .before .loop .inv .0 .enough, past .before .loop .inv .0 .room)
 
 add-count : tie.Need-add-count Inv-loop μ-loop
 add-count c =
     let past = c .before .before .before .before .before .before .before .before .before .before .before .before .before .before .before .before .before in
-    omega (arith, few (past), below (past), past .before .loop .inv .few-count, past .before .loop .inv .enough, past .before .loop .inv .room)
+    omega (arith, few (past), below (past), past .before .loop .inv .0 .few-count, past .before .loop .inv .0 .enough, past .before .loop .inv .0 .room)
 
 mul-nx : tie.Need-mul-nx Inv-loop μ-loop
 mul-nx c =
@@ -139,31 +143,64 @@ array-write-heads c =
     let past = c .before .before .before .before .before .before .before .before .before .before .before .before .before .before in
     omega (arith, past .wide .ensures, rw (past .before .before .comp-at .ensures) at (past .before .sends-at .ensures), channel (past .before .before .before .before))
 
+sent-with-requires : tie.Need-sent-with-requires Inv-loop μ-loop
+sent-with-requires c κs =
+    let past = c .before .before .before .before .before .before .before .before .before .before .before .before .before .before .before .before .before .before in
+    omega (arith, few past, below past, past .before .loop .inv .1 .few-sent)
+
+waited-with-requires : tie.Need-waited-with-requires Inv-loop μ-loop
+waited-with-requires c κs =
+    let past = c .before .before .before .before .before .before .before .before .before .before .before .before .before .before .before .before .before .before .before in
+    let i = past .before .loop .inv .1 in
+    (omega (arith, few past, below past, i .few-sent, i .small), rw (c .before .before .before .before .before .before .before .before .before .before .before .before .before .before .before .before .before .comp-at .ensures) (comp-fine _ _ (fine past _ (below past)) .wait))
+
 add-p-2 : tie.Need-add-p-2 Inv-loop μ-loop
-add-p-2 c = omega (arith, few (c .before .before .before .before .before .before .before .before .before .before .before .before .before .before .before .before .before .before), below (c .before .before .before .before .before .before .before .before .before .before .before .before .before .before .before .before .before .before))
+add-p-2 c = let past = c .before .before .before .before .before .before .before .before .before .before .before .before .before .before .before .before .before .before .before .before in omega (arith, few past, below past)
 
 loop-less-2 : tie.Need-loop-less-2 Inv-loop μ-loop
-loop-less-2 c = omega (arith, below (c .before .before .before .before .before .before .before .before .before .before .before .before .before .before .before .before .before .before))
+loop-less-2 c = omega (arith, below (c .before .before .before .before .before .before .before .before .before .before .before .before .before .before .before .before .before .before .before .before))
 
 loop-again-2 : tie.Need-loop-again-2 Inv-loop μ-loop
 loop-again-2 c =
-    let past = c .before .before .before .before in
+    let done = c .before .before in
+    let past = done .before .before .before .before in
     let far = past .before .before .before .before in
-    let f = rw (far .before .before .before .before .before .kind-at .ensures, far .before .comp-at2 .ensures, far .before .before .before .other-of .ensures, far .before .before .before .before .before .before .wide .ensures, far .before .before .before .before .before .before .before .sends-at .ensures, far .before .before .before .before .before .before .before .before .comp-at .ensures) at (far .perform .ensures) in
-    let e = rw (far .before .before .before .before .before .before .wide .ensures, far .before .before .before .before .before .before .before .sends-at .ensures, far .before .before .before .before .before .before .before .before .comp-at .ensures) at (far .before .before .before .before .before .kind-at .ensures) in
-    rw (c .popped-of .ensures, c .before .rec-by .ensures, c .before .before .put-comp2 .ensures, past .put-comp .ensures, far .before .before .before .before .before .kind-at .ensures, far .before .before .before .other-of .ensures, far .before .before .before .before .before .before .wide .ensures, far .before .before .before .before .before .before .before .sends-at .ensures, far .before .before .before .before .before .before .before .before .comp-at .ensures)
-    (going-fires _ (script (far .before .before .before .before .before .before .before .before .before .before)) _ _ _ _ _ _ _ _ _ (few (far .before .before .before .before .before .before .before .before .before .before)) (far .before .before .before .before .before .before .before .before .before .before .before .loop .inv) (below (far .before .before .before .before .before .before .before .before .before .before)) (far .perform .result) f (λ z. far .before .before .before .before .if1 .left (e ∙ z)))
+    let deep = far .before .before .before .before .before .before .before .before in
+    let k = far .before .before .before .before .before .kind-at .ensures in
+    let f = rw (k, far .before .comp-at2 .ensures, far .before .before .before .other-of .ensures, far .before .before .before .before .before .before .wide .ensures, far .before .before .before .before .before .before .before .sends-at .ensures, deep .comp-at .ensures) at (far .perform .ensures) in
+    let e = rw (far .before .before .before .before .before .before .wide .ensures, far .before .before .before .before .before .before .before .sends-at .ensures, deep .comp-at .ensures) at k in
+    let l = deep .before .before in
+    let i = l .before .loop .inv in (
+      rw (done .popped-of .ensures, done .before .rec-by .ensures, done .before .before .put-comp2 .ensures, past .put-comp .ensures, k, far .before .before .before .other-of .ensures, far .before .before .before .before .before .before .wide .ensures, far .before .before .before .before .before .before .before .sends-at .ensures, deep .comp-at .ensures)
+          (going-fires _ (script l) _ _ _ _ _ _ _ _ _ (few l) (i .0) (below l) (far .perform .result) f (λ z. far .before .before .before .before .if1 .left (e ∙ z))),
+      rw (c .waited-with .ensures, c .before .sent-with .ensures, done .before .before .put-comp2 .ensures, past .put-comp .ensures, k, far .before .before .before .other-of .ensures, far .before .before .before .before .before .before .wide .ensures, far .before .before .before .before .before .before .before .sends-at .ensures, deep .comp-at .ensures)
+          (adding-turn _ (script l) _ _ _ _ _ _ _ _ _ (few l) (i .0) (below l) (far .perform .result) f _ _ (i .1)),
+    )
 
 same-length : tie.Need-same-length Inv-loop μ-loop
-same-length c = c .before .loop .inv .room
+same-length c = c .before .loop .inv .0 .room
 
 returns : tie.Need-returns Inv-loop μ-loop
 returns c =
     let a = c .before .before .before .before .before .before .args in
     let st : State = record { c = a .c .now; n = a .n } in
-    let i = c .before .loop .inv in
+    let i = c .before .loop .inv .0 in
     let e = going-end (a .w .now) (a .l) st _ _ _ _ _ _ _ i (omega arith) in
-    record { room = i .room; records = e .0; rest = i .rest; number = e .1; few = omega (arith, i .few-count, i .few-p); comps = e .2; slotted = i .size; past = i .past }
+    let d = c .before .loop .inv .1 in
+    let m = adding-end (a .w .now) (a .l) st _ _ _ _ d (omega arith) in
+    record {
+      room = i .room;
+      records = e .0;
+      rest = i .rest;
+      number = e .1;
+      few = omega (arith, i .few-count, i .few-p);
+      comps = e .2;
+      sent-is = m .0;
+      sum-is = m .1;
+      small = d .small;
+      slotted = i .size;
+      past = i .past;
+    }
 
 pub sweep-spec : {M : Type 1} → statement M
 sweep-spec =
@@ -196,6 +233,8 @@ sweep-spec =
     (λ c κs. search needs)
     mul-heads
     array-write-heads
+    sent-with-requires
+    waited-with-requires
     add-p-2
     loop-less-2
     loop-again-2

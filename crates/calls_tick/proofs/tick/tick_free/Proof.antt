@@ -24,7 +24,7 @@ returns c =
     let s = tick-steady (a .w .now) (a .l) (compsOf st) (v .3) ∙ comps-length st in
     let k = pass-fits _ _ _ _ (c .pass-all .ensures) (omega (arith, s, few-comps (a .w .now) st (v .0))) in
     let p = c .pass-all .ensures .1 k in
-    rw (tick-done (a .w .now) st (a .l) (v .0) (v .1) (v .2) (omega (arith, p .1))) (tick-took (a .w .now) st _ _ (a .l) (v .0) (p .0) (p .1) (omega (arith, p .1)) (p .2))
+    rw (tick-done (a .w .now) st (a .l) (v .0) (v .1) (v .2) (omega (arith, p .1))) (tick-took (a .w .now) st _ _ (a .l) (v .0) (v .1) (p .0) (p .1) (omega (arith, p .1)) (p .2))
 
 pub tick-free-spec : {M : Type 1} → statement M
 tick-free-spec = tie.close (tie.spec (λ c κs. search needs) pass-all-requires returns)

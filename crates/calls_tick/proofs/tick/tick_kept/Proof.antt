@@ -22,7 +22,7 @@ returns-2 c =
     let v = past .pre in
     let p = c .before .pass-all .ensures .1 (omega arith) in
     rw (tick-done (a .w .now) (record { c = a .c .now; n = a .n }) (a .l) (v .0) (v .1) (v .2) (omega (arith, p .1)))
-    (tick-took (a .w .now) (record { c = a .c .now; n = a .n }) _ _ (a .l) (v .0) (p .0) (p .1) (omega (arith, p .1)) (p .2))
+    (tick-took (a .w .now) (record { c = a .c .now; n = a .n }) _ _ (a .l) (v .0) (v .1) (p .0) (p .1) (omega (arith, p .1)) (p .2))
 
 pub tick-kept-spec : {M : Type 1} → statement M
 tick-kept-spec = tie.close (tie.spec (λ c κs. search needs) pass-all-requires (λ c κs. search needs) returns returns-2)

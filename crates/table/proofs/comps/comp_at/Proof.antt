@@ -1,4 +1,4 @@
--- Twelve words are read, one after the other.
+-- Thirteen words are read, one after the other.
 use mathlib.Core.Path.{refl}
 use Rattle.table.specs.Meaning.{compIn}
 use borrow.Author.Needs.{needs}
@@ -13,6 +13,9 @@ pub comp-at-spec : {M : Type 1} → statement M
 comp-at-spec =
     tie.close
     (tie.spec
+    (λ c. search needs)
+    (λ c. search needs)
+    (λ c. search needs)
     (λ c. search needs)
     (λ c. search needs)
     (λ c. search needs)

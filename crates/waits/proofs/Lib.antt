@@ -1,0 +1,4 @@
+pub mod Waits
+pub mod Counting
+pub mod Mean
+pub mod Limits
