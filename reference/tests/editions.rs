@@ -136,7 +136,9 @@ fn a_move_is_counted_as_before() {
         assert_eq!(engine().forced(&once).set, 1);
         assert_eq!(shown(&stepped(&once, 0)), "B[] stop");
         let inf = read_under(edition, "A[go(inf,B,stop)] .");
-        assert!(engine().same(&tick(&inf, 0), &inf));
+        let mut waited = inf.clone();
+        waited.components[0].wait = 1;
+        assert_eq!(tick(&inf, 0), waited);
     }
 }
 

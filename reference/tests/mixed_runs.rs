@@ -12,7 +12,7 @@ use timo_reference::lists::{self, Call};
 use timo_reference::random::Random;
 use timo_reference::rules::Variant;
 use timo_reference::runs::{Broken, Run};
-use timo_reference::term::{Edition, Network, Settings};
+use timo_reference::term::{Edition, Ledger, Network, Settings};
 
 #[test]
 fn the_claim_holds_on_hundreds_of_random_lists() {
@@ -59,8 +59,7 @@ fn the_claim_is_broken_by_every_variant_that_the_rules_exclude() {
         let breaks = |case: &Case| case.verdict(Engine::new(variant)).0.is_err();
         let unclaimed =
             Variant::WRONG_WAITS.contains(&variant) && variant != Variant::FullCountFreesPair;
-        let some = if unclaimed { 30 } else { cases.len() };
-        let broken = cases.iter().take(some).any(breaks);
+        let broken = cases.iter().any(breaks);
         let within = matches!(
             variant,
             Variant::ForcesGoAtOne
@@ -181,8 +180,8 @@ fn random_lists_reach_every_refusal() {
     }
 }
 
-/// After one pass upward nothing is forced, so a step is refused by 8, 15, 18 or
-/// 13 only; and no call ever makes the components fewer.
+/// After one pass upward nothing is forced, so a step is refused by 8, 15, 13 or,
+/// where a pair of all components would pass the count, 18 only; and no call ever makes the components fewer.
 #[test]
 fn a_step_never_meets_12_and_components_never_become_fewer() {
     for case in cases(60) {
@@ -190,7 +189,9 @@ fn a_step_never_meets_12_and_components_never_become_fewer() {
         for call in &case.calls {
             for location in 0..network.script.locations.len() as u32 {
                 let answer = number(engine().step(&network, location, &mut records()));
-                assert!(matches!(answer, 0 | 13 | 18), "a step gave {answer}");
+                let most = network.ledger.messages + network.components.len() as u32 / 2;
+                let full = answer == 18 && most > Ledger::MOST_MESSAGES;
+                assert!(matches!(answer, 0 | 13) || full, "a step gave {answer}");
             }
             if let Some(next) = next(&network, call) {
                 assert!(next.components.len() >= network.components.len());

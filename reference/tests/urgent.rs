@@ -390,7 +390,7 @@ fn check(network: &Network, at: &str, records: &[Record], seen: &mut Choices) {
 #[test]
 fn every_step_on_random_networks_serves_the_most_urgent() {
     let mut seen = Choices::default();
-    for case in cases(300) {
+    for case in cases(150) {
         let mut network = case.network();
         for call in &case.calls {
             if let Call::Step { location, .. } = call {
