@@ -1,10 +1,11 @@
 //! A smaller script and a shorter list of calls that still show a difference, with
 //! all rights where that shows it too. Definitions, located processes and parts are
-//! taken away, and parts replaced by what stands inside them or by `stop`, for as
-//! long as a difference remains. Then the network that some of the calls leave is
+//! taken away, parts replaced by what stands inside them or by `stop`, and names by
+//! letters, for as long as a difference remains. Then the network that some of the calls leave is
 //! tried as a script of its own, with its waits and messages written into the table and
 //! the calls that are left.
 
+use std::cmp::Reverse;
 use std::iter::successors;
 use std::mem;
 use std::ops::Range;
@@ -82,8 +83,8 @@ pub fn shrink(engine: Engine, case: Case) -> Case {
 fn shrunken(engine: Engine, mut case: Case) -> Case {
     loop {
         let before = case.size();
-        case = more_rights(engine, case);
         case = fewer_calls(engine, case);
+        case = more_rights(engine, case);
         case = fewer_records(engine, case);
         case = plainer_calls(engine, case);
         if case.difference.place == Place::Reading {
@@ -273,7 +274,7 @@ fn fewer_bytes(engine: Engine, mut case: Case) -> Case {
     case
 }
 
-/// Takes away blanks, then pieces of the script, large ones first.
+/// Takes away blanks, then pieces of the script, large ones first; then names are cut.
 fn smaller_script(engine: Engine, mut case: Case) -> Case {
     let is_blank = |byte: &u8| matches!(byte, b' ' | b'\n');
     let script: Vec<u8> = case
@@ -285,16 +286,58 @@ fn smaller_script(engine: Engine, mut case: Case) -> Case {
     if let Some(found) = case.with(engine, &script, &case.calls) {
         case = found;
     }
-    while let Some(smaller) = one_piece_less(engine, &case) {
+    let mut most = case.script.len();
+    while let Some(smaller) = one_piece_less(engine, &case, most) {
+        most = case.script.len() - smaller.script.len();
         case = smaller;
+    }
+    shorter_names(engine, case)
+}
+
+/// Gives each long name a letter of its case that the script does not have.
+fn shorter_names(engine: Engine, mut case: Case) -> Case {
+    let names: Vec<Vec<u8>> = words(&case.script).map(<[u8]>::to_vec).collect();
+    for name in names.iter().filter(|name| name.len() > 1) {
+        let is_free = |letter: &u8| !words(&case.script).any(|word| word == [*letter]);
+        let mut letters = match name[0].is_ascii_uppercase() {
+            true => b'A'..=b'Z',
+            false => b'a'..=b'z',
+        };
+        if let Some(letter) = letters.find(is_free) {
+            let script = renamed(&case.script, name, letter);
+            if let Some(found) = case.with(engine, &script, &case.calls) {
+                case = found;
+            }
+        }
     }
     case
 }
 
-fn one_piece_less(engine: Engine, case: &Case) -> Option<Case> {
+/// Stretches of letters and digits, and what stands between them.
+fn stretches(text: &[u8]) -> impl Iterator<Item = &[u8]> {
+    text.chunk_by(|one, other| one.is_ascii_alphanumeric() == other.is_ascii_alphanumeric())
+}
+
+/// Names, numbers and the words of the language.
+fn words(text: &[u8]) -> impl Iterator<Item = &[u8]> {
+    stretches(text).filter(|stretch| stretch[0].is_ascii_alphanumeric())
+}
+
+/// A text with a letter in every place of a word. In the place of a number or of a
+/// word of the language this is not of the form.
+fn renamed(text: &[u8], word: &[u8], letter: u8) -> Vec<u8> {
+    let short = [letter];
+    let new = stretches(text).map(|stretch| if stretch == word { &short } else { stretch });
+    new.collect::<Vec<&[u8]>>().concat()
+}
+
+/// The first change that leaves a difference, of those that take away at most so
+/// many bytes: larger ones have just been tried, and come again in the next pass.
+fn one_piece_less(engine: Engine, case: &Case, most: usize) -> Option<Case> {
+    let less = |change: &Change| change.range.len().saturating_sub(change.with.len());
     let mut changes = changes(&case.script);
-    changes.retain(|change| change.with.len() < change.range.len());
-    changes.sort_by_key(|change| change.with.len() + case.script.len() - change.range.len());
+    changes.retain(|change| (1..=most).contains(&less(change)));
+    changes.sort_by_key(|change| Reverse(less(change)));
     let again = |change: &Change| {
         let script = replaced(
             &case.script,

@@ -1,6 +1,7 @@
 //! A difference is shown by a small script and a short list. The wrong variants
 //! of the reference engine make differences.
 
+use std::sync::Mutex;
 use std::thread;
 
 use compare::differ::Place;
@@ -60,18 +61,18 @@ fn shown(variant: Variant, lists: &[List]) {
     assert!(Case::of(engine, case.settings, &case.script, &case.calls).is_some());
 }
 
-/// Scripts of hundreds of components stay long whatever is taken away.
-const LONGEST: usize = 1_000;
-
 #[test]
 fn every_wrong_variant_is_shown_by_a_few_calls_on_a_small_script() {
-    let mut lists: Vec<List> = (0..100).flat_map(lists_of).collect();
-    lists.retain(|list| list.script.len() <= LONGEST);
-    let variants = Variant::every_wrong();
-    let half = variants.len().div_ceil(2);
+    let lists: Vec<List> = (0..100).flat_map(lists_of).collect();
+    let variants = Mutex::new(Variant::every_wrong().into_iter());
+    let next = || variants.lock().expect("no thread has failed").next();
     thread::scope(|scope| {
-        for some in variants.chunks(half) {
-            scope.spawn(|| some.iter().for_each(|variant| shown(*variant, &lists)));
+        for _ in 0..2 {
+            scope.spawn(|| {
+                while let Some(variant) = next() {
+                    shown(variant, &lists);
+                }
+            });
         }
     });
 }
