@@ -76,7 +76,19 @@ static void put_channel(const struct timo_state *state, uint32_t h)
     put(timo_channel_name(script, &state->c, state->n, h, name, sizeof name), name);
 }
 
-/* For how many ticks the senders of all messages had waited, on the whole. */
+/* A mean in whole ticks, as timorun prints it: the nearest, and exactly at the half
+ * the even one. There were messages. */
+static uint32_t whole_ticks(struct timo_averaged mean)
+{
+    uint32_t rest = mean.count - mean.remainder;
+
+    if (mean.remainder == rest)
+        return mean.quotient + mean.quotient % 2;
+    return mean.quotient + (mean.remainder > rest);
+}
+
+/* For how many ticks the senders of all messages had waited, on the whole, and as
+ * timorun prints it. */
 static void put_mean(const struct timo_state *state)
 {
     struct timo_averaged mean = timo_mean(script, &state->c, state->n);
@@ -84,7 +96,7 @@ static void put_mean(const struct timo_state *state)
     if (mean.count == 0)
         printf("mean wait: no messages\n");
     else
-        printf("mean wait: %u and %u/%u\n", (unsigned)mean.quotient, (unsigned)mean.remainder, (unsigned)mean.count);
+        printf("mean wait: %u and %u/%u, in whole ticks %u\n", (unsigned)mean.quotient, (unsigned)mean.remainder, (unsigned)mean.count, (unsigned)whole_ticks(mean));
 }
 
 /* The longest wait of a component that is in use. */

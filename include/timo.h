@@ -307,9 +307,9 @@ struct timo_written timo_step_line(const uint32_t script[TIMO_WORDS], const stru
 
 /* The whole printout of a text of n bytes, as timorun prints it, under edition 1
  * and with all rights, refusals included, and without one the mean on its last line,
- * rounded to a whole tick, a half going up, or `-` if there were no messages. It
- * returns the printout's length, at most TIMO_PRINTOUT, whatever
- * is lent. Fewer bytes get the printout's first ones; with more, those past the
+ * rounded to a whole tick, exactly at the half the even one, or `-` if there were
+ * no messages. It returns the printout's length, at most TIMO_PRINTOUT, whatever is
+ * lent. Fewer bytes get the printout's first ones; with more, those past the
  * length are unchanged. */
 size_t timo_printout(const uint8_t *text, size_t n, uint8_t *bytes, size_t lent);
 

@@ -64,16 +64,16 @@ fn put_channel(table: &Table, channel: u32) {
     put(table.channel_name(channel, &mut name), &name);
 }
 
-/// For how many ticks the senders of all messages had waited, on the whole.
+/// For how many ticks the senders of all messages had waited, on the whole, and as
+/// `timorun` prints it.
 fn put_mean(table: &Table) -> Result<(), u32> {
     let mean = table.mean()?;
-    if mean.count == 0 {
-        println!("mean wait: no messages");
-    } else {
-        println!(
-            "mean wait: {} and {}/{}",
+    match mean.whole_ticks() {
+        None => println!("mean wait: no messages"),
+        Some(ticks) => println!(
+            "mean wait: {} and {}/{}, in whole ticks {ticks}",
             mean.quotient, mean.remainder, mean.count
-        );
+        ),
     }
     Ok(())
 }

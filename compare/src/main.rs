@@ -82,10 +82,14 @@ fn texts(seed: u64, count: u64) -> Result<(), String> {
     )
 }
 
-/// What `timorun` prints on texts of any sort and on scripts that are meant to be run,
-/// byte by byte; each wrong mean is told apart.
+/// What `timorun` prints on texts of any sort, on scripts that are meant to be run and
+/// on those with a mean, byte by byte; each wrong mean is told apart.
 fn printouts(seed: u64, count: u64) -> Result<(), String> {
-    let sorts = [generate::script, generate::script_to_run];
+    let sorts = [
+        generate::script,
+        generate::script_to_run,
+        generate::script_with_mean,
+    ];
     let mut unnoticed = Variant::WRONG_PRINTOUTS.to_vec();
     for (index, sort) in (0..count).flat_map(|index| sorts.map(|sort| (index, sort))) {
         let seed = generate::seed(seed, index);
@@ -98,7 +102,7 @@ fn printouts(seed: u64, count: u64) -> Result<(), String> {
     }
     println!(
         "printouts by both alike: {}, {} wrong means told apart",
-        2 * count,
+        sorts.len() as u64 * count,
         Variant::WRONG_PRINTOUTS.len() - unnoticed.len()
     );
     enough(

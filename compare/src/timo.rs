@@ -2,6 +2,8 @@
 //! a safe interface to them. The calls take any content; nothing has to be
 //! tested beforehand.
 
+use std::cmp::Ordering;
+
 /// Words of a script.
 pub const WORDS: usize = 111_888;
 /// The word of a script that holds its edition, 1 or 2.
@@ -229,6 +231,23 @@ pub struct Mean {
     pub count: u32,
     pub quotient: u32,
     pub remainder: u32,
+}
+
+impl Mean {
+    /// The nearest whole tick, exactly at the half the even one, as `timorun` prints
+    /// it; nothing if there were no messages.
+    pub fn whole_ticks(self) -> Option<u32> {
+        if self.count == 0 {
+            return None;
+        }
+        let twice = 2 * u64::from(self.remainder);
+        let more = match twice.cmp(&u64::from(self.count)) {
+            Ordering::Less => 0,
+            Ordering::Equal => self.quotient % 2,
+            Ordering::Greater => 1,
+        };
+        Some(self.quotient + more)
+    }
 }
 
 #[repr(C)]

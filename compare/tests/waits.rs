@@ -1,13 +1,13 @@
-//! Document 02, R-1, through the proved engine's library: the words of waits, total
-//! and count, what waits and what does not, question 18 in its place, question 17's
-//! limits, the mean and its line; and lists made by hand through both engines.
+//! Document 02, R-1 and R-9, through the proved engine's library: the words of waits,
+//! total and count, what waits and what does not, question 18 in its place, question
+//! 17's limits, the mean and its line; and lists made by hand through both engines.
 
 use compare::alike::refused_by_all;
 use compare::differ::differ;
 use compare::timo::{
     printout, Mean, Record, Row, Settings, State, Table, MESSAGES, UNMARKED, WAIT,
 };
-use timo_reference::calls::Engine;
+use timo_reference::calls::{self, Engine};
 use timo_reference::lists;
 use timo_reference::program;
 use timo_reference::rules::Variant;
@@ -427,6 +427,46 @@ fn the_mean_is_exact() {
     );
 }
 
+/// Document 02, R-9: what a host rounds, by hand and then by the reference engine.
+#[test]
+fn whole_ticks_of_a_mean() {
+    let table = read("A[stop] .");
+    let ours = |count, total| {
+        let mean = with_messages(table.clone(), count, total).mean();
+        mean.expect("a good table").whole_ticks()
+    };
+    assert_eq!(ours(0, 0), None);
+    for (total, ticks) in [
+        (0, 0),
+        (1, 0),
+        (2, 1),
+        (3, 2),
+        (4, 2),
+        (5, 2),
+        (6, 3),
+        (7, 4),
+    ] {
+        assert_eq!(ours(2, total), Some(ticks), "{total} over 2");
+    }
+    let small = (1..=12).flat_map(|count| (0..=5 * u64::from(count)).map(move |t| (count, t)));
+    let halves = [0, 1, 2, 999_998, 999_999].map(|q| q * 1_000_000 + 500_000);
+    let near = halves.into_iter().flat_map(|half| half - 1..=half + 1);
+    let large = near.map(|total| (MESSAGES, total));
+    for (count, total) in small.chain(large) {
+        let (quotient, remainder) = (total / u64::from(count), total % u64::from(count));
+        let mean = calls::Mean {
+            quotient: quotient as u32,
+            remainder: remainder as u32,
+            count,
+        };
+        assert_eq!(
+            ours(count, total),
+            Some(mean.rounded()),
+            "{total} over {count}"
+        );
+    }
+}
+
 fn printed(text: &str) -> String {
     let mut lent = vec![0; 4_096];
     let length = printout(text.as_bytes(), &mut lent);
@@ -457,9 +497,14 @@ fn the_last_line_of_a_printout() {
         (late(&[0]), "1"),
         (late(&[2]), "3"),
         (late(&[0, 1]), "2"),
-        (late(&[1, 2]), "3"),
-        (with_pairs(&[0], 1), "1"),
+        (late(&[1, 2]), "2"),
+        (with_pairs(&[0], 1), "0"),
+        (with_pairs(&[2], 1), "2"),
         (with_pairs(&[0], 2), "0"),
+        (with_pairs(&[1], 2), "1"),
+        (with_pairs(&[0, 0], 2), "0"),
+        (with_pairs(&[2, 2], 2), "2"),
+        (with_pairs(&[2], 3), "1"),
         (with_pairs(&[1, 2], 3), "1"),
         (with_pairs(&[], 1).replace("A[ | ", "A["), "0"),
     ] {
@@ -483,7 +528,7 @@ fn no_mean_after_a_refusal() {
 fn every_wrong_mean_is_told_apart() {
     let pair = "out(d,0,A,stop,stop) | in(d,0,x,stop,stop)";
     let third = late(&[0]).replace("] .", &format!(" | {pair} | {pair}] ."));
-    let texts = [late(&[0, 1]), third, String::new()];
+    let texts = [late(&[0, 1]), late(&[1, 2]), third, String::new()];
     let printed_by = |variant, text: &str| {
         let mut bytes = Vec::new();
         let run = program::run(Engine::new(variant), text.as_bytes(), &mut bytes);

@@ -1,10 +1,12 @@
 //! The outward calls (document 01, *Actions*, *The tick at l*, *The other
-//! calls*; document 02, R-1 and R-3), each with its questions in the order of
+//! calls*; document 02, R-1, R-3 and R-9), each with its questions in the order of
 //! *Questions, asked downward*.
 //!
 //! A network goes in as a shared reference and a new one comes out, so that a
 //! refusal leaves it as it was. Lent buffers are written only after the last
 //! question.
+
+use std::cmp::Ordering;
 
 use crate::reading::{self, Limits, MOST_COMPONENTS};
 use crate::refusal::{ask, Refusal};
@@ -78,10 +80,21 @@ pub struct Mean {
 }
 
 impl Mean {
-    /// The nearest whole tick; a half goes up.
+    /// The nearest whole tick; exactly at the half the even one (document 02, R-9).
     pub fn rounded(self) -> u32 {
-        let at_least_half = 2 * u64::from(self.remainder) >= u64::from(self.count);
-        self.quotient + u32::from(at_least_half)
+        let is_odd = self.quotient % 2 == 1;
+        let up = match self.against_half() {
+            Ordering::Less => false,
+            Ordering::Equal => is_odd,
+            Ordering::Greater => true,
+        };
+        self.quotient + u32::from(up)
+    }
+
+    /// How the fraction compares with a half.
+    fn against_half(self) -> Ordering {
+        let twice = 2 * u64::from(self.remainder);
+        twice.cmp(&u64::from(self.count))
     }
 }
 
@@ -229,14 +242,21 @@ impl Engine {
 
     /// The whole tick that is printed for a mean.
     pub fn rounded(self, mean: Mean) -> u32 {
-        let twice = 2 * u64::from(mean.remainder);
-        let up = match self.rules.variant {
-            Variant::MeanRoundsDown => false,
-            Variant::MeanRoundsUp => mean.remainder > 0,
-            Variant::HalfGoesDown => twice > u64::from(mean.count),
-            _ => return mean.rounded(),
-        };
-        mean.quotient + u32::from(up)
+        let Mean {
+            quotient,
+            remainder,
+            ..
+        } = mean;
+        let at_half = mean.against_half() == Ordering::Equal;
+        match self.rules.variant {
+            Variant::MeanRoundsDown => quotient,
+            Variant::MeanRoundsUp => quotient + u32::from(remainder > 0),
+            Variant::HalfGoesDown if at_half => quotient,
+            Variant::HalfGoesUp if at_half => quotient + 1,
+            Variant::HalfGoesToOdd if at_half => quotient + (quotient + 1) % 2,
+            Variant::HalfByRemainder if at_half => quotient + remainder % 2,
+            _ => mean.rounded(),
+        }
     }
 
     /// Whether a mean is printed after a refusal too, which is a mistake.

@@ -171,6 +171,12 @@ pub enum Variant {
     MeanRoundsUp,
     /// Prints a mean at the half without its fraction.
     HalfGoesDown,
+    /// Prints the next whole tick for a mean at the half.
+    HalfGoesUp,
+    /// Prints the odd one of the two whole ticks that are nearest at the half.
+    HalfGoesToOdd,
+    /// Prints the next whole tick at the half where the remainder is odd.
+    HalfByRemainder,
     /// Prints a mean after a refusal too.
     MeanAfterRefusal,
 }
@@ -262,10 +268,13 @@ impl Variant {
 
     /// Every variant with a mistake in the mean that `timorun` prints, which only a
     /// comparison of printouts can notice.
-    pub const WRONG_PRINTOUTS: [Variant; 4] = [
+    pub const WRONG_PRINTOUTS: [Variant; 7] = [
         Variant::MeanRoundsDown,
         Variant::MeanRoundsUp,
         Variant::HalfGoesDown,
+        Variant::HalfGoesUp,
+        Variant::HalfGoesToOdd,
+        Variant::HalfByRemainder,
         Variant::MeanAfterRefusal,
     ];
 

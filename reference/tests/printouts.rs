@@ -9,7 +9,8 @@ use std::process::{Command, Output, Stdio};
 
 use timo_reference::calls::Engine;
 use timo_reference::generate::vectors;
-use timo_reference::{lists, printout, rights};
+use timo_reference::rules::Variant;
+use timo_reference::{lists, printout, program, rights};
 
 fn examples() -> PathBuf {
     Path::new(env!("CARGO_MANIFEST_DIR")).join("../examples")
@@ -61,6 +62,34 @@ fn every_example_prints_what_stands_beside_it() {
 /// A list is answered under the edition that stands beside it, or under 1, and
 /// with the rights that stand beside it, or with all. Where the answers under 1 or
 /// with all rights are others, these stand beside it too.
+/// The scripts and printouts that a file of `run_many` holds, each before a line `#`.
+fn stored_runs(file: &str) -> Vec<String> {
+    let path = Path::new(env!("CARGO_MANIFEST_DIR")).join("../crates/run_many");
+    let text = fs::read_to_string(path.join(file)).expect("stored runs");
+    let end = text.strip_suffix("#\n").expect("a last line");
+    end.split("#\n").map(str::to_string).collect()
+}
+
+/// A program that rounds otherwise, or prints a mean after a refusal, differs from a
+/// stored printout.
+#[test]
+fn the_stored_runs_tell_every_wrong_mean_apart() {
+    let runs = stored_runs("stdin").into_iter().zip(stored_runs("stdout"));
+    let runs: Vec<(String, String)> = runs.collect();
+    let differs = |engine: Engine, (script, stored): &(String, String)| {
+        let mut printed = Vec::new();
+        program::run(engine, script.as_bytes(), &mut printed).expect("a buffer");
+        printed != stored.as_bytes()
+    };
+    assert!(!runs.iter().any(|run| differs(Engine::default(), run)));
+    for variant in Variant::WRONG_PRINTOUTS {
+        let wrong = Engine::new(variant);
+        let shown = runs.iter().filter(|run| differs(wrong, run)).count();
+        println!("{variant:?}: {shown} of {}", runs.len());
+        assert!(shown > 0, "{variant:?}");
+    }
+}
+
 #[test]
 fn every_example_list_gets_the_answers_that_stand_beside_it() {
     for list in with_extension("calls") {

@@ -489,23 +489,34 @@ fn line(messages: u32, total: u64) -> String {
 }
 
 #[test]
-fn a_half_goes_up() {
+fn a_half_goes_to_the_even_tick() {
     let cases = [
         (0, 0, "-\n"),
         (1, 0, "0\n"),
-        (2, 1, "1\n"),
+        (1, 1, "1\n"),
+        (2, 1, "0\n"),
         (2, 3, "2\n"),
-        (2, 5, "3\n"),
+        (2, 5, "2\n"),
+        (2, 7, "4\n"),
         (3, 1, "0\n"),
         (3, 2, "1\n"),
         (3, 4, "1\n"),
         (3, 5, "2\n"),
         (4, 1, "0\n"),
-        (4, 2, "1\n"),
+        (4, 2, "0\n"),
+        (4, 3, "1\n"),
+        (4, 6, "2\n"),
+        (4, 10, "2\n"),
+        (6, 3, "0\n"),
+        (6, 9, "2\n"),
         (999_999, 499_999, "0\n"),
         (999_999, 500_000, "1\n"),
         (1_000_000, 499_999, "0\n"),
-        (1_000_000, 500_000, "1\n"),
+        (1_000_000, 500_000, "0\n"),
+        (1_000_000, 500_001, "1\n"),
+        (1_000_000, 1_500_000, "2\n"),
+        (1_000_000, 999_998_500_000, "999998\n"),
+        (1_000_000, 999_998_500_001, "999999\n"),
         (1_000_000, 999_999_499_999, "999999\n"),
         (1_000_000, 999_999_500_000, "1000000\n"),
         (1_000_000, 1_000_000_000_000, "1000000\n"),
@@ -521,7 +532,15 @@ fn printed(engine: Engine, text: &str) -> String {
     String::from_utf8(bytes).expect("ASCII")
 }
 
-/// Two readers come after one tick and after two: waits of 1 and 2, or of one more.
+/// One reader is there and one comes after one tick: waits of 0 and 1.
+const ONE_HALF: &str = "A[out(c,9,A,stop,stop) | out(c,9,A,stop,stop) | \
+    in(c,9,x,stop,stop) | go(0,A,in(c,9,x,stop,stop))] .";
+
+/// Two readers come after two ticks and after three.
+const TWO_AND_A_HALF: &str = "A[out(c,9,A,stop,stop) | out(c,9,A,stop,stop) | \
+    go(1,A,in(c,9,x,stop,stop)) | go(2,A,in(c,9,x,stop,stop))] .";
+
+/// Two readers come after one tick and after two: waits of 1 and 2.
 const ONE_AND_A_HALF: &str = "A[out(c,9,A,stop,stop) | out(c,9,A,stop,stop) | \
     go(0,A,in(c,9,x,stop,stop)) | go(1,A,in(c,9,x,stop,stop))] .";
 
@@ -535,11 +554,15 @@ fn the_mean_is_the_last_line_of_a_printout() {
         steps.starts_with(late) && steps.ends_with(" .\n3\n"),
         "{steps}"
     );
-    let half = printed(engine(), ONE_AND_A_HALF);
-    assert!(
-        half.ends_with("A[stop] | A[stop] | A[stop] | A[stop] .\n2\n"),
-        "{half}"
-    );
+    for (text, last) in [
+        (ONE_HALF, "0"),
+        (ONE_AND_A_HALF, "2"),
+        (TWO_AND_A_HALF, "2"),
+    ] {
+        let half = printed(engine(), text);
+        let end = format!("A[stop] | A[stop] | A[stop] | A[stop] .\n{last}\n");
+        assert!(half.ends_with(&end), "{half}");
+    }
 }
 
 #[test]
@@ -775,6 +798,12 @@ fn every_wrong_mean_is_shown_by_a_printout() {
         (Variant::MeanRoundsDown, ONE_AND_A_HALF),
         (Variant::MeanRoundsUp, &third),
         (Variant::HalfGoesDown, ONE_AND_A_HALF),
+        (Variant::HalfGoesUp, ONE_HALF),
+        (Variant::HalfGoesUp, TWO_AND_A_HALF),
+        (Variant::HalfGoesToOdd, ONE_HALF),
+        (Variant::HalfGoesToOdd, ONE_AND_A_HALF),
+        (Variant::HalfByRemainder, ONE_HALF),
+        (Variant::HalfByRemainder, TWO_AND_A_HALF),
         (Variant::MeanAfterRefusal, ""),
     ] {
         let [right, wrong] = [engine(), Engine::new(variant)].map(|engine| printed(engine, text));

@@ -65,13 +65,12 @@ fn rounds(mut table: Table, text: &mut Vec<u8>) -> Result<(), u32> {
     Ok(())
 }
 
-/// The mean rounded to a whole tick, a half going up.
+/// The mean in whole ticks, or `-` if there were no messages.
 fn mean_line(mean: Mean) -> String {
-    if mean.count == 0 {
-        return "-\n".to_string();
+    match mean.whole_ticks() {
+        Some(ticks) => format!("{ticks}\n"),
+        None => "-\n".to_string(),
     }
-    let up = mean.remainder >= mean.count - mean.remainder;
-    format!("{}\n", mean.quotient + u32::from(up))
 }
 
 /// A step and its line.

@@ -5,7 +5,7 @@ use native.Mathlib.Omega.{arith}
 use mathlib.Core.Bool.{Bool, true, false, cond}
 use mathlib.Core.List.{_++_}
 use mathlib.Core.Path.{_≡_, refl, sym, ap, _∙_}
-use lib.Dec.{leb, ltb}
+use lib.Dec.{ltb}
 use lib.ListN.{length, length-append}
 use borrow.Author.Tests.{lt-ltb}
 use Rattle.terms.specs.Names.{bytes}
@@ -40,11 +40,12 @@ seven-digits n h = more-digits 1_000_000 6 (more-digits 100_000 5 (more-digits 1
 
 rounded-small : (q r n : ℕ) → q ≤ 1_000_000 → rounded q r n < 10_000_000
 unfolding rounded
-rounded-small q r n h = go (leb n (r + r))
+rounded-small q r n h = go (ltb (r + r) n) (ltb n (r + r))
   where
-    go : (b : Bool) → cond b (suc q) q < 10_000_000
-    go true = omega arith
-    go false = omega arith
+    go : (b c : Bool) → cond b q (cond c (suc q) (q + q % 2)) < 10_000_000
+    go true c = omega arith
+    go false true = omega arith
+    go false false = omega arith
 
 pub mean-short : (t n : ℕ) → t ≤ 1_000_000 * n → length (meanText (meanOf t n)) ≤ 8
 unfolding meanOf meanText

@@ -1,4 +1,4 @@
--- Document 01's own text and printout, computed, with the line of the mean; a mean of one and a half; a text without messages; and the empty text.
+-- Document 01's own text and printout, computed, with the line of the mean; means of one half, one and a half, and two and a half; a text without messages; and the empty text.
 use mathlib.Core.List.{[]}
 use mathlib.Core.Path.{_≡_, refl}
 use Rattle.terms.specs.Names.{bytes}
@@ -28,12 +28,22 @@ empty : printout [] ≡ bytes "refused 2\n"
 unfolding printing
 empty = refl
 
--- One sender waits for one tick, the other for two, until their readers have come: three over two messages is one and a half, which is printed as 2. The
--- readers come from A, whose steps are first in every round.
-late : printout (bytes "A[go(1,B,in(c,9,x,stop,stop)) | go(2,B,in(d,9,x,stop,stop))] | B[out(c,9,A,stop,stop) | out(d,9,A,stop,stop)] .")
+-- Two senders wait until their readers have come from A, whose steps are first in every round: for no tick and one, one and two, two and three. Over two
+-- messages that is one half, one and a half, two and a half, and is printed as 0, 2 and 2: document 02, R-9.
+one-half : printout (bytes "A[go(0,B,in(c,9,x,stop,stop)) | go(1,B,in(d,9,x,stop,stop))] | B[out(c,9,A,stop,stop) | out(d,9,A,stop,stop)] .")
+    ≡ bytes "A B@A\nB c<A>@B\nA B@A\nB d<A>@B\nA\nB\nA\nB\nB[stop] | B[stop] | B[stop] | B[stop] .\n0\n"
+unfolding printing
+one-half = refl
+
+one-and-a-half : printout (bytes "A[go(1,B,in(c,9,x,stop,stop)) | go(2,B,in(d,9,x,stop,stop))] | B[out(c,9,A,stop,stop) | out(d,9,A,stop,stop)] .")
     ≡ bytes "A\nB\nA B@A\nB c<A>@B\nA B@A\nB d<A>@B\nA\nB\nB[stop] | B[stop] | B[stop] | B[stop] .\n2\n"
 unfolding printing
-late = refl
+one-and-a-half = refl
+
+two-and-a-half : printout (bytes "A[go(2,B,in(c,9,x,stop,stop)) | go(3,B,in(d,9,x,stop,stop))] | B[out(c,9,A,stop,stop) | out(d,9,A,stop,stop)] .")
+    ≡ bytes "A\nB\nA\nB\nA B@A\nB c<A>@B\nA B@A\nB d<A>@B\nB[stop] | B[stop] | B[stop] | B[stop] .\n2\n"
+unfolding printing
+two-and-a-half = refl
 
 quiet : printout (bytes "A[go(inf,A,stop)] .") ≡ bytes "A\nA\nA\nA\nA[go(inf,A,stop)] .\n-\n"
 unfolding printing

@@ -115,7 +115,12 @@ means : (meanOf 0 0 ≡ none) × (meanOf 0 4 ≡ over 0 0 4) × (meanOf 3 2 ≡ 
 unfolding meanOf
 means = (refl, refl, refl, refl)
 
--- one and a half goes up, one and a third does not
-whole-ticks : (rounded 1 1 2 ≡ 2) × (rounded 2 1 2 ≡ 3) × (rounded 1 1 3 ≡ 1) × (rounded 1 2 3 ≡ 2) × (rounded 4 0 9 ≡ 4)
+-- Document 02, R-9: one half is 0, one and a half 2, two and a half 2 too, three and a half 4; also of four and of the largest count. Else the nearest: one and a third is 1,
+-- one and two thirds 2; just below a half and just above it; a whole mean stays.
+halves : (rounded 0 1 2 ≡ 0) × (rounded 1 1 2 ≡ 2) × (rounded 2 1 2 ≡ 2) × (rounded 3 1 2 ≡ 4) × (rounded 2 2 4 ≡ 2) × (rounded 3 2 4 ≡ 4) × (rounded 999_999 500_000 1_000_000 ≡ 1_000_000)
 unfolding rounded
-whole-ticks = (refl, refl, refl, refl, refl)
+halves = (refl, refl, refl, refl, refl, refl, refl)
+
+whole-ticks : (rounded 1 1 3 ≡ 1) × (rounded 1 2 3 ≡ 2) × (rounded 1 499_999 1_000_000 ≡ 1) × (rounded 2 500_001 1_000_000 ≡ 3) × (rounded 4 0 9 ≡ 4) × (rounded 5 0 9 ≡ 5)
+unfolding rounded
+whole-ticks = (refl, refl, refl, refl, refl, refl)

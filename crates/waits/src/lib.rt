@@ -8,7 +8,7 @@
 //
 //   proofs/Waits     what question 17 asks of waits, total and count no accepted call breaks
 //   proofs/Counting  question 18 of several actions at once
-//   proofs/Mean      the mean is exact, and rounded it is the nearest whole tick
+//   proofs/Mean      the mean is exact; rounded it is the nearest whole tick, a half going to the even one, and no other number is
 //   proofs/Limits    demand 3 with both reasons; any list of calls, and a whole step
 ghost use mathlib.Core.Path.{_≡_};
 ghost use Prim.Native.Nat.{_/_, _%_, _<_, _≤_, _*_};
@@ -30,13 +30,18 @@ pub fn longer(n: u32) -> u32
     n
 }
 
-// A quotient with the remainder r over n, to the nearest whole tick, a half going up.
+// A quotient with the remainder r over n, to the nearest whole tick, a half going to the even one. The remainder is compared with what it lacks of n,
+// so that nothing is doubled.
 pub fn rounded(q: u32, r: u32, n: u32) -> u32
     requires { ⌜ (q ≤ 1000000) × (r < n) ⌝ }
     ensures { λ x. ⌜ x ≡ M.rounded q r n ⌝ }
 {
-    if n - r <= r {
+    let rest = n - r;
+    if r < rest {
+        return q;
+    }
+    if rest < r {
         return q + 1;
     }
-    q
+    q + q % 2
 }

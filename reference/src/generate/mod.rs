@@ -64,6 +64,11 @@ pub fn script_to_run(seed: u64) -> Vec<u8> {
     }
 }
 
+/// A text whose run ends with a mean that is often at the half.
+pub fn script_with_mean(seed: u64) -> Vec<u8> {
+    waiting::met(&mut Random::new(seed))
+}
+
 /// A list of calls for a text, made by following its network with settings;
 /// empty if the text is refused.
 pub fn calls(seed: u64, script: &[u8], settings: &Settings) -> Vec<Call> {

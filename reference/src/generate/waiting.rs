@@ -1,7 +1,8 @@
 //! Scripts in which articles wait: document 02, R-1. Senders stand and wait with long
 //! timers, many of them equal, and come one after the other; readers come later, or
 //! never. What has met waits anew and comes back. Some networks grow meanwhile, and in
-//! some a pair meets at its last chance.
+//! some a pair meets at its last chance. And scripts whose mean is often at the half:
+//! document 02, R-9.
 
 use super::draft::{cut, spaced, Draft};
 use crate::random::Random;
@@ -14,6 +15,24 @@ const READERS: [&str; 2] = ["Head", "slow"];
 pub fn text(random: &mut Random) -> Vec<u8> {
     let tokens = draft(random).tokens();
     spaced(random, &tokens)
+}
+
+/// A script that runs to its end: a few articles that are alike, and as many readers,
+/// each of which comes after some ticks, three at most, or is there.
+pub fn met(random: &mut Random) -> Vec<u8> {
+    let messages = [1, 2, 3, 4, 6][random.weighted(&[1, 8, 2, 4, 2])];
+    let mut draft = Draft::default();
+    for _ in 0..messages {
+        let reader = "in(c,9,x,stop,stop)";
+        let comes = match random.between(0, 3) {
+            0 => reader.to_string(),
+            ticks => format!("go({},A,{reader})", ticks - 1),
+        };
+        draft.located.push(cut("A[out(c,9,A,stop,stop)]"));
+        draft.located.push(cut(&format!("A[{comes}]")));
+    }
+    random.shuffle(&mut draft.located);
+    spaced(random, &draft.tokens())
 }
 
 /// Senders and readers, in any order, mostly at the first location.
