@@ -17,9 +17,9 @@ use Rattle.table.specs.Fire.{Left, labelOf, aloneAt, togetherAt, leftBy, actOn}
 use Rattle.table.proofs.InUse.{comps-length}
 use Rattle.table.proofs.Fires.{mapA, actedOf}
 use Rattle.table.proofs.Granted.{act-means}
-use Rattle.calls_act.specs.declared.Fired.{Fired}
-use Rattle.calls_act.specs.declared.Met.{Met}
-use Rattle.calls_act.specs.Fired.{tagOf, oneOf, twoOf}
+use Rattle.calls_fire.specs.declared.Fired.{Fired}
+use Rattle.calls_fire.specs.declared.Met.{Met}
+use Rattle.calls_fire.specs.Fired.{tagOf, oneOf, twoOf}
 use Rattle.calls_act.proofs.Positions.{at-past, at-in-use, valid-parts}
 use Rattle.calls_act.specs.Acted.{refusal}
 use Rattle.calls_act.specs.Labelled.{named, labelled}

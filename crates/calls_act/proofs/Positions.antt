@@ -27,10 +27,10 @@ use Rattle.table.proofs.Tests.{StateFine, comp-fine}
 use Rattle.table.proofs.Fires.{mapA, actedOf}
 use Rattle.table.proofs.Granted.{act-means}
 use Rattle.table.proofs.Kept.{okA, goodLeft, goodActed, alone-kept, together-kept, act-kept}
-use Rattle.calls_act.specs.declared.Fired.{Fired}
-use Rattle.calls_act.specs.declared.Met.{Met}
+use Rattle.calls_fire.specs.declared.Fired.{Fired}
+use Rattle.calls_fire.specs.declared.Met.{Met}
 use Rattle.calls_act.specs.declared.Acted.{Acted}
-use Rattle.calls_act.specs.Fired.{tagOf, oneOf, twoOf}
+use Rattle.calls_fire.specs.Fired.{tagOf, oneOf, twoOf}
 use Rattle.calls_act.specs.Acted.{asked, refusal, after, Took, actsAs, Leaves, leaves, limited, settled, putAt, putOne, metCode, putTwo}
 use Rattle.table.proofs.InUse.{comps-length, in-use, valid-script, valid-state, comp-held, LedgerFine, valid-ledger, ledger-same, is-valid}
 use Rattle.table.proofs.Tags.{GoodTag, actedTag, act-tagged}

@@ -19,11 +19,11 @@ use Rattle.table.specs.Meaning.{wordsIn, OthersKept, contextOf, compsOf, netOf,
 use Rattle.table_waits.specs.Ledger.{counted}
 use Rattle.table.specs.Valid.{valid}
 use Rattle.table.specs.Fire.{ActedAt, tagIn, tagHeld}
-use Rattle.calls_act.specs.declared.Label.{Label}
-use Rattle.calls_act.specs.declared.Fired.{Fired}
-use Rattle.calls_act.specs.declared.Met.{Met}
+use Rattle.calls_fire.specs.declared.Label.{Label}
+use Rattle.calls_fire.specs.declared.Fired.{Fired}
+use Rattle.calls_fire.specs.declared.Met.{Met}
 use Rattle.calls_act.specs.declared.Acted.{Acted}
-use Rattle.calls_act.specs.Fired.{noLabel, tagOf}
+use Rattle.calls_fire.specs.Fired.{noLabel, tagOf}
 use Rattle.table.specs.Words.{compSize}
 
 -- x, if question n is answered by yes

@@ -9,7 +9,7 @@ use Rattle.terms.specs.Rules.{Answer, Acted, _>>=_}
 use Rattle.terms.specs.Rules.Answer.{refused, accepted}
 use Rattle.table.specs.Fire.{labelOf}
 use Rattle.calls_act.specs.declared.Acted.{Acted as Answered}
-use Rattle.calls_act.specs.Fired.{tagOf}
+use Rattle.calls_fire.specs.Fired.{tagOf}
 
 -- a refusal's number, or the label that the numbers stand for
 unfoldable pub named : List ℕ → Answered → Answer Label

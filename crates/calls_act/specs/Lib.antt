@@ -1,3 +1,2 @@
-pub mod Fired
 pub mod Acted
 pub mod Labelled

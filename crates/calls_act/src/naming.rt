@@ -9,7 +9,7 @@ ghost use Rattle.calls_act.specs.Acted.{actionAllowed, singleKind};
 ghost use Rattle.calls_act.specs.Labelled.{named, labelled};
 use super::Acted;
 use super::act;
-use super::fire;
+use calls_fire::fire;
 use table::Script;
 use table::Words;
 use table::comps::comp_at;

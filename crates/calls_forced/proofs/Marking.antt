@@ -11,7 +11,7 @@ use lib.Seq.{getD-set-same, getD-set-other}
 use borrow.Author.Tests.{eqb-true, eqb-false, ne-eqb}
 use Rattle.terms.specs.Rules.{some}
 use Rattle.table.specs.declared.Comp.{Comp}
-use Rattle.calls_tick.proofs.Hearing.{or-none, some-more}
+use Rattle.calls_must.proofs.Hearing.{or-none, some-more}
 use Rattle.calls_forced.specs.Marked.{isMarked, Marked}
 
 or-yes : (b : Bool) → (b || true) ≡ true

@@ -32,7 +32,7 @@ use Rattle.table.proofs.ValidLists.{listFrom-length, listFrom-at}
 use Rattle.table.proofs.Stores.{past-none}
 use Rattle.table_waits.proofs.Ledger.{past-others, others-then}
 use Rattle.calls_act.specs.declared.Acted.{Acted}
-use Rattle.calls_act.specs.Fired.{tagOf}
+use Rattle.calls_fire.specs.Fired.{tagOf}
 use Rattle.calls_act.specs.Acted.{asked, actionOf, actionRule, after, actsAs}
 use Rattle.calls_act.specs.Acted as A
 use Rattle.calls_act.proofs.Positions.{valid-parts}

@@ -1,6 +1,1 @@
-pub mod Sweeps
-pub mod Queues
-pub mod Sweeping
-pub mod Going
-pub mod Tallying
 pub mod Stepping

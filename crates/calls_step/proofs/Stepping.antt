@@ -34,12 +34,12 @@ use Rattle.calls_tick.specs.Ticked.{room}
 use Rattle.calls_steady.specs.Steady.{staysOne}
 use Rattle.calls_tick.proofs.Ticking.{tick-took}
 use Rattle.calls_steady.proofs.Staying.{tick-steady}
-use Rattle.calls_step.specs.Sweep.{SweptAt, sweepAt, recOf}
-use Rattle.calls_step.specs.Visit.{SweepsAs}
+use Rattle.calls_sweep.specs.Sweep.{SweptAt, sweepAt, recOf}
+use Rattle.calls_sweep.specs.Visit.{SweepsAs}
 use Rattle.calls_step.specs.Stepped.{stepOf, stepCounted, stepRule, Took}
-use Rattle.calls_step.proofs.Sweeps.{Like, fires-like}
-use Rattle.calls_step.proofs.Going.{sweep-steady}
-use Rattle.calls_step.proofs.Tallying.{sweep-tallies}
+use Rattle.calls_sweep.proofs.Sweeps.{Like, fires-like}
+use Rattle.calls_sweep.proofs.Going.{sweep-steady}
+use Rattle.calls_sweep.proofs.Tallying.{sweep-tallies}
 
 module _ (w : List ℕ) (st : State) (l : ℕ) (v : valid w st ≡ true) (after : List ℕ) (lent acts : List (List ℕ)) (count sent sum : ℕ) (s : SweepsAs w l st after lent acts count sent sum) where
   -- the state that the actions leave, with their messages counted

@@ -1,3 +1,1 @@
-pub mod Sweep
-pub mod Visit
 pub mod Stepped

@@ -19,7 +19,7 @@ use Rattle.table.specs.Valid.{valid}
 use Rattle.calls_act.specs.Acted.{asked}
 use Rattle.calls_tick.specs.Ticked.{room}
 use Rattle.calls_step.specs.declared.Stepped.{Stepped}
-use Rattle.calls_step.specs.Sweep.{recOf}
+use Rattle.calls_sweep.specs.Sweep.{recOf}
 
 -- the actions of a step, the components after its tick, and what is kept beside them
 pub record Step : Type 0 where

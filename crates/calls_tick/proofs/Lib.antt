@@ -1,4 +1,1 @@
-pub mod Hearing
-pub mod Turns
-pub mod Passing
 pub mod Ticking

@@ -1,3 +1,1 @@
-pub mod Heard
-pub mod Turn
 pub mod Ticked

@@ -1,22 +1,20 @@
 -- What the answer of a tick stands for: document 01, *The tick at l* and *Questions, asked downward*, and document 02, R-1.
-use Prim.Native.Nat.{ℕ, _<_, _≤_}
-use mathlib.Core.List.{List, _++_}
+use Prim.Native.Nat.{ℕ, _≤_}
+use mathlib.Core.List.{List}
 use mathlib.Core.Bool.{true}
 use mathlib.Core.Path.{_≡_}
 use lib.Dec.{leb, ltb}
-use lib.ListN.{length, drop}
+use lib.ListN.{length}
 use Rattle.terms.specs.Names.{Name}
 use Rattle.terms.specs.Terms.{Component, Context}
 use Rattle.terms.specs.Rules.{Answer, _>>=_, tick}
 use Rattle.terms.specs.Rules.Answer.{refused, accepted}
 use Rattle.waits.specs.Waits.{tickTally}
 use Rattle.waits.specs.Counted.{Counted}
-use Rattle.table.specs.declared.Comp.{Comp}
 use Rattle.table.specs.declared.State.{State}
-use Rattle.table.specs.Words.{stateWords, locsIn, locName}
-use Rattle.table.specs.Meaning.{listFrom, compIn, PastKept, OthersKept, contextOf, compsOf, netOf, tallyOf, countedOf}
+use Rattle.table.specs.Words.{locsIn, locName}
+use Rattle.table.specs.Meaning.{OthersKept, contextOf, netOf, tallyOf, countedOf}
 use Rattle.table.specs.Valid.{valid}
-use Rattle.table.specs.Fire.{passedAll}
 use Rattle.calls_act.specs.Acted.{asked}
 use Rattle.calls_tick.specs.declared.Ticked.{Ticked}
 
@@ -57,19 +55,3 @@ pub record Took (w : List ℕ) (st : State) (k : Counted) (r : Ticked) (out : Li
 abbrev pub ticksAs : List ℕ → State → Answer Counted → Ticked → List ℕ → Type 0
 ticksAs w st (refused n) r out = (r ≡ refusal n (st .n)) × (out ≡ st .c)
 ticksAs w st (accepted k) r out = Took w st k r out
-
--- what the tick's pass over all components gives: it is full if there is no room, else the components are these, and no other word was written
-abbrev pub passes : List Comp → List ℕ → List ℕ → ℕ → Type 0
-passes cs before out k = (256 < k → 256 < length cs) × (k ≤ 256 → (compsOf (record { c = out; n = k }) ≡ cs) × (k ≡ length cs) × PastKept k before out)
-
--- what out holds up to j, and then what the tick leaves of the components from j on
-abbrev pub passedFrom : List ℕ → ℕ → State → ℕ → List ℕ → List Comp
-passedFrom w l st j out = listFrom 0 j (compIn out) ++ passedAll w l (drop j (compsOf st))
-
--- the first i components have passed in place, one for each, and the others are as they were
-pub record PassedHere (w : List ℕ) (l : ℕ) (st : State) (out : List ℕ) (i : ℕ) : Type 0 where
-  pub few : i ≤ st .n
-  pub size : length out ≡ stateWords
-  pub front : passedFrom w l st i out ≡ passedAll w l (compsOf st)
-  pub rest : (m : ℕ) → i ≤ m → compIn out m ≡ compIn (st .c) m
-  pub past : PastKept (st .n) (st .c) out

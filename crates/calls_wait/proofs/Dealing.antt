@@ -19,8 +19,8 @@ use Rattle.ranks.proofs.Laws.{keep-ranked, length-ranked}
 use Rattle.table.specs.declared.Comp.{Comp}
 use Rattle.table.specs.Fire.{hears}
 use Rattle.calls_steady.proofs.Staying.{take-more}
-use Rattle.calls_tick.specs.Heard.{hearsAt}
-use Rattle.calls_tick.proofs.Hearing.{hears-own}
+use Rattle.calls_must.specs.Heard.{hearsAt}
+use Rattle.calls_must.proofs.Hearing.{hears-own}
 use Rattle.calls_wait.specs.Waits.{waits, keyOf, spotOf, keysOn, hearers, Chain, Queued, keysAll, Gathered, onto, Dealt, Away, Apart}
 use Rattle.calls_wait.proofs.Waiting.{spot-key}
 

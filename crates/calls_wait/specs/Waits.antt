@@ -15,7 +15,7 @@ use Rattle.ranks.specs.Ranked.{ranked, keep}
 use Rattle.table.specs.declared.Comp.{Comp}
 use Rattle.table.specs.Words.{headAt}
 use Rattle.table.specs.Fire.{readyAt, hears}
-use Rattle.calls_tick.specs.Heard.{hearsAt}
+use Rattle.calls_must.specs.Heard.{hearsAt}
 
 -- ── the partner of an output: document 02, R-3 ──
 -- a component ready at l that hears h

@@ -12,7 +12,7 @@ ghost use lib.ListN.{length, take, replicate};
 ghost use Rattle.table.specs.Meaning.{compsOf};
 ghost use Rattle.table.specs.Valid.{valid};
 ghost use Rattle.calls_wait.specs.Waits.{keyOf, Apart, Gathered, Dealt, Queued};
-use calls_tick::forced;
+use calls_must::forced;
 use table::Comp;
 use table::Script;
 use table::Words;

@@ -10,7 +10,7 @@ use Rattle.table.specs.declared.State.{State}
 use Rattle.table.specs.Valid.{valid}
 use Rattle.table.specs.Fire.{labelOf}
 use Rattle.calls_act.specs.declared.Acted.{Acted as Answered}
-use Rattle.calls_act.specs.Fired.{tagOf}
+use Rattle.calls_fire.specs.Fired.{tagOf}
 use Rattle.calls_act.specs.Acted.{actionAllowed}
 use Rattle.calls_act.specs.Labelled.{named, labelled}
 use Rattle.run_line.specs.Line.{labelText}

@@ -27,18 +27,18 @@ use Rattle.table.specs.Valid.{valid}
 use Rattle.table.specs.Fire.{labelOf}
 use Rattle.table.proofs.Tests.{every-getD}
 use Rattle.calls_act.specs.declared.Acted.{Acted}
-use Rattle.calls_act.specs.Fired.{tagOf}
+use Rattle.calls_fire.specs.Fired.{tagOf}
 use Rattle.calls_act.specs.Acted.{asked, actionOf, actionAllowed}
 use Rattle.calls_act.specs.Labelled.{named, labelled}
 use Rattle.waits.specs.Waits.{Tally, stepTally, countable}
 use Rattle.calls_tick.specs.Ticked.{room}
-use Rattle.calls_step.specs.Sweep.{recOf}
+use Rattle.calls_sweep.specs.Sweep.{recOf}
 use Rattle.calls_step.specs.declared.Stepped.{Stepped}
 use Rattle.calls_step.specs.Stepped.{stepOf, stepCounted, stepRule, stepAnswer, Took, stepsAs}
 use Rattle.run_line.specs.Line.{labelText, spaced, stepLabels}
 use Rattle.run_line.specs.Records.{labelBy, answerBy, labelIn, mayFire, Holds}
 use Rattle.run_line.proofs.Labels.{Before, step-before}
-use Rattle.calls_act.specs.declared.Label.{Label as Numbers}
+use Rattle.calls_fire.specs.declared.Label.{Label as Numbers}
 
 -- ── the label of one record ──
 -- a label in numbers, by its kind; o is the number of the definition called or of the location moved to

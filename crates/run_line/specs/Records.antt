@@ -15,7 +15,7 @@ use Rattle.table.specs.Words.{locName}
 use Rattle.table.specs.Meaning.{contextOf, netOf}
 use Rattle.table.specs.Valid.{valid}
 use Rattle.calls_act.specs.Acted.{actionAllowed}
-use Rattle.calls_step.specs.Sweep.{recOf}
+use Rattle.calls_sweep.specs.Sweep.{recOf}
 
 -- the label of an action, if it is accepted
 abbrev pub labelBy : Answer Acted → List Label

@@ -1,7 +1,7 @@
 -- `leaves_one` meets its contract: in each arm the head is known, and it leads to places in range.
 use mathlib.Core.Path.{_≡_, sym, ap, subst, _∙_}
 use Rattle.table.specs.Words.{bodyOf, headAt}
-use Rattle.calls_act.proofs.Heads.{place-fits}
+use Rattle.calls_fire.proofs.Heads.{place-fits}
 use Rattle.calls_steady.specs.Steady.{onePart, leavesOne}
 use Rattle.calls_steady.proofs.Staying.{leadsTo, leads-fit}
 use borrow.Author.Needs.{needs}

@@ -1,6 +1,6 @@
 -- `stays_one` meets its contract: mark and location decide.
 use borrow.Author.Tests.{lt-ltb, le-ltb, eq-eqb, ne-eqb}
-use Rattle.calls_act.proofs.Heads.{place-fits}
+use Rattle.calls_fire.proofs.Heads.{place-fits}
 use Rattle.calls_steady.specs.Steady.{staysOne}
 use borrow.Author.Needs.{needs}
 use Rattle.calls_steady.proofs.stays_one.Statement.{statement}

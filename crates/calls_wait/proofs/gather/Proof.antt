@@ -8,7 +8,7 @@ use Rattle.table.specs.declared.State.{State}
 use Rattle.table.specs.Meaning.{compsOf, noComp}
 use Rattle.table.proofs.InUse.{comps-length, in-use}
 use Rattle.calls_act.proofs.Positions.{few-comps, valid-parts, comp-good}
-use Rattle.calls_tick.specs.Heard.{hearsAt}
+use Rattle.calls_must.specs.Heard.{hearsAt}
 use Rattle.calls_wait.specs.Waits.{Gathered}
 use Rattle.calls_wait.proofs.Dealing.{gathered-none, gathered-more, gathered-past}
 use Rattle.calls_wait.proofs.gather.Statement.{statement}

@@ -7,7 +7,7 @@ use Rattle.table.specs.declared.State.{State}
 use Rattle.table.specs.Meaning.{countIn}
 use Rattle.table_waits.proofs.Ledger.{counted-length}
 use Rattle.calls_act.proofs.Positions.{few-comps}
-use Rattle.calls_tick.proofs.Passing.{pass-fits}
+use Rattle.calls_pass.proofs.Passing.{pass-fits}
 use Rattle.calls_step.proofs.Stepping.{fits-now, sent-few, told-good, step-steady, step-done, step-took, written}
 use borrow.Author.Needs.{needs}
 use Rattle.calls_step.proofs.step.step_free.Statement.{statement}

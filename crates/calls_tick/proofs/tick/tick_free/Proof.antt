@@ -6,7 +6,7 @@ use Rattle.table.specs.Meaning.{compsOf}
 use Rattle.table.proofs.InUse.{comps-length}
 use Rattle.calls_act.proofs.Positions.{few-comps}
 use Rattle.calls_tick.proofs.Ticking.{tick-done, tick-took}
-use Rattle.calls_tick.proofs.Passing.{pass-fits}
+use Rattle.calls_pass.proofs.Passing.{pass-fits}
 use Rattle.calls_steady.proofs.Staying.{tick-steady}
 use borrow.Author.Needs.{needs}
 use Rattle.calls_tick.proofs.tick.tick_free.Statement.{statement}

@@ -1,0 +1,5 @@
+pub mod Sweeps
+pub mod Queues
+pub mod Sweeping
+pub mod Going
+pub mod Tallying
