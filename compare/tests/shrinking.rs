@@ -64,7 +64,8 @@ fn shown(variant: Variant, lists: &[List]) {
 #[test]
 fn every_wrong_variant_is_shown_by_a_few_calls_on_a_small_script() {
     let lists: Vec<List> = (0..100).flat_map(lists_of).collect();
-    let variants = Mutex::new(Variant::every_wrong().into_iter());
+    // The last ones take longest, so they come first.
+    let variants = Mutex::new(Variant::every_wrong().into_iter().rev());
     let next = || variants.lock().expect("no thread has failed").next();
     thread::scope(|scope| {
         for _ in 0..2 {
