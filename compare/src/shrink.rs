@@ -1,9 +1,9 @@
 //! A smaller script and a shorter list of calls that still show a difference, with
 //! all rights where that shows it too. Definitions, located processes and parts are
 //! taken away, parts replaced by what stands inside them or by `stop`, and names by
-//! letters, for as long as a difference remains. Then the network that some of the calls leave is
-//! tried as a script of its own, with its waits and messages written into the table and
-//! the calls that are left.
+//! letters, for as long as a difference remains. Then the network that some of the
+//! calls leave is tried as a script of its own, with its waits and messages written
+//! into the table and the calls that are left.
 
 use std::cmp::Reverse;
 use std::iter::successors;

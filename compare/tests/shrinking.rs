@@ -1,9 +1,6 @@
 //! A difference is shown by a small script and a short list. The wrong variants
 //! of the reference engine make differences.
 
-use std::sync::Mutex;
-use std::thread;
-
 use compare::differ::Place;
 use compare::reading::ours;
 use compare::shrink::{shrink, Case};
@@ -14,6 +11,7 @@ use timo_reference::lists::Call;
 use timo_reference::random::Random;
 use timo_reference::rules::Variant;
 use timo_reference::term::{self, Edition};
+use timo_reference::trials::try_each;
 
 /// A script with what it is read with, and a list that was made by following it.
 struct List {
@@ -65,15 +63,6 @@ fn shown(variant: Variant, lists: &[List]) {
 fn every_wrong_variant_is_shown_by_a_few_calls_on_a_small_script() {
     let lists: Vec<List> = (0..100).flat_map(lists_of).collect();
     // The last ones take longest, so they come first.
-    let variants = Mutex::new(Variant::every_wrong().into_iter().rev());
-    let next = || variants.lock().expect("no thread has failed").next();
-    thread::scope(|scope| {
-        for _ in 0..2 {
-            scope.spawn(|| {
-                while let Some(variant) = next() {
-                    shown(variant, &lists);
-                }
-            });
-        }
-    });
+    let variants = Variant::every_wrong().into_iter().rev();
+    try_each(variants.collect(), |variant| shown(variant, &lists));
 }

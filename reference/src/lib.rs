@@ -1,5 +1,5 @@
 //! A reference engine for TiMo, written from document 01, from Tables 1 and 2 of
-//! source document 001 and from document 02's.
+//! source document 001 and from document 02's.
 //!
 //! Terms carry their names as strings and own their sub-terms; values are put
 //! in by substitution; an action builds new terms. The calls know no table, no
@@ -24,6 +24,7 @@
 //! | `random`    | a small seeded generator of numbers                         |
 //! | `generate`  | scripts, rights, call lists and what a host writes          |
 //! | `deep`      | a big stack for terms read without limits                   |
+//! | `trials`    | long tests on both cores                                    |
 
 pub mod calls;
 pub mod deep;
@@ -40,4 +41,5 @@ pub mod rules;
 pub mod runs;
 pub mod table;
 pub mod term;
+pub mod trials;
 pub mod writing;

@@ -1,7 +1,7 @@
-//! What `timorun` does (document 01, behind the twelve examples; document 02,
-//! reads a text, does four rounds of steps over all locations, prints a line
-//! for each step, then the network and on one more line how long articles waited on
-//! the whole, or `refused N` and no more. It reads under edition 1 with all rights.
+//! What `timorun` does (document 01, behind the twelve examples; document 02, R-1
+//! and R-9): reads a text, does four rounds of steps over all locations, prints a
+//! line for each step, then the network and on one more line how long articles waited
+//! on the whole, or `refused N` and no more. It reads under edition 1 with all rights.
 
 use std::io::{self, Read, Write};
 

@@ -13,6 +13,7 @@ use timo_reference::random::Random;
 use timo_reference::rules::Variant;
 use timo_reference::runs::{Broken, Run};
 use timo_reference::term::{Edition, Ledger, Network, Settings};
+use timo_reference::trials::try_each;
 
 #[test]
 fn the_claim_holds_on_hundreds_of_random_lists() {

@@ -3,9 +3,6 @@
 
 pub mod cases;
 
-use std::sync::Mutex;
-use std::thread;
-
 use timo_reference::calls::{Engine, Record};
 use timo_reference::refusal::Refusal;
 use timo_reference::term::{Edition, Network, Settings};
@@ -13,21 +10,6 @@ use timo_reference::writing;
 
 pub fn engine() -> Engine {
     Engine::default()
-}
-
-/// Tries each of a list, on two threads. If one fails, so does this.
-pub fn try_each<T: Send>(list: Vec<T>, one: impl Fn(T) + Sync) {
-    let list = Mutex::new(list.into_iter());
-    let next = || list.lock().expect("no thread fails here").next();
-    thread::scope(|scope| {
-        for _ in 0..2 {
-            scope.spawn(|| {
-                while let Some(item) = next() {
-                    one(item);
-                }
-            });
-        }
-    });
 }
 
 /// The network of a text under edition 1 with all rights.
