@@ -14,9 +14,8 @@ use Rattle.terms.specs.Rules.Answer.{refused, accepted}
 use Rattle.terms.specs.Same.{every}
 use Rattle.terms.specs.Runs.{Fed, straightRun}
 use Rattle.terms.specs.Descent.{ancestry, Reached}
-use Rattle.terms.proofs.Names.{and-inv}
-use Rattle.terms.proofs.Sums.{Each}
-use Rattle.terms.proofs.Sums.Each.{each-nil, each-cons}
+use Rattle.terms.proofs.Lists.{every-each}
+use Rattle.terms.proofs.Sums.{Each, each-map}
 use Rattle.terms.proofs.Mixed.{mixed-runs}
 use Rattle.terms.proofs.Descent.{leave-chain}
 use Rattle.table.specs.declared.State.{State}
@@ -33,9 +32,7 @@ use Rattle.calls.specs.Demand3.{Demand3, readRights, readContext, textRu
 use Rattle.calls.proofs.Straight.{straight-run}
 
 each-unmarked : (cs : List Component) → every unmarked cs ≡ true → Each (λ c. T (unmarked c)) cs
-unfolding every
-each-unmarked [] e = each-nil
-each-unmarked (c ∷ cs) e = let r = and-inv (unmarked c) (every unmarked cs) e in each-cons (subst T (sym (r .0)) tt) (each-unmarked cs (r .1))
+each-unmarked cs e = each-map (λ c h. subst T (sym h) tt) (every-each unmarked cs e)
 
 -- from an unmarked network
 pub mixed-calls : (w : List ℕ) {st last : State} {gs : List Given} {ks : List ℕ} {fs : List Fed} → Run w st gs ks fs last → every unmarked (netOf w st) ≡ true → Mixed (contextOf w) (netOf w st) fs (netOf w last)

@@ -10,6 +10,8 @@ use Rattle.terms.specs.Rules.{Answer, _>>=_, at, set, seek, some}
 use Rattle.terms.specs.Rules.Answer.{refused, accepted}
 use Rattle.terms.proofs.Names.{and-inv, and-in}
 use Rattle.terms.proofs.Answers.{clash, took}
+use Rattle.terms.proofs.Sums.{Each}
+use Rattle.terms.proofs.Sums.Each.{each-nil, each-cons}
 
 pub every-in : {A : Type 0} (f : A → Bool) (xs : List A) → ((p : ℕ) (x : A) → at xs p ≡ accepted x → f x ≡ true) → every f xs ≡ true
 unfolding every at
@@ -21,6 +23,17 @@ unfolding every at
 every-at f [] p x e h = clash h
 every-at f (y ∷ xs) zero x e h = rw (← took h) (and-inv (f y) (every f xs) e .0)
 every-at f (y ∷ xs) (suc p) x e h = every-at f xs p x (and-inv (f y) (every f xs) e .1) h
+
+-- and of each element by itself
+pub every-each : {A : Type 0} (f : A → Bool) (xs : List A) → every f xs ≡ true → Each (λ x. f x ≡ true) xs
+unfolding every
+every-each f [] e = each-nil
+every-each f (x ∷ xs) e = let r = and-inv (f x) (every f xs) e in each-cons (r .0) (every-each f xs (r .1))
+
+pub each-every : {A : Type 0} (f : A → Bool) {xs : List A} → Each (λ x. f x ≡ true) xs → every f xs ≡ true
+unfolding every
+each-every f each-nil = refl
+each-every f (each-cons e es) = and-in _ _ e (each-every f es)
 
 pub at-within : {A : Type 0} (xs : List A) (p : ℕ) (x : A) → at xs p ≡ accepted x → p < length xs
 unfolding at

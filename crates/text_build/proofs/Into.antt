@@ -1,7 +1,5 @@
 -- Names entered in order, each where it is not there yet: they differ, and have the form that all of them have.
 -- By induction on the list of names.
-use Prim.Native.Nat.{ℕ}
-use native.Mathlib.Omega.{arith}
 use mathlib.Core.List.{List, [], _∷_, _++_}
 use mathlib.Core.Bool.{Bool, true, false, cond, _||_, not}
 use mathlib.Core.Path.{_≡_, refl, sym, _∙_}
@@ -11,6 +9,7 @@ use Rattle.terms.specs.Same.{every}
 use Rattle.terms.specs.Letters.{member, distinct}
 use Rattle.terms.specs.Rules.{some}
 use Rattle.terms.proofs.Names.{and-inv, and-in}
+use Rattle.terms.proofs.Forced.{or-none}
 use Rattle.text.specs.Questions.{into, firsts}
 use Rattle.table.proofs.Names.{name-sym}
 use Rattle.table.proofs.Tests.{every-append}
@@ -24,10 +23,6 @@ member-append x (z ∷ xs) ys = rw (member-append x xs ys) (go (sameName x z))
     go : (b : Bool) → (b || (member x xs || member x ys)) ≡ ((b || member x xs) || member x ys)
     go true = refl
     go false = refl
-
-or-none : (a b : Bool) → (a || b) ≡ false → (a ≡ false) × (b ≡ false)
-or-none true b e = let z : _≡_ {A = ℕ} 0 1 = cc in absurd (omega arith)
-or-none false b e = (refl, e)
 
 not-in : (b : Bool) → b ≡ false → not b ≡ true
 not-in b e = rw e
