@@ -1,8 +1,8 @@
 /* The library from C, and as it stands from C++: document 01's network read,
  * stepped and printed as timorun prints it, then the single calls, what is
  * refused, a text under both editions, an embargo by rights, two index heads of
- * which the more urgent one is served, and how long articles waited. Every function of
- * timo.h is called. */
+ * which the more urgent one is served, how long articles waited, and steps in either
+ * order. Every function of timo.h is called. */
 #include <stdio.h>
 #include <string.h>
 #include "timo.h"
@@ -31,6 +31,13 @@ static const char heads[] =
 static const char articles[] =
     "Desk[out(page,9,Monday,stop,stop) | out(page,9,Tuesday,stop,stop) | out(page,9,Friday,stop,stop) | "
     "go(1,Desk,in(page,9,x,stop,stop)) | go(2,Desk,in(page,9,x,stop,stop))] .\n";
+
+/* Two desks that send articles to the index, as examples/either_order.timo. */
+static const char desks[] =
+    "North[in(page,1,x,go(0,x,out(file,1,x,stop,stop)) | go(1,x,stop),stop)] | "
+    "South[go(0,Index,stop) | go(3,Index,stop)] | "
+    "North[out(page,0,Index,stop,stop)] | "
+    "Index[in(file,1,y,stop,go(0,Missed,stop))] .\n";
 
 static uint32_t script[TIMO_WORDS], other[TIMO_WORDS];
 
@@ -319,6 +326,54 @@ static void waits(void)
     refused("a wait past the longest", timo_mean(script, &full.c, full.n).code);
 }
 
+/* Whether the step at l would move a component to m, by the labels of its records as
+ * numbers: as text a call of m and a move to m look alike. */
+static bool moves_to(struct timo_state state, uint32_t l, uint32_t m)
+{
+    struct timo_state after = state;
+    uint32_t records[TIMO_COMPONENTS][3];
+    struct timo_stepped stepped = timo_step(script, &after.c, after.n, l, records, TIMO_COMPONENTS);
+    size_t k;
+
+    for (k = 0; k < stepped.count; k++) {
+        struct timo_acted acted = timo_action(script, &state.c, state.n, records[k][0], records[k][1], records[k][2]);
+        if (acted.label.kind == TIMO_MOVE && acted.label.a == m)
+            return true;
+    }
+    return false;
+}
+
+/* The steps at two locations in either order, from the same network: whether neither
+ * moves a component to the other's location, and whether they lead to the same one. */
+static struct timo_state either(struct timo_state state, const char *one, const char *two)
+{
+    struct timo_state turned = state;
+    uint32_t l = number_of(&state, one), m = number_of(&state, two);
+    bool exchangeable = !moves_to(state, l, m) && !moves_to(state, m, l);
+
+    step(&state, l);
+    step(&state, m);
+    printf("in the other order:\n");
+    step(&turned, m);
+    step(&turned, l);
+    printf("%s and %s: may be exchanged %s, same %s\n", one, two, exchangeable ? "yes" : "no",
+        timo_same(script, &state.c, state.n, script, &turned.c, turned.n).yes ? "yes" : "no");
+    return state;
+}
+
+/* The two desks may be exchanged. A desk and the index may not: its article arrives, and
+ * the head there is still waiting or has just timed out. */
+static void either_order(void)
+{
+    struct timo_state state = read_text(desks, 1, script).state;
+
+    printf("two desks:\n");
+    state = either(state, "North", "South");
+    step(&state, number_of(&state, "Index"));
+    printf("a desk and the index:\n");
+    either(state, "North", "Index");
+}
+
 int main(void)
 {
     struct timo_reading reading = read_text(page, 1, script);
@@ -344,6 +399,7 @@ int main(void)
     rights();
     urgent();
     waits();
+    either_order();
     length = timo_printout((const uint8_t *)page, strlen(page), printed, sizeof printed);
     printf("printout: %zu bytes, %zu where none are lent\n", length, timo_printout((const uint8_t *)page, strlen(page), NULL, 0));
     fwrite(printed, 1, length, stdout);

@@ -29,6 +29,12 @@ const ARTICLES: &[u8] = b"Desk[out(page,9,Monday,stop,stop) | out(page,9,Tuesday
     out(page,9,Friday,stop,stop) | go(1,Desk,in(page,9,x,stop,stop)) | \
     go(2,Desk,in(page,9,x,stop,stop))] .\n";
 
+/// Two desks that send articles to the index, as `examples/either_order.timo`.
+const DESKS: &[u8] = b"North[in(page,1,x,go(0,x,out(file,1,x,stop,stop)) | go(1,x,stop),stop)] | \
+    South[go(0,Index,stop) | go(3,Index,stop)] | \
+    North[out(page,0,Index,stop,stop)] | \
+    Index[in(file,1,y,stop,go(0,Missed,stop))] .\n";
+
 /// The bytes that a call wrote, or its refusal.
 fn put(answer: Result<usize, u32>, bytes: &[u8]) {
     match answer {
@@ -288,6 +294,53 @@ fn waits() -> Result<(), u32> {
     Ok(())
 }
 
+/// Whether the step at one location would move a component to the other, by the labels
+/// of its records as numbers: as text a call and a move can look alike.
+fn moves_to(table: &Table, from: u32, to: u32) -> Result<bool, u32> {
+    let (mut after, mut acted) = (table.clone(), table.clone());
+    let mut records = [[0; 3]; 256];
+    let count = after.step(from, &mut records)?;
+    for [kind, p, q] in &records[..count] {
+        let label = acted.action(*kind, *p as usize, *q as usize)?;
+        if label.kind == 2 && label.a == to {
+            return Ok(true);
+        }
+    }
+    Ok(false)
+}
+
+/// The steps at two locations in either order, from the same network: whether neither
+/// moves a component to the other's location, and whether they lead to the same one.
+fn either(table: &mut Table, one: &str, two: &str) -> Result<(), u32> {
+    let mut turned = table.clone();
+    let l = number_of(table, one)? as u32;
+    let m = number_of(table, two)? as u32;
+    let exchangeable = !moves_to(table, l, m)? && !moves_to(table, m, l)?;
+    step(table, l)?;
+    step(table, m)?;
+    println!("in the other order:");
+    step(&mut turned, m)?;
+    step(&mut turned, l)?;
+    println!(
+        "{one} and {two}: may be exchanged {}, same {}",
+        yes_or_no(exchangeable),
+        yes_or_no(table.same(&turned)?)
+    );
+    Ok(())
+}
+
+/// The two desks may be exchanged. A desk and the index may not: its article arrives, and
+/// the head there is still waiting or has just timed out.
+fn either_order() -> Result<(), u32> {
+    let mut table = Table::read(DESKS, Settings::EDITION_1)?;
+    println!("two desks:");
+    either(&mut table, "North", "South")?;
+    let index = number_of(&table, "Index")? as u32;
+    step(&mut table, index)?;
+    println!("a desk and the index:");
+    either(&mut table, "North", "Index")
+}
+
 fn main() -> Result<(), u32> {
     let read = Table::read(PAGE, Settings::EDITION_1)?;
     let mut table = read.clone();
@@ -305,6 +358,7 @@ fn main() -> Result<(), u32> {
     rights()?;
     urgent()?;
     waits()?;
+    either_order()?;
     let mut printed = vec![0; PRINTOUT];
     let length = printout(PAGE, &mut printed);
     let measured = printout(PAGE, &mut []);

@@ -1,14 +1,16 @@
 //! `compare SEED N`: N generated scripts with rights and call lists, and ten times
 //! as many texts of any sort, through the proved engine's library and the
-//! reference engine under both editions, and thirty tables made by hand from each
-//! script; and the printouts of all texts. Prints the first difference with its seed, a
-//! shrunken script and list, and ends with status 1; then puts each wrong variant of the
-//! rules in the reference's place and says of any that no list has told apart.
+//! reference engine under both editions, pairs of whole steps in either order and
+//! thirty tables made by hand from each script; and the printouts of all texts. Prints
+//! the first difference with its seed, a shrunken script and list, and ends with status
+//! 1; then puts each wrong variant of the rules in the reference's place and says of any
+//! that no list has told apart.
 
 use std::env;
 use std::process::ExitCode;
 
 use compare::differ::{differ, Difference, Place, Tally};
+use compare::exchange;
 use compare::reading::{self, ours, theirs, with_rights};
 use compare::shrink::{shrink, Case};
 use compare::tables;
@@ -38,6 +40,7 @@ fn main() -> ExitCode {
     let compared = texts(*seed, *count)
         .and_then(|()| printouts(*seed, *count))
         .and_then(|()| all_lists(*seed, *count))
+        .and_then(|lists| exchanges(&lists).map(|()| lists))
         .and_then(|lists| all_tables(&lists).and_then(|()| variants(&lists)));
     match compared {
         Ok(()) => ExitCode::SUCCESS,
@@ -225,6 +228,38 @@ fn list(seed: u64, index: u64) -> List {
     }
 }
 
+/// Pairs of whole steps in either order, from what each script is after some steps, under
+/// both editions and with its own rights; each wrong form of the claim is told apart.
+fn exchanges(lists: &[List]) -> Result<(), String> {
+    let mut tally = exchange::Tally::default();
+    for list in lists {
+        for edition in Edition::BOTH.map(Edition::number) {
+            let settings = list.under(edition);
+            let Ok(pair) = reading::read(&list.script, settings)? else {
+                continue;
+            };
+            let mut random = Random::new(list.seed ^ u64::from(edition));
+            let exchanged = exchange::exchange(&mut random, &pair, &mut tally);
+            exchanged.map_err(|difference| {
+                let rights = rights::print(&pair.network.script.rights, &pair.network.script);
+                let script = in_lines(&list.script);
+                format!(
+                    "script of seed {}, edition {edition}:\n{rights}{script}\n{difference}",
+                    list.seed
+                )
+            })?;
+        }
+    }
+    println!("pairs of whole steps by both alike in either order: {tally}");
+    let unnoticed = &tally.unnoticed;
+    enough(
+        unnoticed.is_empty(),
+        &format!("not told apart: {unnoticed:?}"),
+    )?;
+    let few = !tally.is_everywhere() && lists.len() >= 100;
+    enough(!few, "no pair of steps of one sort")
+}
+
 /// Tables made by hand from what each script is after some steps, under an edition
 /// by its seed and with its own rights.
 fn all_tables(lists: &[List]) -> Result<(), String> {
@@ -307,6 +342,11 @@ fn rights_of(case: &Case) -> String {
     read.map_or(String::new(), shown)
 }
 
+/// A script as it can be shown.
+fn in_lines(script: &[u8]) -> String {
+    script.escape_ascii().to_string().replace("\\n", "\n")
+}
+
 /// The difference on a script and a list, both shrunken.
 fn report(name: &str, engine: Engine, settings: Settings, script: &[u8], calls: &[Call]) -> String {
     let Some(case) = Case::of(engine, settings, script, calls) else {
@@ -322,7 +362,7 @@ fn report(name: &str, engine: Engine, settings: Settings, script: &[u8], calls: 
         "{name}, edition {}, shrunken:\n{}{}\n{}differs {place}: {}",
         settings.edition,
         rights_of(&case),
-        case.script.escape_ascii().to_string().replace("\\n", "\n"),
+        in_lines(&case.script),
         lists::print(&case.calls),
         case.difference.what
     )

@@ -1,5 +1,5 @@
 //! A reference engine for TiMo, written from document 01, from Tables 1 and 2 of
-//! source document 001 and from document 02's.
+//! source document 001 and from document 02's.
 //!
 //! Terms carry their names as strings and own their sub-terms; values are put
 //! in by substitution; an action builds new terms. The calls know no table, no
@@ -17,6 +17,7 @@
 //! | `table`     | question 17 of a table, and the network that it stands for  |
 //! | `layout`    | a network laid out as a table                               |
 //! | `runs`      | the straight and the grouped run and what is claimed        |
+//! | `exchange`  | two whole steps in either order and what is claimed         |
 //! | `program`   | what `timorun` does, on any input and output                |
 //! | `lists`     | call lists as text                                          |
 //! | `rights`    | rights as text                                              |
@@ -28,6 +29,7 @@
 
 pub mod calls;
 pub mod deep;
+pub mod exchange;
 pub mod generate;
 pub mod layout;
 pub mod lists;

@@ -303,7 +303,8 @@ fn proposal(random: &mut Random, network: &Network) -> Call {
     Call::Proposal { location, records }
 }
 
-fn whole_step(random: &mut Random, network: &Network, location: &str) -> Vec<Record> {
+/// Actions at a location, at times past what is forced, until its tick is allowed.
+pub fn whole_step(random: &mut Random, network: &Network, location: &str) -> Vec<Record> {
     let rules = Rules::default();
     let mut components = network.components.clone();
     let mut records = Vec::new();
