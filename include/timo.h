@@ -246,8 +246,8 @@ struct timo_ticked timo_tick(const uint32_t script[TIMO_WORDS], struct timo_comp
  * unchanged; a refusal leaves components, n and records unchanged. Refusals: 17,
  * 8, 15, 18, 13; 18 if the messages so far and the communications of this step are
  * more than TIMO_MESSAGES, so that a step without communications is never
- * refused by it. Steps at two locations may be done in either order if neither moves
- * a component to the other's location: docs/EXCHANGE.md. */
+ * refused by it. From a network without marks, steps at two locations may be done in
+ * either order if neither moves a component to the other's: docs/EXCHANGE.md. */
 struct timo_stepped timo_step(const uint32_t script[TIMO_WORDS], struct timo_comps *c, size_t n, uint32_t l, uint32_t (*records)[3], size_t lent);
 
 /* A proposal at location l: the records in order, so many as are given, then

@@ -294,28 +294,13 @@ fn waits() -> Result<(), u32> {
     Ok(())
 }
 
-/// Whether the step at one location would move a component to the other, by the labels
-/// of its records as numbers: as text a call and a move can look alike.
-fn moves_to(table: &Table, from: u32, to: u32) -> Result<bool, u32> {
-    let (mut after, mut acted) = (table.clone(), table.clone());
-    let mut records = [[0; 3]; 256];
-    let count = after.step(from, &mut records)?;
-    for [kind, p, q] in &records[..count] {
-        let label = acted.action(*kind, *p as usize, *q as usize)?;
-        if label.kind == 2 && label.a == to {
-            return Ok(true);
-        }
-    }
-    Ok(false)
-}
-
 /// The steps at two locations in either order, from the same network: whether neither
 /// moves a component to the other's location, and whether they lead to the same one.
 fn either(table: &mut Table, one: &str, two: &str) -> Result<(), u32> {
     let mut turned = table.clone();
     let l = number_of(table, one)? as u32;
     let m = number_of(table, two)? as u32;
-    let exchangeable = !moves_to(table, l, m)? && !moves_to(table, m, l)?;
+    let exchangeable = table.may_exchange(l, m)?;
     step(table, l)?;
     step(table, m)?;
     println!("in the other order:");

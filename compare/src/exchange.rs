@@ -20,7 +20,7 @@ use crate::agree::{equal, Agreed};
 use crate::alike;
 use crate::reading::Pair;
 use crate::table;
-use crate::timo::{self, State, Table, LABEL, LINE};
+use crate::timo::{self, State, Table, COMPONENTS, LABEL, LINE};
 
 /// Networks to one script that steps start from, and pairs of steps to each.
 const STARTS: usize = 3;
@@ -131,7 +131,7 @@ pub fn exchange(random: &mut Random, read: &Pair, tally: &mut Tally) -> Result<(
 fn own_step(location: u32) -> Call {
     Call::Step {
         location,
-        room: 256,
+        room: COMPONENTS,
     }
 }
 
@@ -300,11 +300,15 @@ impl Both {
         let Some(pair) = self.own_steps(at)? else {
             return Ok(());
         };
-        if !Form::Right.admits(&pair) {
+        self.ended.state = self.table.state;
+        self.restart();
+        let [first, second] = at;
+        let admitted = Form::Right.admits(&pair);
+        let ours = self.table.may_exchange(first, second);
+        equal("may be exchanged", &ours.unwrap_or(false), &admitted)?;
+        if !admitted {
             return Ok(());
         }
-        self.ended.state = self.table.state;
-        let [first, second] = at;
         let Some(other) = self.own_steps([second, first])? else {
             return Err("own steps refused in the other order".to_string());
         };
@@ -342,7 +346,7 @@ impl Both {
     /// one that is refused.
     fn own_records(&mut self, location: u32) -> Vec<[u32; 3]> {
         let before = self.table.state;
-        let mut records = vec![[0; 3]; 256];
+        let mut records = vec![[0; 3]; COMPONENTS];
         let count = self.table.step(location, &mut records);
         self.table.state = before;
         records.truncate(count.unwrap_or(0));

@@ -20,8 +20,14 @@ pub const LABEL: usize = 51;
 pub const LINE: usize = 13_329;
 pub const PRINTOUT: usize = 3_477_768;
 
+/// How many components a state has space for.
+pub const COMPONENTS: usize = 256;
+
 /// The mark of a component that has none.
 pub const UNMARKED: u32 = 64;
+
+/// The kind of a move.
+pub const MOVE: u32 = 2;
 
 /// Where a wait halts, and how many messages are counted.
 pub const WAIT: u32 = 1_000_000;
@@ -109,7 +115,7 @@ impl Comp {
 #[repr(C)]
 #[derive(Clone, Copy, Debug, PartialEq, Eq)]
 pub struct Comps {
-    pub at: [Comp; 256],
+    pub at: [Comp; COMPONENTS],
     pub total_low: u32,
     pub total_high: u32,
     pub messages: u32,
@@ -118,7 +124,7 @@ pub struct Comps {
 
 impl Comps {
     pub const ZERO: Comps = Comps {
-        at: [Comp::ZERO; 256],
+        at: [Comp::ZERO; COMPONENTS],
         total_low: 0,
         total_high: 0,
         messages: 0,
@@ -138,7 +144,7 @@ impl Comps {
 }
 
 /// The spare words of a state: those of every position, and those behind the messages.
-pub type Spare = ([[u32; 3]; 256], [u32; 13]);
+pub type Spare = ([[u32; 3]; COMPONENTS], [u32; 13]);
 
 /// The components; the first `n` are in use.
 #[repr(C)]
@@ -472,6 +478,32 @@ impl Table {
         };
         self.state.n = stepped.n;
         answer(stepped.code, stepped.count)
+    }
+
+    /// Whether the steps at two locations may be done in either order (document 02, R-7),
+    /// or the number of a step's refusal: the locations are different, nothing is marked,
+    /// and neither step would move a component to the other's location.
+    pub fn may_exchange(&self, one: u32, other: u32) -> Result<bool, u32> {
+        let there = self.step_moves(one, other)?;
+        let back = self.step_moves(other, one)?;
+        let mut components = self.state.c.at.iter().take(self.state.n);
+        let unmarked = components.all(|c| c.mark == UNMARKED);
+        Ok(one != other && unmarked && !there && !back)
+    }
+
+    /// Whether the step at a location would move a component to another, by the labels of
+    /// its records as numbers: as text a call and a move can look alike.
+    fn step_moves(&self, from: u32, to: u32) -> Result<bool, u32> {
+        let mut lent = [[0; 3]; COMPONENTS];
+        let count = self.clone().step(from, &mut lent)?;
+        let mut acting = self.clone();
+        for [kind, p, q] in &lent[..count] {
+            let label = acting.action(*kind, *p as usize, *q as usize)?;
+            if label.kind == MOVE && label.a == to {
+                return Ok(true);
+            }
+        }
+        Ok(false)
     }
 
     /// The records in order and then the tick, all or none.

@@ -180,6 +180,26 @@ fn own_steps_in_either_order() {
     }
 }
 
+/// What the Rust interface says of two locations.
+#[test]
+fn what_may_be_exchanged() {
+    for settings in Settings::BOTH {
+        let clocks = read(CLOCKS, settings).table;
+        assert_eq!(clocks.may_exchange(0, 1), Ok(false), "A moves to B");
+        assert_eq!(clocks.may_exchange(1, 0), Ok(false));
+        assert_eq!(clocks.may_exchange(0, 2), Err(8), "no such location");
+        let mut table = read(SPREAD, settings).table;
+        assert_eq!(table.may_exchange(0, 2), Ok(true));
+        assert_eq!(table.may_exchange(2, 0), Ok(true));
+        assert_eq!(table.may_exchange(0, 1), Ok(false), "C moves to A");
+        assert_eq!(table.may_exchange(0, 0), Ok(false), "one location");
+        assert!(table.action(CALL, 0, 0).is_ok());
+        assert_eq!(table.may_exchange(0, 2), Ok(false), "a mark");
+        table.state.n = 0;
+        assert_eq!(table.may_exchange(0, 2), Err(17), "no network");
+    }
+}
+
 /// A `go` that lacks its right stands, and the steps may be exchanged; so they may where
 /// one moves to its own location.
 #[test]
