@@ -57,39 +57,37 @@ fn through_both(pair: &Pair, steps: &Succession) -> Tally {
 
 const CLOCKS: &str = "A[go(0,B,out(c,1,B,stop,stop))] | B[in(c,1,x,stop,stop)] .";
 
-#[test]
-fn a_move_of_the_second_step_to_the_first_location() {
+/// Two steps that both engines accept, and what the proved engine answers to them in the
+/// other order; the claim is not made of them, and one wrong form makes it.
+fn not_exchanged(steps: [(u32, &[[u32; 3]]); 2], answers: [Result<(), u32>; 2], wrong: Form) {
+    let [first, second] = steps;
     for settings in Settings::BOTH {
         let pair = read(CLOCKS, settings);
-        let mut table = pair.table.clone();
-        assert_eq!(propose(&mut table, 1, &[]), Ok(()));
-        assert_eq!(propose(&mut table, 0, &[[MOVE, 0, 0]]), Ok(()));
-        let mut other = pair.table.clone();
-        assert_eq!(propose(&mut other, 0, &[[MOVE, 0, 0]]), Ok(()));
-        assert_eq!(propose(&mut other, 1, &[]), Err(12), "the pair could meet");
-        let steps = performed(&pair.network, [(1, &[]), (0, &[[MOVE, 0, 0]])]);
-        let tally = through_both(&pair, &steps);
+        let propose_each = |steps: [(u32, &[[u32; 3]]); 2]| {
+            let mut table = pair.table.clone();
+            steps.map(|(location, records)| propose(&mut table, location, records))
+        };
+        assert_eq!(propose_each(steps), [Ok(()), Ok(())]);
+        assert_eq!(propose_each([second, first]), answers);
+        let tally = through_both(&pair, &performed(&pair.network, steps));
         assert_eq!((tally.turned_away, tally.drawn.exchanged), (1, 0));
-        assert!(!tally.unnoticed.contains(&Form::SecondMayMove));
+        assert!(!tally.unnoticed.contains(&wrong));
         assert_eq!(tally.unnoticed.len(), Form::WRONG.len() - 1);
     }
 }
 
+/// In the other order the pair could meet at B, and stops its tick.
+#[test]
+fn a_move_of_the_second_step_to_the_first_location() {
+    let steps: [(u32, &[[u32; 3]]); 2] = [(1, &[]), (0, &[[MOVE, 0, 0]])];
+    not_exchanged(steps, [Ok(()), Err(12)], Form::SecondMayMove);
+}
+
+/// In the other order there is no output at B.
 #[test]
 fn a_move_of_the_first_step_to_the_second_location() {
-    for settings in Settings::BOTH {
-        let pair = read(CLOCKS, settings);
-        let mut table = pair.table.clone();
-        assert_eq!(propose(&mut table, 0, &[[MOVE, 0, 0]]), Ok(()));
-        assert_eq!(propose(&mut table, 1, &[[MEET, 0, 1]]), Ok(()));
-        let mut other = pair.table.clone();
-        assert_eq!(propose(&mut other, 1, &[[MEET, 0, 1]]), Err(10));
-        let steps = performed(&pair.network, [(0, &[[MOVE, 0, 0]]), (1, &[[MEET, 0, 1]])]);
-        let tally = through_both(&pair, &steps);
-        assert_eq!((tally.turned_away, tally.drawn.exchanged), (1, 0));
-        assert!(!tally.unnoticed.contains(&Form::FirstMayMove));
-        assert_eq!(tally.unnoticed.len(), Form::WRONG.len() - 1);
-    }
+    let steps: [(u32, &[[u32; 3]]); 2] = [(0, &[[MOVE, 0, 0]]), (1, &[[MEET, 0, 1]])];
+    not_exchanged(steps, [Err(10), Ok(())], Form::FirstMayMove);
 }
 
 /// The engine's own steps of example 8 do not meet the condition, and their order shows.

@@ -3,10 +3,9 @@
 -- what is read is unmarked (Gives of the crate text).
 use Prim.Native.Nat.{ℕ, min}
 use native.Mathlib.Omega.{arith}
-use mathlib.Core.List.{List, [], _∷_}
+use mathlib.Core.List.{List}
 use mathlib.Core.Bool.{true}
-use mathlib.Core.Path.{_≡_, refl, sym, ap, subst, _∙_}
-use lib.Dec.{T}
+use mathlib.Core.Path.{_≡_, refl, ap, subst, _∙_}
 use lib.ListN.{length}
 use Rattle.terms.specs.Terms.{Component, Network}
 use Rattle.terms.specs.Rules.{Answer, unmarked}
@@ -15,7 +14,6 @@ use Rattle.terms.specs.Same.{every}
 use Rattle.terms.specs.Runs.{Fed, straightRun}
 use Rattle.terms.specs.Descent.{ancestry, Reached}
 use Rattle.terms.proofs.Lists.{every-each}
-use Rattle.terms.proofs.Sums.{Each, each-map}
 use Rattle.terms.proofs.Mixed.{mixed-runs}
 use Rattle.terms.proofs.Descent.{leave-chain}
 use Rattle.table.specs.declared.State.{State}
@@ -31,13 +29,10 @@ use Rattle.calls.specs.Run.{Given, Run, Mixed, RunsAs}
 use Rattle.calls.specs.Demand3.{Demand3, readRights, readContext, textRuns}
 use Rattle.calls.proofs.Straight.{straight-run}
 
-each-unmarked : (cs : List Component) → every unmarked cs ≡ true → Each (λ c. T (unmarked c)) cs
-each-unmarked cs e = each-map (λ c h. subst T (sym h) tt) (every-each unmarked cs e)
-
 -- from an unmarked network
 pub mixed-calls : (w : List ℕ) {st last : State} {gs : List Given} {ks : List ℕ} {fs : List Fed} → Run w st gs ks fs last → every unmarked (netOf w st) ≡ true → Mixed (contextOf w) (netOf w st) fs (netOf w last)
 mixed-calls w {st} {last} {gs} {ks} {fs} r u =
-    let m = mixed-runs (contextOf w) fs (netOf w st) (netOf w last) (each-unmarked (netOf w st) u) (straight-run w r) in
+    let m = mixed-runs (contextOf w) fs (netOf w st) (netOf w last) (every-each unmarked (netOf w st) u) (straight-run w r) in
     record { grouped = m .0; runs = m .1; same = m .2 }
 
 -- what is read has no mark

@@ -12,8 +12,7 @@ use borrow.Author.Tests.{eqb-true, eqb-false}
 use Rattle.terms.specs.Terms.{Component}
 use Rattle.terms.specs.Rules.{some}
 use Rattle.terms.specs.Same.{equal, without, reordered}
-use Rattle.terms.proofs.Sums.{total}
-use Rattle.terms.proofs.Mixed.{perm-≈}
+use Rattle.terms.proofs.Mixed.{perm-long}
 use Rattle.terms.proofs.Same.{reordered-perm}
 use Rattle.table.specs.declared.Comp.{Comp}
 use Rattle.table.specs.declared.State.{State}
@@ -22,13 +21,8 @@ use Rattle.table.proofs.InUse.{comps-length, in-use, comp-at}
 use Rattle.calls_same.specs.Unused.{unused, raisedTo}
 
 -- ── how many ──
-total-long : (cs : List Component) → total (λ c. 1) cs ≡ length cs
-unfolding total
-total-long [] = refl
-total-long (c ∷ cs) = omega (arith, total-long cs)
-
 reordered-long : (cs es : List Component) → reordered cs es ≡ true → length cs ≡ length es
-reordered-long cs es e = sym (total-long cs) ∙ perm-≈ (reordered-perm cs es e) (λ c. 1) ∙ total-long es
+reordered-long cs es e = perm-long (reordered-perm cs es e)
 
 pub uneven : (cs es : List Component) → (length cs ≡ length es → ⊥) → false ≡ reordered cs es
 uneven cs es h = go (reordered cs es) refl

@@ -44,11 +44,15 @@ by-ready {G} l c f g = pick (ready l c) refl
     pick false e = g e
 
 -- what stands elsewhere stays
+pub stays : (d : Context) (l : Name) (c : Component) → unmarked c ≡ true → ready l c ≡ false → pass d (mine l) l c ≡ c ∷ []
+unfolding unmarked ready pass
+stays d l (comp h (by k) p) u e = absurd (false≢true u)
+stays d l (comp h none (one a)) u e = rw e
+stays d l (comp h none (a ∥ p)) u e = refl
+
 away : (d : Context) (l : Name) (w : Component → ℕ) (c : Component) → unmarked c ≡ true → ready l c ≡ false → P d l w c ≡ w c
-unfolding unmarked ready pass total
-away d l w (comp h (by k) p) u e = absurd (false≢true u)
-away d l w (comp h none (one a)) u e = rw e (omega arith)
-away d l w (comp h none (a ∥ p)) u e = omega arith
+unfolding total
+away d l w c u e = rw (stays d l c u e) (omega arith)
 
 -- two weights that agree on unmarked components for which Q holds
 abbrev Agree : (Name → Type 0) → (Component → ℕ) → (Component → ℕ) → Type 0
@@ -75,27 +79,23 @@ unfolding total
 total-nil [] = refl
 total-nil (x ∷ xs) = omega (arith, total-nil xs)
 
+-- ── two locations ──
+pub apart : (l m : Name) → sameName l m ≡ false → (h : Name) → sameName h l ≡ true → sameName h m ≡ false
+apart l m n h e = rw (name-eq h l e) n
+
+pub other-way : (l m : Name) → sameName l m ≡ false → sameName m l ≡ false
+other-way l m n = go (sameName m l) refl
+  where
+    go : (b : Bool) → sameName m l ≡ b → b ≡ false
+    go false k = refl
+    go true k = absurd (false≢true (sym (apart l m n m k) ∙ name-refl m))
+
+not-there : (l m : Name) → sameName l m ≡ false → (c : Component) → ready l c ≡ true → ready m c ≡ false
+unfolding ready
+not-there l m n (comp h none p) e = apart l m n h e
+not-there l m n (comp h (by k) p) e = refl
+
 module _ (l m : Name) (n : sameName l m ≡ false) where
-  pub apart : (h : Name) → sameName h l ≡ true → sameName h m ≡ false
-  apart h e = rw (name-eq h l e) n
-
-  pub apart′ : (h : Name) → sameName h m ≡ true → sameName h l ≡ false
-  apart′ h e = go (sameName h l) refl
-    where
-      go : (b : Bool) → sameName h l ≡ b → b ≡ false
-      go false k = refl
-      go true k = absurd (false≢true (sym (apart h k) ∙ e))
-
-  not-there : (c : Component) → ready l c ≡ true → ready m c ≡ false
-  unfolding ready
-  not-there (comp h none p) e = apart h e
-  not-there (comp h (by k) p) e = refl
-
-  not-there′ : (c : Component) → ready m c ≡ true → ready l c ≡ false
-  unfolding ready
-  not-there′ (comp h none p) e = apart′ h e
-  not-there′ (comp h (by k) p) e = refl
-
   module _ (d : Context) (w : Component → ℕ) (c : Component) (u : unmarked c ≡ true) where
     -- the tick at m and what is not ready there
     off-tick : off m (P d m w) c ≡ off m w c
@@ -107,39 +107,39 @@ module _ (l m : Name) (n : sameName l m ≡ false) where
     unfolding on ready
     tick-on =
         by-ready l c
-        (λ e. home d l (on m w) nil (λ h p k. rw (apart h k)) c u e ∙ total-nil _ ∙ rw (not-there c e))
+        (λ e. home d l (on m w) nil (λ h p k. rw (apart l m n h k)) c u e ∙ total-nil _ ∙ rw (not-there l m n c e))
         (λ e. away d l (on m w) c u e)
 
     tick-off : P d l (off m w) c ≡ on l (P d l w) c + off l (off m w) c
     unfolding on off ready
     tick-off =
         by-ready l c
-        (λ e. rw e (home d l (off m w) w (λ h p k. rw (apart h k)) c u e ∙ omega arith))
+        (λ e. rw e (home d l (off m w) w (λ h p k. rw (apart l m n h k)) c u e ∙ omega arith))
         (λ e. rw e (away d l (off m w) c u e ∙ omega arith))
 
     on-tick-on : on m (P d m (on l w)) c ≡ 0
     unfolding on ready
     on-tick-on =
         by-ready m c
-        (λ e. rw e (home d m (on l w) nil (λ h p k. rw (apart′ h k)) c u e ∙ total-nil _))
+        (λ e. rw e (home d m (on l w) nil (λ h p k. rw (apart m l (other-way l m n) h k)) c u e ∙ total-nil _))
         (λ e. rw e)
 
     off-on : off m (on l w) c ≡ on l w c
     unfolding on off
-    off-on = by-ready m c (λ e. rw (e, not-there′ c e)) (λ e. rw e)
+    off-on = by-ready m c (λ e. rw (e, not-there m l (other-way l m n) c e)) (λ e. rw e)
 
     on-both : on m (P d m (P d l w)) c ≡ on m (P d m w) c
     unfolding on ready unmarked
     on-both =
         by-ready m c
-        (λ e. rw e (home d m (P d l w) w (λ h p k. away d l w (comp h none p) refl (apart′ h k)) c u e))
+        (λ e. rw e (home d m (P d l w) w (λ h p k. away d l w (comp h none p) refl (apart m l (other-way l m n) h k)) c u e))
         (λ e. rw e)
 
     off-both : off m (P d l w) c ≡ on l (P d l w) c + off l (off m w) c
     unfolding on off
     off-both =
         by-ready l c
-        (λ e. rw (e, not-there c e) (omega arith))
+        (λ e. rw (e, not-there l m n c e) (omega arith))
         (λ e. rw e (by-ready m c (λ f. rw f) (λ f. rw (f, away d l w c u e) (omega arith))))
 
 -- ── what a firing at l leaves, where no move goes to m ──
@@ -183,10 +183,6 @@ fits-left d l m (together (comp h none (one a)) (comp k none (one b))) f e q t n
 
 pub fired-left : (d : Context) (l m : Name) (x : Firing) (f : Fired) → fire d x ≡ accepted f → here x ≡ l → movesTo m (f .label) ≡ false → sameName l m ≡ false → Each (Left l m) (f .after)
 fired-left d l m x f e = fits-left d l m x f (fire-fits d x f e)
-
-left-on : (k l m : Name) (w : Component → ℕ) (c : Component) → Left l m c → on k w c ≡ 0
-unfolding on ready
-left-on k l m w c (left e) = refl
 
 left-tick : (d : Context) (l m : Name) (v w : Component → ℕ) → Agree (λ h. sameName h m ≡ false) v w → (c : Component) → Left l m c → P d l v c ≡ P d l w c
 unfolding pass total
@@ -267,9 +263,6 @@ module _ (d : Context) (l m : Name) (n : sameName l m ≡ false) {ns : List Note
   unfolding off ready
   pre-not-here = pre-same d l m n ks (off l w) nil (λ h p q. rw q) ∙ pre-nil ns
 
-  post-ready : (k : Name) → post d (on k w) ns ≡ 0
-  post-ready k = post-same d l m n ks (on k w) nil (λ c q. left-on k l m w c q) ∙ post-nil d ns
-
   post-there : post d (P d l (on m w)) ns ≡ 0
   unfolding on ready
   post-there = post-same d l m n ks (P d l (on m w)) nil (λ c q. left-tick d l m (on m w) nil (λ h p e. rw e) c q ∙ total-nil (pass d (mine l) l c)) ∙ post-nil d ns
@@ -309,7 +302,7 @@ rest₁ d m r₁ r₂ ns₂ w = (post d (P d m w) ns₂ + total (on m (P d m w))
 
 module _ {d : Context} {l m : Name} {net z₁ z₂ r₁ r₂ : List Component} {ns₁ ns₂ : List Note} (t : Two d l m net z₁ z₂ r₁ r₂ ns₁ ns₂) where
   differ′ : sameName m l ≡ false
-  differ′ = apart′ l m (t .differ) m (name-refl m)
+  differ′ = other-way l m (t .differ)
 
   -- after the step at l
   middle : (w : Component → ℕ) → total w (flatMap (pass d (mine l) l) z₁) ≡ post d (P d l w) ns₁ + total (P d l w) r₁
@@ -456,7 +449,7 @@ exchange d l m xs ys net r s t =
 pub exchange-back : ExchangeBack
 exchange-back d l m xs ys net r s ys′ xs′ t e =
     record {
-      differ = apart′ l m (t .differ) m (name-refl m);
+      differ = other-way l m (t .differ);
       unmarked-all = t .unmarked-all;
       first = e .first;
       second = e .second;

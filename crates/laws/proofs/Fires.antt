@@ -19,7 +19,7 @@ use Rattle.terms.proofs.Names.{name-eq, name-refl}
 use Rattle.terms.proofs.Answers.{took, bind-inv, cond-inv}
 use Rattle.terms.proofs.Sums.{total, Each, total-flatMap, total-each, total-none, total-ext, each-only, each-map}
 use Rattle.terms.proofs.Sums.Each.{each-nil, each-cons}
-use Rattle.terms.proofs.Mixed.{Shape, replaced, spot-ok, afterOf, after*, Good, noted, act-ok, pre, post, plainly, plain-before, plain-after, shape-of, mine, passed, pressing-≈, tick-inv}
+use Rattle.terms.proofs.Mixed.{Shape, replaced, spot-ok, afterOf, after*, Good, noted, act-ok, pre, post, plainly, plain-before, plain-after, shape-of, mine, passed, pressing-≈, tick-inv, unmarked-total}
 use Rattle.terms.proofs.Mixed.Shape.{one-shape, two-shape}
 use Rattle.terms.proofs.Steps.{fires-here, length-setAll}
 use Rattle.laws.specs.Exchange.{firings}
@@ -165,14 +165,6 @@ plain-total w z = total-flatMap w (only unmarked) z ∙ total-ext _ _ z one-by-o
     one-by-one : (c : Component) → total w (only unmarked c) ≡ plainly w c
     one-by-one (comp l none p) = omega arith
     one-by-one (comp l (by m) p) = refl
-
-unmarked-total : (w : Component → ℕ) {s : List Component} → Each (λ c. unmarked c ≡ true) s → total (plainly w) s ≡ total w s
-unfolding unmarked plainly
-unmarked-total w u = total-each _ _ u one-by-one
-  where
-    one-by-one : (c : Component) → unmarked c ≡ true → plainly w c ≡ w c
-    one-by-one (comp l none p) e = refl
-    one-by-one (comp l (by m) p) e = absurd (false≢true e)
 
 pre-plain : (d : Context) (l : Name) (w : Component → ℕ) {ns : List Note} → Each (GoodAt d l) ns → pre (plainly w) ns ≡ pre w ns
 unfolding pre

@@ -3,7 +3,7 @@ use Prim.Native.Nat.{_≤_}
 use native.Mathlib.Omega.{arith}
 use mathlib.Core.List.{List, [], _∷_, flatMap}
 use mathlib.Core.Bool.{Bool, true, false, cond}
-use mathlib.Core.Path.{_≡_, refl, ap, sym, _∙_}
+use mathlib.Core.Path.{_≡_, ap}
 use lib.ListN.{length, length-append}
 use Rattle.terms.specs.Names.{Name, sameName}
 use Rattle.terms.specs.Terms.{Process, Component, Context}
@@ -13,8 +13,7 @@ use Rattle.terms.specs.Terms.Component.{comp}
 use Rattle.terms.specs.Rules.{Action, split, wait, pass}
 use Rattle.terms.specs.Rules.Answer.{accepted}
 use Rattle.terms.specs.Step.{Done, wholeStep}
-use Rattle.terms.proofs.Sums.{total}
-use Rattle.terms.proofs.Mixed.{mine, perm-≈}
+use Rattle.terms.proofs.Mixed.{mine, perm-long}
 use Rattle.laws.specs.Exchange.{InSpace}
 use Rattle.laws.proofs.Fires.{whole, acts-size}
 
@@ -47,12 +46,7 @@ never-fewer d l xs net r e =
     let s = whole d l xs net r e in
     omega (arith, acts-size d l xs net (s .mid) (s .acts), flat-grows (pass d (mine l) l) (pass-some d (mine l) l) (s .mid .comps), ap length (s .ends))
 
-weighed : {A : Type 0} (xs : List A) → total (λ x. 1) xs ≡ length xs
-unfolding total
-weighed [] = refl
-weighed (x ∷ xs) = omega (arith, weighed xs)
-
 pub in-space : InSpace
 in-space d l m xs ys net r s ys′ xs′ e =
-    let q : length (e .r′ .comps) ≡ length (s .comps) = sym (weighed _) ∙ perm-≈ (e .reordered) (λ c. 1) ∙ weighed _ in
+    let q : length (e .r′ .comps) ≡ length (s .comps) = perm-long (e .reordered) in
     (omega (arith, never-fewer d l xs′ (e .s′ .comps) (e .r′) (e .second), q), q)

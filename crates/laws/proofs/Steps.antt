@@ -28,7 +28,7 @@ use Rattle.terms.proofs.Steps.{fires-here, fires-acts, step-accepted}
 use Rattle.laws.specs.Exchange.{movesTo}
 use Rattle.laws.specs.Steps.{StepsExchanged, StepsExchange, AskedBefore}
 use Rattle.laws.proofs.Fires.{at-inv, acts-size}
-use Rattle.laws.proofs.Exchange.{by-ready, apart, apart′, Left, fired-left}
+use Rattle.laws.proofs.Exchange.{by-ready, stays, apart, other-way, Left, fired-left}
 use Rattle.laws.proofs.Exchange.Left.{left}
 use Rattle.laws.proofs.Gaps.{Cell, fill, places, Still, Calm, Alike, fires-fill}
 use Rattle.laws.proofs.Gaps.Cell.{gap, place}
@@ -86,10 +86,7 @@ pass-still d l m n c (inr (left {v = h} {p = p} e)) = rw (name-refl l) (split-st
 
 -- and the tick at m leaves that as it is
 still-stays : (d : Context) (m : Name) (c : Component) → Still m c → pass d (mine m) m c ≡ c ∷ []
-unfolding pass unmarked ready
-still-stays d m (comp h none (one a)) s = rw (s .away)
-still-stays d m (comp h none (a ∥ p)) s = refl
-still-stays d m (comp h (by k) p) s = absurd (false≢true (s .plain))
+still-stays d m c s = stays d m c (s .plain) (s .away)
 
 -- ── a network woven of what is ready at l, what is ready at m, and the rest ──
 -- the place of one that is ready at l, that of one that is ready at m, or another component
@@ -303,7 +300,7 @@ module _ (d : Context) (l m : Name) (n : sameName l m ≡ false) {t : List Slot}
     (a : Each (λ c. ready l c ≡ true) xs) (b : Each (λ c. ready m c ≡ true) ys)
     (r : Swept) (e : step d l (weave t itself xs itself ys) ≡ accepted r) (q : some (movesTo m) (r .labels) ≡ false) where
   differ′ : sameName m l ≡ false
-  differ′ = apart′ l m n m (name-refl m)
+  differ′ = other-way l m n
 
   -- before a step the other's components are passed over as they are
   past-l : Past m itself xs
@@ -349,8 +346,8 @@ module _ (d : Context) (l m : Name) (n : sameName l m ≡ false) {t : List Slot}
     parts-m : Parts l m t xs (fires d m ys .comps)
     parts-m = resized k xs (fires d m ys .comps) refl (fires-size d m ys)
 
-    other-way : StepsExchanged d l m (weave t itself xs itself ys) r s
-    other-way =
+    turned-round : StepsExchanged d l m (weave t itself xs itself ys) r s
+    turned-round =
         let g = latter-ends d l m k itself past-l in
         record {
           s′ = stepped d m (weave t itself xs itself ys);
@@ -366,7 +363,7 @@ pub steps-exchange : StepsExchange
 steps-exchange d l m net r s h =
     let o = sorted l m (every-each unmarked net (h .unmarked-all)) in
     let e = subst (λ z. step d l z ≡ accepted r) (sym (o .woven)) (h .first) in
-    subst (λ z. StepsExchanged d l m z r s) (o .woven) (other-way d l m (h .differ) (o .parts) (o .ready-l) (o .ready-m) r e (h .none-to-m) s (h .second) (h .none-to-l))
+    subst (λ z. StepsExchanged d l m z r s) (o .woven) (turned-round d l m (h .differ) (o .parts) (o .ready-l) (o .ready-m) r e (h .none-to-m) s (h .second) (h .none-to-l))
 
 pub asked-before : AskedBefore
 asked-before d l m net r s₀ n u e₁ e₂ q₁ q₂ =

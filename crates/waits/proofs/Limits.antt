@@ -4,7 +4,7 @@ use Prim.Native.Nat.{ℕ, suc}
 use mathlib.Core.List.{List, [], _∷_, List·Permᴰ}
 use mathlib.Core.Bool.{Bool, true, false, cond}
 use mathlib.Core.Path.{_≡_, refl, ap, subst, _∙_}
-use lib.Dec.{T, ltb}
+use lib.Dec.{ltb}
 use Rattle.terms.specs.Names.{Name, sameName}
 use Rattle.terms.specs.Terms.{Component, Context, firesAt}
 use Rattle.terms.specs.Rules.{Answer, Action, Acted, act, tick, unmarked}
@@ -23,7 +23,7 @@ use Rattle.terms.proofs.Steps.{fires-acts}
 use Rattle.waits.proofs.Waits.{call-kept, tick-kept, act-kept, act-size, begun-kept}
 
 -- the claim on components, with both reasons; which message an equal component sends, and so the grouped run's total, is no part of it
-pub mixed-in-space : (d : Context) (cs : List Call) (net : List Component) (t : Tally) → Each (λ c. T (unmarked c)) net
+pub mixed-in-space : (d : Context) (cs : List Call) (net : List Component) (t : Tally) → Each (λ c. unmarked c ≡ true) net
     → (y : List Component) × (groupedRun d (judgedInSpace d cs net t) net ≡ accepted (record { straight = lastInSpace d cs net t; grouped = y })) × List·Permᴰ y (lastInSpace d cs net t)
 mixed-in-space d = mixed-list d (callTally d) (full d)
 
