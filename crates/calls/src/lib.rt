@@ -13,6 +13,8 @@
 //   proofs/Outcome  one outcome, of proposals and of the step
 //   proofs/Calls    one call of a list, and one more call at the end of a run
 //   run             a list of calls one after another, from a state and from a text
+#![tactic(auto)]
+
 pub mod run;
 
 ghost use Rattle.std.specs.Prelude.{◌≡◌, length};

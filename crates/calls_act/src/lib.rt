@@ -7,6 +7,8 @@
 //
 //   proofs/Positions  an action at positions leaves what the rules leave
 //   proofs/Labelling  the label from the components alone is that of the action
+#![tactic(auto)]
+
 pub mod act;
 pub mod naming;
 

@@ -10,5 +10,7 @@
 // proofs/Fronts       the first elements of two lists: arguments, parameters
 // proofs/Pieces       the part at a place in its pieces, under the values of slots
 // proofs/Definitions  definitions of two tables, from a number on
+#![tactic(auto)]
+
 pub mod defs;
 pub mod parts;

@@ -5,6 +5,8 @@
 //   rights        the right that an action needs
 //
 //   proofs/Heads  what question 17 gives the functions of `fire`, and what is so with and without rights
+#![tactic(auto)]
+
 pub mod fire;
 pub mod rights;
 

@@ -9,6 +9,8 @@
 //   proofs/Marking  places noted component by component are those of all components
 //   proofs/Forcing  they name exactly the locations where the rules do not allow the tick
 //   proofs/Bits     the laws of a set of bits
+#![tactic(auto)]
+
 mod ears;
 pub mod forced;
 mod press;

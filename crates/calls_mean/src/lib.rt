@@ -2,6 +2,8 @@
 //
 //   specs/Averaged  what the call answers
 //   proofs/Means    the mean in numbers of 32 bits
+#![tactic(auto)]
+
 ghost use Rattle.std.specs.Prelude.{◌≡◌, ◌*◌, ◌≤◌};
 ghost use Rattle.terms.specs.Rules.Answer.{accepted};
 ghost use Rattle.waits.specs.Mean.{mean_of};

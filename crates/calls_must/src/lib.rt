@@ -4,4 +4,6 @@
 //   forced        is the tick at a location not allowed?
 //
 //   proofs/Hearing  the channels heard decide what presses
+#![tactic(auto)]
+
 pub mod forced;

@@ -6,6 +6,8 @@
 //
 //   proofs/Turns    the tick, one component written at a time, is the tick
 //   proofs/Passing  the loops over the components
+#![tactic(auto)]
+
 pub mod pass;
 
 use table::Comp;

@@ -9,6 +9,8 @@
 //   proofs/Apart       no role is taken twice: one more component
 //   proofs/Conforming  the test by numbers is the test of what the components stand for
 //   proofs/Answering   the conforming step goes by what the test answers
+#![tactic(auto)]
+
 pub mod outward;
 mod roles;
 pub mod test;

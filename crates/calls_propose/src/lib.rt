@@ -6,6 +6,8 @@
 //
 //   proofs/Proposing  the parts of a proposal stand for what the rules make of it so far
 //   proofs/Whole      a proposal is a whole step of the rules, with question 13 after it
+#![tactic(auto)]
+
 mod next;
 pub mod outward;
 

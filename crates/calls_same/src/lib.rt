@@ -8,6 +8,8 @@
 //
 // proofs/Parted   a component of a table in its pieces
 // proofs/Matched  the components of one network matched with the unused ones of another
+#![tactic(auto)]
+
 mod comps;
 
 ghost use Rattle.std.specs.Prelude.{◌≡◌, true, ◌&&◌, eqb};

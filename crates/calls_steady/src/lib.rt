@@ -3,6 +3,8 @@
 //
 //   specs/Steady    components that a tick touches, and those that are still one after a step or a tick
 //   proofs/Staying  where each stays one, actions keep that, and a tick leaves as many
+#![tactic(auto)]
+
 ghost use Rattle.std.specs.Prelude.{◌≡◌, true, ◌&&◌, ◌<◌};
 ghost use Rattle.terms.specs.Same.{every};
 ghost use Rattle.table.specs.Words.{head_at};

@@ -4,6 +4,8 @@
 //   step          the step at a location of a valid table
 //
 //   proofs/Stepping  the step stands for the step of the rules, with questions 15, 18 and 13
+#![tactic(auto)]
+
 pub mod step;
 
 // The answer of a step: code 0 with the number of actions and the number of components after it, or the number of the question answered by no, 0 and the

@@ -9,6 +9,8 @@
 //   proofs/Sweeping  one position of the sweep in code
 //   proofs/Going     the loop over the positions
 //   proofs/Tallying  waits, total and count after the sweep are those of its actions one by one
+#![tactic(auto)]
+
 pub mod sweep;
 
 use table::Comp;

@@ -5,6 +5,8 @@
 //   proofs/Partners  the partner on the table stands for the partner of the rules
 //   proofs/Waiting   the first of those who wait is the partner
 //   proofs/Dealing   the chains are those of who waits
+#![tactic(auto)]
+
 ghost use Rattle.std.specs.Prelude.{◌≡◌, true, ◌≤◌, ◌<◌, length, take, replicate};
 ghost use Rattle.table.specs.Meaning.{comps_of};
 ghost use Rattle.table.specs.Valid.{valid};

@@ -8,6 +8,8 @@
 //   proofs/Shows     a text that is never refused, in bytes of any number
 //   proofs/Enough    how many bytes hold every name, label and line
 
+#![tactic(auto)]
+
 ghost use Rattle.std.specs.Prelude.{◌≡◌, ◌≤◌, ◌+◌, ◌*◌, length, take};
 ghost use Rattle.table.specs.Words.{name_at, name_size, chans_at, word, locs_in, chans_in, loc_name, chan_name};
 ghost use Rattle.table.specs.Fire.{label_of};

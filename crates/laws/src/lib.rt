@@ -10,3 +10,5 @@
 //   proofs/Space     a whole step never makes a network smaller: `in-space`
 //   proofs/Gaps      the step at a location passes over what is not ready there
 //   proofs/Steps     the engine's own steps: `steps-exchange`, `asked-before`
+
+#![tactic(auto)]

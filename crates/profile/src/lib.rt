@@ -10,3 +10,5 @@
 //   proofs/Allowed   what a network allows at a location, by weight: a firing takes away itself and no other
 //   proofs/Places    by position, each component has one fate
 //   proofs/Single    the claim: `single-outcome`, `step-outcome`
+
+#![tactic(auto)]

@@ -1,5 +1,7 @@
 // Layer 4, the program: bytes from standard input, bytes to standard output, and a message to standard error. No contract can say what is read or written;
 // these say how many bytes there are.
+#![tactic(auto)]
+
 ghost use Rattle.std.specs.Prelude.{◌≤◌, length};
 ghost use Rattle.io.specs.Counts.{IsPrefixLen};
 

@@ -6,6 +6,8 @@
 //   proofs/Labels   an action of a step has the same label in the network before the step
 //   proofs/Lines    the line made of the records is the line of the step
 //   proofs/Fits     a line has at most 13,329 bytes
+#![tactic(auto)]
+
 ghost use Rattle.std.specs.Prelude.{◌≡◌, true, ◌≤◌, length, take};
 ghost use mathlib.Core.List.{[], ◌∷◌, ◌++◌, flat_map};
 ghost use Rattle.terms.specs.Names.{bytes};

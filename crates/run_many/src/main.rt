@@ -1,5 +1,7 @@
 // A test program: the printouts of many texts. Each text of its input, and each printout that it writes, is followed by a line `#`, a sign that stands in
 // neither. Its input and output are the reference engine's `vectors`.
+#![tactic(auto)]
+
 ghost use Rattle.std.specs.Prelude.{◌≤◌, length};
 
 // The place of the next `#` from a on, or the end.

@@ -2,6 +2,8 @@
 //
 // specs/Pieces   the printout by pieces, and what is left of it
 // proofs/Pieces  the pieces joined are the printout; the ways of the code to them
+#![tactic(auto)]
+
 ghost use Rattle.std.specs.Prelude.{true, false, ◌≡◌, ◌≤◌, length};
 ghost use Rattle.table.specs.Meaning.{context_of, net_of};
 ghost use Rattle.table.specs.Valid.{valid};

@@ -6,6 +6,8 @@
 // proofs/Playing  the ways of the code to the printout
 // proofs/Means    how long the line of the mean is
 // proofs/Fits     what its parts add to its length, which is at most 3,477,768
+#![tactic(auto)]
+
 ghost use Rattle.std.specs.Prelude.{true, ◌≡◌, ◌*◌, ◌≤◌, length, take};
 ghost use Rattle.waits.specs.Mean.{mean_of};
 ghost use Rattle.text_letters.specs.Put.{Wrote};

@@ -4,6 +4,8 @@
 // specs/Turned    what the code's answer to a step stands for
 // proofs/Turning  the ways of the code to its answer
 // proofs/Fits     what a step or a refusal adds to the length of a printout
+#![tactic(auto)]
+
 ghost use Rattle.std.specs.Prelude.{true, ◌≡◌, ◌<◌};
 ghost use Rattle.text_letters.specs.Put.{Wrote};
 ghost use Rattle.table.specs.Words.{locs_in, loc_name};

@@ -29,6 +29,8 @@
 //   proofs/ValidLists   what a loop over a list has shown
 //   proofs/Rows         names and scopes as the words of rows have them
 //   proofs/ValidDefs    the parameters of a definition
+#![tactic(auto)]
+
 pub mod comps;
 pub mod words;
 

@@ -5,6 +5,8 @@
 //   specs/Tests       what the contracts of internal functions cite
 //   proofs/NamesForm  the form of a name by its words
 //   proofs/NamesRows  names at equal distances
+#![tactic(auto)]
+
 ghost use Rattle.std.specs.Prelude.{◌≡◌, ◌&&◌, ℕ, ◌+◌, ◌<◌, ◌≤◌, drop};
 ghost use Rattle.terms.specs.Same.{every};
 ghost use Rattle.terms.specs.Letters.{member, is_name, distinct};

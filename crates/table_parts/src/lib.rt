@@ -6,6 +6,8 @@
 //   proofs/ValidLeaves  a part with no scope and nothing after it
 //   proofs/ValidPlain   an output or an input with no scope and nothing after it
 //   proofs/ValidRoots   the names in scopes, from the first row of a process to all of them
+#![tactic(auto)]
+
 ghost use Rattle.std.specs.Prelude.{◌≡◌, true, ℕ, ◌+◌, ◌<◌, ◌≤◌};
 ghost use Rattle.terms.specs.Same.{every};
 ghost use Rattle.table.specs.Words.{parts_in, locs_in, defs_in, field, names_at, args_at, arg_field, count_field, first_field, name_field, timer_field, value_field};

@@ -1,4 +1,6 @@
 // Layer 1, the table: the rights in a script, by number (document 02, R-6). A move and a communication are asked for theirs; a call needs none.
+#![tactic(auto)]
+
 ghost use Rattle.std.specs.Prelude.{◌≡◌, ◌<◌};
 ghost use Rattle.table.specs.Words.{rights_size, right_at};
 ghost use Rattle.table.specs.Fire.{may_leave, may_meet};

@@ -3,6 +3,8 @@
 //   src/lib             the names in a scope, the values that it allows, and that an inner process has the scope that it needs
 //   specs/Tests         what the contracts of internal functions cite
 //   proofs/ValidScopes  scopes as the words of a part have them, and what comes after a part
+#![tactic(auto)]
+
 ghost use Rattle.std.specs.Prelude.{◌≡◌, ◌<◌, ◌≤◌, ltb, take};
 ghost use Rattle.terms.specs.Same.{every};
 ghost use Rattle.table.specs.Words.{last_name, scope_at, names_at, at_most8};

@@ -4,6 +4,8 @@
 //   src/lib            the tests of definitions and components, and of the whole
 //   specs/Tests        what the contracts of internal functions cite
 //   proofs/ValidWhole  the tests of a script and of a state
+#![tactic(auto)]
+
 ghost use Rattle.std.specs.Prelude.{◌≡◌, ◌&&◌, ◌||◌, ◌+◌, ◌<◌, ◌≤◌, eqb, ltb};
 ghost use Rattle.terms.specs.Same.{every};
 ghost use Rattle.table.specs.Words.{parts_in, locs_in, defs_in, scope_at, params_at, arity_of};

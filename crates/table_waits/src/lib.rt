@@ -3,6 +3,8 @@
 //   specs/Ledger   the words of a total and a count
 //   proofs/Ledger  the total and the count after stores
 //   proofs/Waits   the waits that an action and a tick leave on the table are those of the rules
+#![tactic(auto)]
+
 ghost use Rattle.std.specs.Prelude.{◌≡◌, ◌+◌, ◌≤◌, ◌<◌};
 ghost use Rattle.table.specs.Meaning.{total_in, count_in};
 ghost use Rattle.table.specs.Valid.{ledger_ok};

@@ -13,6 +13,8 @@
 // proofs/Under   a script with what was given: rights as words, and read from them; and put back
 // proofs/Named   rights by name from rights by number
 // proofs/All     all rights, by number and by name
+#![tactic(auto)]
+
 ghost use Rattle.std.specs.Prelude.{◌≡◌};
 ghost use Rattle.text_answer.specs.Answer.{refusal};
 

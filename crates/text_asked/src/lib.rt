@@ -3,6 +3,8 @@
 //   specs/Answer  the number of the first question that is answered by no
 //   src/lib       one function for each question, one for each row or definition that it goes through, one for all
 //   proofs/Rows   what a part's first word says of its tests
+#![tactic(auto)]
+
 ghost use Rattle.std.specs.Prelude.{◌≡◌, [], ◌∷◌, ◌+◌, ◌*◌, ◌<◌, ◌≤◌, take};
 ghost use Rattle.terms.specs.Same.{every};
 ghost use Rattle.terms.specs.Letters.{distinct};

@@ -5,3 +5,5 @@
 // proofs/Process    the process at a place with values put in is well-formed, calls what is defined, and has no unbound variable
 // proofs/Tables     a table's network is `Writable` and `Sound`: `back-writable`, `back-sound`
 // proofs/RoundTrip  the round trip: `table-form`, `table-only-limits`, `table-round-trip`; of what the write call writes: `written-again`
+
+#![tactic(auto)]

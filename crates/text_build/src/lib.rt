@@ -26,6 +26,8 @@
 // proofs/Puts         what the second pass writes stands for the process
 // proofs/FirstPlaces  and its names are numbered by first place
 // proofs/Built        so a process that was put is what its place means
+#![tactic(auto)]
+
 ghost use Rattle.std.specs.Prelude.{[], ◌∷◌, ◌≡◌, ◌+◌, ◌*◌, ◌≤◌, ◌<◌, length};
 ghost use Rattle.std.proofs.lemmas.List.Edits.{sets};
 ghost use Rattle.table.specs.Meaning.{list_from};

@@ -3,6 +3,8 @@
 //
 // specs/Entered     what was written for a text, and the number of its refusal
 // proofs/Answering  the answer from the scan, the script and the questions asked of it
+#![tactic(auto)]
+
 ghost use Rattle.std.specs.Prelude.{◌≡◌, ◌+◌, ◌*◌, ◌≤◌, length};
 ghost use Rattle.table.specs.Words.{row_size, parts_at};
 ghost use Rattle.text_scan.specs.Answers.{scan_of};

@@ -15,6 +15,8 @@
 // proofs/Keeping    what each write of the passes keeps, all of them keep
 // proofs/Quiet      what the passes leave as it was below the rows
 // proofs/Beyond     and behind the last row
+#![tactic(auto)]
+
 ghost use Rattle.std.specs.Prelude.{◌≤◌};
 ghost use Rattle.text_fill.specs.Ready.{Ready, tree_in, Filled};
 

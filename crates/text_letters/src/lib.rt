@@ -9,6 +9,8 @@
 // proofs/Numbers  digits as the code puts them
 // proofs/Letters  the letters of a name by its words
 // proofs/Lists    names between brackets
+#![tactic(auto)]
+
 ghost use Rattle.std.specs.Prelude.{◌≡◌, [], ◌∷◌, map, ◌+◌, ◌%◌, ◌≤◌, ◌<◌, length, take};
 ghost use Rattle.terms.specs.Names.{bytes};
 ghost use Rattle.terms.specs.Clock.{ticks_of};

@@ -5,6 +5,8 @@
 //
 // proofs/Spelled   the bytes of each form are the spelling of its tokens
 // proofs/Networks  the text of a table
+#![tactic(auto)]
+
 ghost use Rattle.std.specs.Prelude.{◌≡◌, true, map, ◌≤◌, ◌<◌};
 ghost use Rattle.table.specs.Words.{defs_in};
 ghost use Rattle.table.specs.Meaning.{def_of, defs_of, means, net_of};

@@ -14,6 +14,8 @@
 // proofs/Gathering  a loop over things joined by a sign, stated once
 // proofs/Processes  the numbers of parts and processes by the grammar's equations
 // proofs/Cycle      the ways of the two readers through the code
+#![tactic(auto)]
+
 ghost use Rattle.std.specs.Prelude.{◌≡◌, ◌+◌, ◌<◌, min, max, drop};
 ghost use Rattle.text.specs.Tokens.{lex};
 ghost use Rattle.text.specs.Grammar.{the};

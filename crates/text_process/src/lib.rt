@@ -9,6 +9,8 @@
 // proofs/Values  slots with values are a substitution
 // proofs/Heads   the text of a part by its head, under the values of slots
 // proofs/Places  the places of a definition's body and of a component's part
+#![tactic(auto)]
+
 ghost use Rattle.std.specs.Prelude.{◌≡◌, true, ◌∷◌, ◌++◌, map, ◌≤◌, ◌<◌, length, take, set};
 ghost use Rattle.terms.specs.Names.{bytes};
 ghost use Rattle.terms.specs.Clock.{ticks_of};

@@ -15,6 +15,8 @@
 // proofs/Arguments  values by number, and the arguments of a call
 // proofs/Fronts     a part up to its first process, form by form
 // proofs/Putting    parts and processes from what is read and called
+#![tactic(auto)]
+
 mod heads;
 pub mod parts;
 pub mod values;

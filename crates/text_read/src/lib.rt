@@ -4,6 +4,8 @@
 // text_answer.
 //
 // proofs/Numbers  the numbers that a refusal of `read` has
+#![tactic(auto)]
+
 ghost use Rattle.std.specs.Prelude.{◌≡◌, ◌≤◌, length};
 ghost use Rattle.text_scan.specs.Answers.{scan_of};
 ghost use Rattle.text_scan.specs.Limits.{limits};

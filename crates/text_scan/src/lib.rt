@@ -10,6 +10,8 @@
 // proofs/Places     the numbers added up are those that `text` defines by places
 // proofs/Texts      definitions, located processes and texts as the code goes through them
 // proofs/Scanning   what the scan answers, and questions 1 to 4 from it
+#![tactic(auto)]
+
 ghost use Rattle.std.specs.Prelude.{◌≡◌, ◌<◌, drop};
 ghost use Rattle.text.specs.Tokens.{lex};
 ghost use Rattle.text.specs.Grammar.{the, net_next};

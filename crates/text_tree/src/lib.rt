@@ -25,3 +25,5 @@
 // proofs/AskedCalls   so is question 6
 // proofs/AskedBound   so is question 7
 // proofs/AskedKnown   then the script holds what every place needs
+
+#![tactic(auto)]

@@ -9,6 +9,8 @@
 // proofs/Lexing     tokens read off bytes
 // proofs/Positions  steps over positions: blanks, signs, words, numbers
 // proofs/WordSorts  the one sort of a word, and the grammar's tests
+#![tactic(auto)]
+
 ghost use Rattle.std.specs.Prelude.{true, ◌≡◌, ◌<◌, ◌-◌, drop};
 ghost use Rattle.terms.specs.Names.{same_name};
 ghost use Rattle.terms.specs.Same.{every};

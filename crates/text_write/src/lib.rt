@@ -4,6 +4,8 @@
 //
 // proofs/Unmarked  a test of the components from a position on
 // proofs/Answered  the answers of the call
+#![tactic(auto)]
+
 ghost use Rattle.std.specs.Prelude.{◌≡◌, true, not, ◌++◌, ◌≤◌, ltb, length, take, drop};
 ghost use Rattle.terms.specs.Same.{every};
 ghost use Rattle.table.specs.Meaning.{comps_of};

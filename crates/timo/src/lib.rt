@@ -1,5 +1,7 @@
 // The engine as a library for programs in other languages: the outward calls under names of their own, as include/timo.h declares them.
 // Each has the contract of the call that it hands on; of the printout it is said in plainer words.
+#![tactic(auto)]
+
 ghost use Rattle.std.specs.Prelude.{◌≡◌, ◌≤◌, length};
 ghost use Rattle.table.specs.Words.{locs_in, chans_in, loc_name, chan_name};
 ghost use Rattle.table.specs.Valid.{valid};

@@ -3,6 +3,8 @@
 //
 // A text of 65,536 bytes or more fills the buffer, and so is refused by question 1, in however many parts it comes. Each piece has at most 65,536 bytes and
 // goes through the buffer that the text came in. A read or a write that fails is told on standard error: the language has no exit status.
+#![tactic(auto)]
+
 ghost use Rattle.std.specs.Prelude.{◌≡◌, length};
 ghost use Rattle.run_pieces.specs.Pieces.{ProgressOk};
 

@@ -10,6 +10,8 @@
 //   proofs/Counting  question 18 of several actions at once
 //   proofs/Mean      the mean is exact; rounded it is the nearest whole tick, a half going to the even one, and no other number is
 //   proofs/Limits    demand 3 with both reasons; any list of calls, and a whole step
+#![tactic(auto)]
+
 ghost use Rattle.std.specs.Prelude.{◌≡◌, ◌/◌, ◌%◌, ◌<◌, ◌≤◌, ◌*◌};
 ghost use Rattle.waits.specs.Waits as W;
 ghost use Rattle.waits.specs.Mean as M;
