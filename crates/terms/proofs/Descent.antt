@@ -104,6 +104,7 @@ module _ (d : Context) where
       to : (same_name v l ≡ true) ⊎ (d.rights.leave l v ≡ true) → Chain o v
       to (inl e) = subst (Chain o) (sym (name-eq v l e)) r
       to (inr e) = leaves r e
+  led l v (sent _ _ _) h g o r = elim h [ ]
 
   stands : (x : Firing) (f : Fired) → fits d x ≡ accepted f → granted d.rights f.label ≡ true → Stands x f.after
   unfolding fits place_of
