@@ -1,0 +1,29 @@
+-- `word_end` stops where the longest run of letters and digits ends.
+-- The loop's invariant: from `at` to i stand letters and digits only, and the run goes on as it does from i.
+use Prim.Native.Nat.{◌-◌}
+use native.Mathlib.Omega.{arith}
+use mathlib.Core.Path.{sym, ◌∙◌}
+use lib.ListN.{length}
+use borrow.Author.Rules.{rules}
+use borrow.Author.Tests.{not-true, not-false}
+use Rattle.text_words.proofs.Positions.{Running, running-first, running-on, running-stop, running-end}
+use Rattle.text_words.proofs.word_end.Goals as goal
+
+pub loop-i-init : goal.loop-i-init
+loop-i-init c = running-first _ _
+
+pub returns-then-not-is_alnum : goal.returns-then-not-is_alnum
+returns-then-not-is_alnum c =
+    let l = c.loop-i in
+    running-stop _ _ l.i l.invariant c.loop-i-test.true (sym c.is_alnum.ensures ∙ c.if-not-is_alnum.true)
+
+pub loop-i-smaller : goal.loop-i-smaller
+loop-i-smaller c = omega arith
+
+pub loop-i-preserved : goal.loop-i-preserved
+loop-i-preserved c =
+    let l = c.loop-i in
+    running-on _ _ l.i l.invariant c.loop-i-test.true (sym c.is_alnum.ensures ∙ c.if-not-is_alnum.false)
+
+pub returns : goal.returns
+returns c = running-end _ _ c.loop-i.i c.loop-i.invariant c.loop-i-test.false
