@@ -33,14 +33,14 @@ use table::{Script, Words};
 use table_valid::is_valid;
 
 // How many calls of a list were made, and the number of components after them.
-#[derive(Drop)]
+#[derive(Clone, Copy)]
 pub struct Ran {
     pub done: usize,
     pub n: usize,
 }
 
 // After a text and a list of calls: the code of the reading, how many calls were made, and the number of components after them.
-#[derive(Drop)]
+#[derive(Clone, Copy)]
 pub struct RanText {
     pub code: u32,
     pub done: usize,

@@ -16,7 +16,7 @@ use calls_fire::Label;
 
 // The answer of an action: code 0 with the label, or the number of the question answered by no. There are as many components as before.
 #[repr(C)]
-#[derive(Drop)]
+#[derive(Clone, Copy)]
 pub struct Acted {
     pub code: u32,
     pub label: Label,

@@ -15,7 +15,7 @@ use table::Comp;
 // A label in numbers. Kind 1: the definition a is called. Kind 2: the location a is moved to. Kind 3: the value b is sent on the channel a.
 // It fires at the location at.
 #[repr(C)]
-#[derive(Drop)]
+#[derive(Clone, Copy)]
 pub struct Label {
     pub kind: u32,
     pub a: u32,
@@ -24,7 +24,7 @@ pub struct Label {
 }
 
 // What an action makes of one component: code 0, or the number of the question answered by no.
-#[derive(Drop)]
+#[derive(Clone, Copy)]
 pub struct Fired {
     pub code: u32,
     pub label: Label,
@@ -32,7 +32,7 @@ pub struct Fired {
 }
 
 // What a communication makes of an output and an input.
-#[derive(Drop)]
+#[derive(Clone, Copy)]
 pub struct Met {
     pub code: u32,
     pub label: Label,

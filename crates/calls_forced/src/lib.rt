@@ -17,7 +17,7 @@ mod press;
 
 // The answer: code 0, with bit l of the set for location l, how many there are and the lowest, 64 for none.
 #[repr(C)]
-#[derive(Drop)]
+#[derive(Clone, Copy)]
 pub struct Report {
     pub code: u32,
     pub set: u64,

@@ -18,7 +18,7 @@ use table_waits::{messages, total};
 // The answer: 0 or 17; how many messages there were, and of the total over that number the whole quotient and the remainder. All three are 0 where there were
 // none, and where code is not 0.
 #[repr(C)]
-#[derive(Drop)]
+#[derive(Clone, Copy)]
 pub struct Averaged {
     pub code: u32,
     pub count: u32,

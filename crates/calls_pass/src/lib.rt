@@ -13,7 +13,7 @@ pub mod pass;
 use table::Comp;
 
 // One turn of a component in a tick: the component written, the place and one of the part that comes next or 0, and 1 once it is done with.
-#[derive(Drop)]
+#[derive(Clone, Copy)]
 pub struct Turn {
     pub comp: Comp,
     pub next: u32,

@@ -17,7 +17,7 @@ pub mod test;
 
 // The answer of the test: code 0 with yes or no, or the number of the question answered by no, and no.
 #[repr(C)]
-#[derive(Drop)]
+#[derive(Clone, Copy)]
 pub struct Tested {
     pub code: u32,
     pub yes: bool,

@@ -15,7 +15,7 @@ use table::Words;
 
 // An action: its kind, and the positions of its components. Kinds 1 and 2 have one component, and q is not looked at.
 #[repr(C)]
-#[derive(Drop)]
+#[derive(Clone, Copy)]
 pub struct Record {
     pub kind: u32,
     pub p: u32,

@@ -27,7 +27,7 @@ use table_valid::is_valid;
 
 // What the call returns: 0 or the number of the question answered by no, and whether the networks are the same.
 #[repr(C)]
-#[derive(Drop)]
+#[derive(Clone, Copy)]
 pub struct Compared {
     pub code: u32,
     pub yes: bool,

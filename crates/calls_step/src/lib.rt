@@ -11,7 +11,7 @@ pub mod step;
 // The answer of a step: code 0 with the number of actions and the number of components after it, or the number of the question answered by no, 0 and the
 // number of components as it was.
 #[repr(C)]
-#[derive(Drop)]
+#[derive(Clone, Copy)]
 pub struct Stepped {
     pub code: u32,
     pub count: usize,

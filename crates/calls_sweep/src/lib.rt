@@ -16,14 +16,14 @@ pub mod sweep;
 use table::Comp;
 
 // What becomes of the component at a position, and of its partner.
-#[derive(Drop)]
+#[derive(Clone, Copy)]
 pub struct Visit {
     pub x: Comp,
     pub y: Comp,
 }
 
 // What the actions of a step were: how many, how many of them sent a message, and how long the senders had waited together.
-#[derive(Drop)]
+#[derive(Clone, Copy)]
 pub struct Swept {
     pub count: usize,
     pub sent: u32,

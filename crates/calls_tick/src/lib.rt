@@ -10,7 +10,7 @@ pub mod tick;
 
 // The answer of a tick: code 0 with the number of components after it, or the number of the question answered by no and the number of components as it was.
 #[repr(C)]
-#[derive(Drop)]
+#[derive(Clone, Copy)]
 pub struct Ticked {
     pub code: u32,
     pub n: usize,

@@ -30,7 +30,7 @@ use text_write::Written;
 
 // How many: 0 or the number of the question answered by no, and the number, which is 0 with a refusal.
 #[repr(C)]
-#[derive(Drop)]
+#[derive(Clone, Copy)]
 pub struct Counted {
     pub code: u32,
     pub count: u32,

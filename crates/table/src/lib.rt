@@ -128,7 +128,7 @@ pub type Script = [u32; SCRIPT_WORDS];
 pub type Words = [u32; STATE_WORDS];
 
 // A part without its inner processes, which are places, and without a call's arguments, which are read from its row.
-#[derive(Drop)]
+#[derive(Clone, Copy)]
 pub enum Head {
     Stop,
     // timer, value, P
@@ -142,7 +142,7 @@ pub enum Head {
 }
 
 // A component: location, mark (64 for none), place, timer, a location for each slot, and how many ticks it has waited.
-#[derive(Drop)]
+#[derive(Clone, Copy)]
 pub struct Comp {
     pub loc: u32,
     pub mark: u32,
@@ -162,7 +162,7 @@ pub struct State {
 }
 
 // A name: four words of four bytes, the first letter lowest, zeros after the last.
-#[derive(Drop)]
+#[derive(Clone, Copy)]
 pub struct Key {
     pub a: u32,
     pub b: u32,

@@ -22,7 +22,7 @@ use table::words::{is_named, key_at, wide};
 pub mod forms;
 
 // The sorts of names, by the form of their first letter; a variable's is that of a channel.
-#[derive(Drop)]
+#[derive(Clone, Copy)]
 pub enum Sort {
     Location,
     Small,

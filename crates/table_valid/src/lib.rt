@@ -176,7 +176,7 @@ fn count_two(s: u32, m: u32, x: u32, y: u32) -> u32
 }
 
 // How many values are above the last location, in four sums, so that four values are compared at once.
-#[derive(Drop)]
+#[derive(Clone, Copy)]
 struct Sums {
     a: u32,
     b: u32,

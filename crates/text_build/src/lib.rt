@@ -77,7 +77,7 @@ pub fn key_of(w: &[u8]) -> table::Key
 
 // ---- scopes ----
 // The names in scope at a part: how many, and where they stand in the script.
-#[derive(Drop)]
+#[derive(Clone, Copy)]
 pub struct Scope {
     pub n: usize,
     pub at: [u32; 8],

@@ -17,7 +17,7 @@ use text_asked::asked;
 use text_fill::fill;
 
 // A text written into a script: 0 or the number of the question answered by no, and how many components there are.
-#[derive(Drop)]
+#[derive(Clone, Copy)]
 pub struct Entry {
     pub code: u32,
     pub n: usize,

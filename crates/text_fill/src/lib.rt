@@ -28,14 +28,14 @@ mod definitions;
 mod network;
 
 // Where a definition or a located process ends, and the next place.
-#[derive(Drop)]
+#[derive(Clone, Copy)]
 pub struct Passed {
     pub end: usize,
     pub place: usize,
 }
 
 // Where a process ends, its least place, and how many components there are.
-#[derive(Drop)]
+#[derive(Clone, Copy)]
 pub struct Spotted {
     pub end: usize,
     pub low: usize,

@@ -61,7 +61,7 @@ pub fn larger(a: u16, b: u16) -> u16
 
 // ---- a part up to its first process ----
 // A part is over, or one or two processes are to come, or it is none.
-#[derive(Drop)]
+#[derive(Clone, Copy)]
 pub enum Begun {
     Leaf(usize),
     One(usize),
@@ -122,7 +122,7 @@ fn comm_begin(s: &[u8], at: usize, f: text_words::Field) -> Begun
 }
 
 // Names in brackets: where they end, and how many, at most 5.
-#[derive(Drop)]
+#[derive(Clone, Copy)]
 pub struct Names {
     pub end: usize,
     pub count: u16,
@@ -205,7 +205,7 @@ fn begin(s: &[u8], at: usize) -> Begun
 
 // ---- parts and processes ----
 // Where a part or process ends, or 0, with its deepest nesting (its outermost parts have 1), its parts at any depth and its outermost parts.
-#[derive(Drop)]
+#[derive(Clone, Copy)]
 pub struct Size {
     pub end: usize,
     pub nesting: u16,

@@ -23,7 +23,7 @@ pub mod values;
 pub mod words;
 
 // A word as a name: where it ends, its letters, and whether it begins with a capital.
-#[derive(Drop)]
+#[derive(Clone, Copy)]
 pub struct Named {
     pub end: usize,
     pub key: table::Key,
@@ -31,14 +31,14 @@ pub struct Named {
 }
 
 // A timer: where it ends, and its word in a row.
-#[derive(Drop)]
+#[derive(Clone, Copy)]
 pub struct Timed {
     pub end: usize,
     pub t: u32,
 }
 
 // A timer and a name, each with its comma.
-#[derive(Drop)]
+#[derive(Clone, Copy)]
 pub struct Pair {
     pub end: usize,
     pub t: u32,
@@ -47,7 +47,7 @@ pub struct Pair {
 }
 
 // A channel, a timer and a name in an output's or an input's brackets, each with its comma.
-#[derive(Drop)]
+#[derive(Clone, Copy)]
 pub struct Front {
     pub end: usize,
     pub chan: table::Key,
@@ -57,7 +57,7 @@ pub struct Front {
 }
 
 // The arguments of a call: where they end, how many, at most 5, and the first four.
-#[derive(Drop)]
+#[derive(Clone, Copy)]
 pub struct Args {
     pub end: usize,
     pub n: u32,
@@ -65,7 +65,7 @@ pub struct Args {
 }
 
 // A part up to its first process: where that begins, how many processes it has, and the scope of the first.
-#[derive(Drop)]
+#[derive(Clone, Copy)]
 pub struct Open {
     pub end: usize,
     pub kind: u32,
@@ -73,7 +73,7 @@ pub struct Open {
 }
 
 // Where a part or a process ends, and its least place.
-#[derive(Drop)]
+#[derive(Clone, Copy)]
 pub struct Placed {
     pub end: usize,
     pub low: usize,

@@ -24,7 +24,7 @@ ghost use Rattle.text_scan.specs.Answers.{totaled, plus_totals, unread_scan, sca
 ghost use Rattle.text_scan.specs.Limits.{limits};
 
 // Where definitions and located processes end, or 0, with their numbers: each stops one past its limit.
-#[derive(Drop)]
+#[derive(Clone, Copy)]
 pub struct Totals {
     pub end: usize,
     pub nesting: u16,
@@ -213,7 +213,7 @@ fn text_at(s: &[u8], at: usize) -> Totals
 }
 
 // Whether a text is short enough (1) and of the form (2), and its numbers, each at most one past its limit; all 0 if it is not.
-#[derive(Drop)]
+#[derive(Clone, Copy)]
 pub struct Scanned {
     pub short: bool,
     pub form: bool,

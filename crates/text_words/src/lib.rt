@@ -25,7 +25,7 @@ use terms::characters::{is_alnum, is_blank, is_digit};
 
 // ---- bytes ----
 // A byte's class, by ranges.
-#[derive(Drop)]
+#[derive(Clone, Copy)]
 pub enum Class {
     Capital,
     Small,
@@ -162,7 +162,7 @@ pub fn is_plain(w: &[u8]) -> bool
 
 // ---- sorts of words ----
 // A word is a keyword, a name that begins small, a name that begins with a capital, a number of ticks, or nothing of use.
-#[derive(Drop)]
+#[derive(Clone, Copy)]
 pub enum Sort {
     Stop,
     Go,
@@ -254,7 +254,7 @@ pub fn sort_of(w: &[u8]) -> Sort
 
 // ---- fields ----
 // What a place of the grammar wants: a variable or channel, a location or variable (an identifier has the same form), a timer, a location.
-#[derive(Drop)]
+#[derive(Clone, Copy)]
 pub enum Field {
     Small,
     Value,

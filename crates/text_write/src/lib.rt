@@ -21,7 +21,7 @@ use text_network::write_text;
 
 // What the write call returns: 0 or the number of the question answered by no, and the text's length.
 #[repr(C)]
-#[derive(Drop)]
+#[derive(Clone, Copy)]
 pub struct Written {
     pub code: u32,
     pub len: usize,
