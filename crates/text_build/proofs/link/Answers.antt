@@ -4,29 +4,12 @@ use native.Mathlib.Omega.{arith}
 use mathlib.Core.Path.{◌≡◌}
 use Rattle.text_build.specs.Put.{linked}
 use borrow.Author.Rules.{rules}
-use Rattle.text_build.proofs.link.Statement.{statement}
-use Rattle.text_build.proofs.link.Tie as tie
 use Rattle.table.specs.Words.{row_size, parts_at, low_field, next_field}
+use Rattle.text_build.proofs.link.Goals as goal
 
-returns : tie.Need-returns
+pub returns : goal.returns
 unfolding linked
 returns c =
     let i = c.args.i in
     let e : parts_at + i * row_size + low_field ≡ suc (parts_at + i * row_size + next_field) = omega arith in
     rw e
-
-pub link-spec : {M : Type 1} → statement M
-link-spec =
-    tie.close
-    (tie.spec
-    (λ c. search rules)
-    (λ c. search rules)
-    (λ c. search rules)
-    (λ c. search rules)
-    (λ c. search rules)
-    (λ c. search rules)
-    (λ c. search rules)
-    (λ c. search rules)
-    (λ c. search rules)
-    (λ c. search rules)
-    returns)
