@@ -1,0 +1,8 @@
+-- The word and the fields.
+-- By what each call puts.
+use Rattle.text_letters.proofs.Puts.{then}
+use borrow.Author.Rules.{rules}
+use Rattle.text_process.proofs.open_one.Goals as goal
+
+pub returns : goal.returns
+returns c = then c.put_all-a.ensures c.put_fields.ensures
