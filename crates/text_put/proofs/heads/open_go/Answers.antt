@@ -1,0 +1,24 @@
+-- A bracket, a timer, a value; then the row.
+use mathlib.Core.List.{◌∷◌}
+use mathlib.Core.Path.{refl, ap, ◌∙◌}
+use borrow.Author.Rules.{rules}
+use Rattle.terms.specs.Characters.{class_of}
+use Rattle.text.specs.Tokens.{lex_from, opens, comma}
+use Rattle.text.specs.Tokens.Token.{sign}
+use Rattle.text.specs.Write.{timer_t}
+use Rattle.text_put.specs.Found.{name_of}
+use Rattle.text_put.proofs.Peeling.{peel-sign}
+use Rattle.text_put.proofs.Arguments.{value-word}
+use Rattle.text_put.proofs.Fronts.{go-open}
+use Rattle.text_put.proofs.heads.open_go.Goals as goal
+
+pub eat-a-requires : goal.eat-a-requires
+unfolding lex_from class_of
+eat-a-requires c = λ l. refl
+
+pub returns : goal.returns
+returns c =
+    λ t v p us f g.
+    let s = c.args.s.now in
+    let a = c.pair_at-f.ensures t (name_of v) _ f.0 (peel-sign s _ opens g c.eat-a.ensures ∙ ap (λ z. timer_t t (sign comma ∷ z)) (value-word v _)) in
+    go-open s _ _ _ _ us _ c.less_one-p.ensures t v p f _ a c.value_in-v.ensures _ c.no_key.ensures c.put_row.ensures

@@ -1,0 +1,21 @@
+-- A channel, a timer, a value; then the row.
+use native.Mathlib.Omega.{arith}
+use mathlib.Core.List.{◌∷◌}
+use mathlib.Core.Path.{ap, ◌∙◌}
+use borrow.Author.Rules.{rules}
+use Rattle.text.specs.Tokens.{opens, comma}
+use Rattle.text.specs.Tokens.Token.{word, sign}
+use Rattle.text.specs.Write.{timer_t}
+use Rattle.text_put.specs.Found.{name_of}
+use Rattle.text_put.proofs.Arguments.{value-word}
+use Rattle.text_put.proofs.Fronts.{chan-few, out-open}
+use Rattle.text_put.proofs.heads.open_out.Goals as goal
+
+pub overflow_cast-c : goal.overflow_cast-c
+overflow_cast-c c = omega (arith, chan-few c.number-c.ensures)
+
+pub returns : goal.returns
+returns c =
+    λ h t v p q us f g.
+    let a = c.front_at-f.ensures h t (name_of v) _ f.1 (g ∙ ap (λ z. sign opens ∷ word h ∷ sign comma ∷ timer_t t (sign comma ∷ z)) (value-word v _)) in
+    out-open _ _ _ _ _ us _ c.less_one-p.ensures h t v p q f _ a c.number-c.ensures c.value_in-v.ensures _ c.no_key.ensures c.put_row.ensures

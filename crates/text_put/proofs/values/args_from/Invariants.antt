@@ -1,0 +1,16 @@
+-- The loop's invariant: of the values some are read, and from here on stand the others. The bytes left fall with each value and its comma.
+use Prim.Native.Nat.{◌-◌}
+use mathlib.Core.Path.{refl}
+use lib.ListN.{length}
+use borrow.Author.Rules.{rules}
+use Rattle.terms.specs.Characters.{class_of}
+use Rattle.text.specs.Tokens.{lex_from}
+use Rattle.text_put.specs.Found.{ValuesAt, values_of}
+use Rattle.text_put.proofs.Arguments.{Going, going-first, going-word, going_end, going_on, going-falls}
+use Rattle.text_put.proofs.values.args_from.Given as goal
+
+abbrev pub invariant-loop-sc : goal.invariant-loop-sc
+invariant-loop-sc l = (x : ValuesAt l.s l.at) → Going l.s l.here l.initial.w l.w l.sc l.n l.k (values_of x) x.left
+
+abbrev pub decreases-loop-sc : goal.decreases-loop-sc
+decreases-loop-sc l = length l.s - l.here
