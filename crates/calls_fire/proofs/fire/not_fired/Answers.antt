@@ -1,0 +1,6 @@
+-- `not_fired` meets its contract.
+use borrow.Author.Rules.{rules}
+use Rattle.calls_fire.proofs.fire.not_fired.Goals as goal
+
+pub returns : goal.returns
+returns c = rw c.no_label.ensures
