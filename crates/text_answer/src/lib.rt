@@ -26,7 +26,7 @@ pub mod state;
 
 // The rights of one location: to send and to receive on each channel, to leave for each target, by number.
 #[repr(C)]
-#[derive(Drop)]
+#[derive(Clone, Copy)]
 pub struct Row {
     pub send: [bool; 64],
     pub receive: [bool; 64],
