@@ -1,0 +1,14 @@
+-- The loop's invariant: the parameters that are left, entered after those before them, make the scope.
+use Prim.Native.Nat.{◌+◌, ◌-◌, ◌*◌, ◌≤◌}
+use native.Mathlib.Omega.{arith}
+use mathlib.Core.Path.{◌≡◌, ap, ◌∙◌}
+use Rattle.text_tree.specs.Pass.{no_scope, params_from}
+use Rattle.text_fill.proofs.Defs.{enter-few, scope-on, scope-end, scope-first}
+use Rattle.table.specs.Words.{row_size, first_param, name_size}
+use Rattle.text_fill.proofs.definitions.params_scope.Given as goal
+
+abbrev pub invariant-loop-j : goal.invariant-loop-j
+invariant-loop-j l = (l.j ≤ l.n) × (l.sc.n ≤ l.j) × (params_from l.w l.k l.j (l.n - l.j) l.sc ≡ params_from l.w l.k 0 l.n no_scope)
+
+abbrev pub decreases-loop-j : goal.decreases-loop-j
+decreases-loop-j l = l.n - l.j

@@ -1,0 +1,16 @@
+-- The loop's invariant: from here on stand the definitions whose bodies are left to put.
+use Prim.Native.Nat.{◌-◌, ◌<◌}
+use native.Mathlib.Omega.{arith}
+use mathlib.Core.Path.{sym, ◌∙◌}
+use lib.ListN.{length}
+use borrow.Author.Rules.{rules}
+use borrow.Author.Tests.{not-true, not-false}
+use Rattle.text_fill.specs.Ready.{Ready}
+use Rattle.text_fill.proofs.Defs.{turn, number_small, defs-fall, BodiesGoing, bodies-first, bodies-end, bodies-on}
+use Rattle.text_fill.proofs.definitions.put_bodies.Given as goal
+
+abbrev pub invariant-loop-w : goal.invariant-loop-w
+invariant-loop-w l = (l.j < 4_096) × ((x : Ready l.s) → BodiesGoing l.s l.here l.k l.j l.initial.w l.w l.i x)
+
+abbrev pub decreases-loop-w : goal.decreases-loop-w
+decreases-loop-w l = length l.s - l.here

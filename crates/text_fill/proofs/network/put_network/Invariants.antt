@@ -1,0 +1,18 @@
+-- The loop's invariant: from here on stand the located processes that are left to put and to gather.
+use Prim.Native.Nat.{◌-◌, ◌≤◌, ◌<◌}
+use native.Mathlib.Omega.{arith}
+use mathlib.Core.Path.{◌≡◌, refl, ◌∙◌}
+use lib.ListN.{length}
+use borrow.Author.Rules.{rules}
+use Rattle.terms.specs.Characters.{class_of}
+use Rattle.text.specs.Tokens.{lex_from}
+use Rattle.text_fill.specs.Located.{NetworkAt}
+use Rattle.text_fill.proofs.Bracketed.{Going, network-first, going-at, place-small, going_end, going_on, going-falls}
+use Rattle.text_fill.proofs.Spreading.{spread-within}
+use Rattle.text_fill.proofs.network.put_network.Given as goal
+
+abbrev pub invariant-loop-at : goal.invariant-loop-at
+invariant-loop-at l = (l.j < 4_096) × (l.n ≤ length l.out) × (length l.out ≡ length l.initial.out) × ((x : NetworkAt l.s l.at) → Going l.s l.at l.here l.initial.w l.w l.i l.j l.initial.out l.out l.n x)
+
+abbrev pub decreases-loop-at : goal.decreases-loop-at
+decreases-loop-at l = length l.s - l.here
