@@ -1,0 +1,17 @@
+-- `put_flags` meets its contract: a right, one after the other. The loop's invariant: the first c are written (Under).
+use native.Mathlib.Omega.{arith}
+use Prim.Native.Nat.{◌+◌, ◌-◌, ◌≤◌}
+use mathlib.Core.Bool.{false}
+use mathlib.Core.Path.{◌≡◌, refl, ap, ◌∙◌}
+use lib.ListN.{get_or, set}
+use lib.Seq.{sets}
+use Rattle.table.specs.Meaning.{list_from}
+use Rattle.text_answer.specs.Answer.{flag, flags}
+use Rattle.text_answer.proofs.Under.{stores-more}
+use Rattle.text_answer.proofs.given.put_flags.Given as goal
+
+abbrev pub invariant-loop-c : goal.invariant-loop-c
+invariant-loop-c l = (l.c ≤ 64) × (l.w ≡ sets l.initial.w l.o (list_from 0 l.c (λ k. flag (get_or l.row k false))))
+
+abbrev pub decreases-loop-c : goal.decreases-loop-c
+decreases-loop-c l = 64 - l.c

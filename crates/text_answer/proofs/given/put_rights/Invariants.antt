@@ -1,0 +1,18 @@
+-- `put_rights` meets its contract: a row, one after the other. The loop's invariant: the first l are written (Under).
+use native.Mathlib.Omega.{arith}
+use Prim.Native.Nat.{◌+◌, ◌-◌, ◌*◌, ◌≤◌}
+use mathlib.Core.List.{flat_map}
+use mathlib.Core.Path.{◌≡◌, refl, ap, ◌∙◌}
+use lib.ListN.{get_or}
+use lib.Seq.{sets}
+use Rattle.table.specs.Words.{rights_at, rights_size}
+use Rattle.table.specs.Meaning.{list_from}
+use Rattle.text_answer.specs.Answer.{no_row, row_words, rights_words}
+use Rattle.text_answer.proofs.Under.{rows_more}
+use Rattle.text_answer.proofs.given.put_rights.Given as goal
+
+abbrev pub invariant-loop-l : goal.invariant-loop-l
+invariant-loop-l l = (l.l ≤ 64) × (l.w ≡ sets l.initial.w rights_at (flat_map row_words (list_from 0 l.l (λ k. get_or l.rights k no_row))))
+
+abbrev pub decreases-loop-l : goal.decreases-loop-l
+decreases-loop-l l = 64 - l.l
