@@ -46,20 +46,12 @@ hung f g = record { up = λ e. f.up (g.up e); down = λ e. g.down (f.down e) }
 pub by-hang : {A : Type 0} {x y s t : A} {r : Bool} → Hangs x y s t → Decides r s t → Decides r x y
 by-hang h d = carried d h.up h.down
 
-clash : (r : Bool) → not r ≡ true → r ≡ true → ⊥
-clash true n e = false≢true n
-clash false n e = false≢true e
-
 -- s and t are not one, though they would be if x and y were
-pub differ : {A B : Type 0} {x y : A} {s t : B} {r : Bool} → Decides r s t → not r ≡ true → (x ≡ y → s ≡ t) → Decides false x y
-differ {r = r} d n g = never (λ e. clash r n (d.no (g e)))
+pub differ : {A B : Type 0} {x y : A} {s t : B} {r : Bool} → Decides r s t → r ≡ false → (x ≡ y → s ≡ t) → Decides false x y
+differ d n g = never (λ e. false≢true (sym n ∙ d.no (g e)))
 
-pub shown : {A : Type 0} {x y : A} {r : Bool} → Decides r x y → not r ≡ false → x ≡ y
-shown {r = r} d n = d.yes (go r n)
-  where
-    go : (b : Bool) → not b ≡ false → b ≡ true
-    go true e = refl
-    go false e = sym e
+pub shown : {A : Type 0} {x y : A} {r : Bool} → Decides r x y → r ≡ true → x ≡ y
+shown d n = d.yes n
 
 -- ── two answers to one question ──
 pub one_answer : {A : Type 0} {x y : A} {r s : Bool} → Decides r x y → Decides s x y → r ≡ s

@@ -1,0 +1,20 @@
+-- Each definition is among the others.
+-- Idea: what is left to look for is the definitions from the number on.
+use Prim.Native.Nat.{◌-◌, ◌≤◌}
+use native.Mathlib.Omega.{arith}
+use mathlib.Core.Path.{◌≡◌, ap, sym, ◌∙◌}
+use Rattle.terms.specs.Rules.{some}
+use Rattle.terms.specs.Same.{same_def, every, within}
+use Rattle.table.specs.Words.{defs_in}
+use Rattle.table.specs.Meaning.{list_from, def_of, defs_of}
+use Rattle.table.proofs.Tests.{script-fine}
+use Rattle.table.proofs.ValidBool.{failed, passed}
+use Rattle.calls_alike.proofs.Definitions.{from_next, from_end, every-fails, every-later, every-none}
+use borrow.Author.Rules.{rules}
+use Rattle.calls_alike.proofs.defs.defs_within.Given as goal
+
+abbrev pub invariant-loop-d : goal.invariant-loop-d
+invariant-loop-d l = (l.n ≡ defs_in l.w) × (l.d ≤ l.n) × (every (λ x. some (same_def x) (defs_of l.v)) (list_from l.d (l.n - l.d) (def_of l.w)) ≡ within (defs_of l.w) (defs_of l.v))
+
+abbrev pub decreases-loop-d : goal.decreases-loop-d
+decreases-loop-d l = l.n - l.d
