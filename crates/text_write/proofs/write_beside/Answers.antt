@@ -1,0 +1,30 @@
+-- An unmarked network's text, or 15.
+-- Idea: the text is written beside the buffer first, so that a refusal leaves the buffer as it was.
+use native.Mathlib.Omega.{arith}
+use Rattle.text_write.proofs.Answered.{says-15, says-text, says-copied}
+use borrow.Author.Rules.{rules}
+use Rattle.text_write.proofs.write_beside.Goals as goal
+
+pub write_text-k-requires : goal.write_text-k-requires
+write_text-k-requires c = c.requires
+
+pub returns-then-buf-k : goal.returns-then-buf-k
+returns-then-buf-k c =
+    let a = c.args in
+    let p = c.requires in
+    says-15 a.w.now (record { c = a.c.now; n = a.n }) a.buf.now p.0 p.1 c.write_text-k.result c.write_text-k.ensures.place c.if-buf-k.true
+
+pub write_text-requires : goal.write_text-requires
+write_text-requires c = c.requires
+
+pub returns-then-text-k : goal.returns-then-text-k
+returns-then-text-k c =
+    let a = c.args in
+    let p = c.requires in
+    says-text a.w.now (record { c = a.c.now; n = a.n }) a.buf.now p.0 p.1 c.write_text-k.result c.write_text-k.ensures.place c.if-buf-k.false (omega arith) c.write_text.ensures
+
+pub returns : goal.returns
+returns c =
+    let a = c.args in
+    let p = c.requires in
+    says-copied a.w.now (record { c = a.c.now; n = a.n }) a.buf.now p.0 p.1 c.write_text-k.result c.write_text-k.ensures.place c.if-buf-k.false (omega arith) (omega arith) (omega arith) c.write_text-k.ensures c.copy_front.ensures
