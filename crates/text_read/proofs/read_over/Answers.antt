@@ -1,0 +1,22 @@
+-- The edition's refusal, that of the scan, that of the script, or the network; after a refusal the script is zero.
+use borrow.Author.Rules.{rules}
+use native.Mathlib.Omega.{arith}
+use Rattle.table.proofs.ValidBool.{failed, passed}
+use Rattle.text_enter.proofs.Answering.{way-1, answer-no, edition-no, edition-yes}
+use Rattle.text_read.proofs.read_over.Goals as goal
+
+pub returns-then-not-is_edition : goal.returns-then-not-is_edition
+returns-then-not-is_edition c = edition-no _ _ (failed c.if-not-is_edition.true c.is_edition.ensures) _ _ _ _ c.refuse.ensures c.wipe.ensures
+
+pub returns-then-q-ne0 : goal.returns-then-q-ne0
+returns-then-q-ne0 c =
+    edition-yes _ _ (passed c.if-not-is_edition.false c.is_edition.ensures) _ _ _ _ (way-1 _ _ c.scan-c.ensures _ c.limits-q.ensures c.if-q-ne0.true _ _ _ _ _ c.refuse-then-q-ne0.ensures c.wipe-then-q-ne0.ensures)
+
+pub returns-then-e-ne0 : goal.returns-then-e-ne0
+returns-then-e-ne0 c =
+    edition-yes _ _ (passed c.if-not-is_edition.false c.is_edition.ensures) _ _ _ _ (answer-no c.enter-e.ensures.answer c.if-e-ne0.true _ _ _ _ _ c.refuse-then-e-ne0.ensures c.wipe-then-e-ne0.ensures)
+
+pub returns : goal.returns
+returns c =
+    let known = passed c.if-not-is_edition.false c.is_edition.ensures in
+    edition-yes _ _ known _ _ _ _ (c.enter-e.ensures.answer.yes (omega (arith, c.if-e-ne0.false)) _ _ c.put_settings.ensures known _ _ c.accept.ensures.0 c.accept.ensures.1)
