@@ -1,0 +1,13 @@
+-- `raised` meets its contract: the position decides.
+use borrow.Author.Tests.{eq-eqb, ne_eqb}
+use borrow.Author.Rules.{rules}
+use Rattle.calls_same.specs.Unused.{raised_to}
+use Rattle.calls_same.proofs.comps.raised.Goals as goal
+
+pub returns-then-p-low : goal.returns-then-p-low
+unfolding raised_to
+returns-then-p-low c = rw (eq-eqb _ _ c.if-p-low.true)
+
+pub returns : goal.returns
+unfolding raised_to
+returns c = rw (ne_eqb _ _ c.if-p-low.false)

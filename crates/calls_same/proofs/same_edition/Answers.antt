@@ -1,0 +1,6 @@
+-- The two words are compared.
+use borrow.Author.Rules.{rules}
+use Rattle.calls_same.proofs.same_edition.Goals as goal
+
+pub returns : goal.returns
+returns c = rw (c.word.ensures, c.word-2.ensures)
