@@ -9,22 +9,17 @@ use Rattle.calls_tick.proofs.Ticking.{tick-done, tick-took}
 use Rattle.calls_pass.proofs.Passing.{pass_fits}
 use Rattle.calls_steady.proofs.Staying.{tick-steady}
 use borrow.Author.Rules.{rules}
-use Rattle.calls_tick.proofs.tick.tick_free.Statement.{statement}
-use Rattle.calls_tick.proofs.tick.tick_free.Tie as tie
+use Rattle.calls_tick.proofs.tick.tick_free.Goals as goal
 
-pass-all-requires : tie.Need-pass-all-requires
-pass-all-requires c κs = (c.before.before.before.requires.0, c.before.sized.ensures)
+pub pass_all-m-requires : goal.pass_all-m-requires
+pass_all-m-requires c = (c.requires.0, c.sized.ensures)
 
-returns : tie.Need-returns
+pub returns : goal.returns
 returns c =
-    let past = c.before.before.before.before in
-    let a = past.args in
-    let v = past.requires in
+    let a = c.args in
+    let v = c.requires in
     let st : State = record { c = a.c.now; n = a.n } in
     let s = tick-steady a.w.now a.l (comps_of st) v.3 ∙ comps-length st in
-    let k = pass_fits _ _ _ _ c.pass_all.ensures (omega (arith, s, few-comps a.w.now st v.0)) in
-    let p = c.pass_all.ensures.1 k in
+    let k = pass_fits _ _ _ _ c.pass_all-m.ensures (omega (arith, s, few-comps a.w.now st v.0)) in
+    let p = c.pass_all-m.ensures.1 k in
     rw (tick-done a.w.now st a.l v.0 v.1 v.2 (omega (arith, p.1))) (tick-took a.w.now st _ _ a.l v.0 v.1 p.0 p.1 (omega (arith, p.1)) p.2)
-
-pub tick-free-spec : {M : Type 1} → statement M
-tick-free-spec = tie.close (tie.spec (λ c κs. search rules) pass-all-requires returns)
