@@ -1,0 +1,15 @@
+-- `presses` meets its contract: what it asks of the bitmap is whether its channel is heard at its location.
+use mathlib.Core.Path.{ap, ◌∙◌}
+use Prim.Native.Nat.{◌+◌, ◌*◌}
+use Rattle.table.specs.Fire.{sent_on, must_act}
+use Rattle.calls_forced.specs.Marked.{is_heard, presses_in}
+use borrow.Author.Rules.{rules}
+use Rattle.calls_forced.proofs.press.presses.Goals as goal
+
+pub returns : goal.returns
+unfolding presses_in
+returns c =
+    let a = c.args in
+    c.must_act.ensures
+    ∙ ap (λ b. must_act a.w.now b a.c a.h)
+    (c.is_heard-heard.ensures ∙ rw (c.wide.ensures, c.wide-2.ensures ∙ c.sent_on.ensures))
