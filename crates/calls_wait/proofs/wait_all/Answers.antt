@@ -1,0 +1,36 @@
+-- `wait_all` meets its contract: what is gathered, sorted and dealt are the chains of who waits.
+use Prim.Native.Nat.{◌≤◌}
+use native.Mathlib.Omega.{arith}
+use lib.ListN.{length}
+use borrow.Author.Rules.{rules}
+use Rattle.table.specs.declared.State.{State}
+use Rattle.table.specs.Meaning.{comps_of}
+use Rattle.table.proofs.InUse.{comps-length}
+use Rattle.calls_act.proofs.Positions.{few-comps}
+use Rattle.calls_wait.proofs.Dealing.{sorted_apart, sorted-queued}
+use Rattle.calls_wait.proofs.wait_all.Goals as goal
+
+pub sort-requires : goal.sort-requires
+sort-requires c =
+    let a = c.args in
+    let st : State = record { c = a.c.now; n = a.n } in
+    omega (arith, c.gather-m.ensures.few, comps-length st, few-comps a.w.now st c.requires.0)
+
+pub deal-requires : goal.deal-requires
+deal-requires c =
+    let a = c.args in
+    let p = c.requires in
+    let st : State = record { c = a.c.now; n = a.n } in
+    let g = c.gather-m.ensures in
+    let n : length (comps_of st) ≤ 256 = omega (arith, comps-length st, few-comps a.w.now st p.0) in
+    let o = sorted_apart a.w.now a.l (comps_of st) _ _ _ _ n g c.sort.ensures in
+    (o.0, o.1, p.1, p.2, o.2)
+
+pub returns : goal.returns
+returns c =
+    let a = c.args in
+    let p = c.requires in
+    let st : State = record { c = a.c.now; n = a.n } in
+    let g = c.gather-m.ensures in
+    let n : length (comps_of st) ≤ 256 = omega (arith, comps-length st, few-comps a.w.now st p.0) in
+    sorted-queued a.w.now a.l (comps_of st) _ _ _ _ n g c.sort.ensures _ _ c.deal.ensures
