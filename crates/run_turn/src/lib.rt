@@ -42,7 +42,7 @@ pub fn turn(w: &Script, st: State, l: u32, buf: &mut [u8], at: usize) -> Turned
     ensures { TurnIs w.now (turn_of (context_of w.now) (loc_name w.now l) (counted_of w.now st)) buf.old at buf.new result }
 {
     let mut records = [[0; 3]; 256];
-    let mut next = st;
+    let mut next = State { c: st.c, n: st.n };
     let s = step_valid(w, &mut next.c, st.n, l, &mut records);
     if s.code != 0 {
         let a = put_refused(s.code, buf, at);
