@@ -15,11 +15,11 @@ no-way-out : Closed (read_rights pages embargo) inside
 unfolding embargoing closed_in every
 no-way-out = closed-by (locations_in (form pages)) (channels_in (form pages)) (given embargo) inside refl refl
 
-not-inside : inside (bytes "public") ≡ false
+not-inside : inside (bytes "Public") ≡ false
 unfolding same_name
 not-inside = refl
 
-vault-inside : inside (bytes "vault") ≡ true
+vault-inside : inside (bytes "Vault") ≡ true
 unfolding same_name
 vault-inside = refl
 

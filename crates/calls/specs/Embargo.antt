@@ -25,19 +25,19 @@ use Rattle.calls.specs.Demand3.{read_context}
 use Rattle.calls.specs.Leaving.{Lived, ancestors_of}
 
 abbrev vault : Name
-vault = bytes "vault"
+vault = bytes "Vault"
 
 abbrev public : Name
-public = bytes "public"
+public = bytes "Public"
 
 abbrev desk : Name
-desk = bytes "desk"
+desk = bytes "Desk"
 
 abbrev scanner : Name
-scanner = bytes "scanner"
+scanner = bytes "Scanner"
 
 abbrev pub pages : List ℕ
-pages = bytes "vault[go(0,public,stop) | go(0,desk,go(0,public,stop))] | scanner[go(0,public,stop)] ."
+pages = bytes "Vault[go(0,Public,stop) | go(0,Desk,go(0,Public,stop))] | Scanner[go(0,Public,stop)] ."
 
 -- the locations by number
 pages-numbered : locations_in (form pages) ≡ vault ∷ public ∷ desk ∷ scanner ∷ []
