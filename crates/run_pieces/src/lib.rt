@@ -64,9 +64,9 @@ fn before_step(round: usize, l: usize, st: State) -> Progress
 }
 
 // The network, or the refusal to write it, at the front of a buffer of 65,536 bytes: 0 or the number of the refusal, and the length.
-fn put_ending(w: &Script, st: State, buf: &mut [u8]) -> Written
-    requires { (valid w.now st ≡ true) × (length buf.old ≡ 65536) }
-    ensures { EndingIs (shown (context_of w.now) (net_of w.now st)) buf.old buf.new result }
+fn put_ending(w: &Script, st: &State, buf: &mut [u8]) -> Written
+    requires { (valid w.now st.now ≡ true) × (length buf.old ≡ 65536) }
+    ensures { EndingIs (shown (context_of w.now) (net_of w.now st.now)) buf.old buf.new result }
 {
     let r = text_write::write(w, &st.c, st.n, buf);
     if r.code != 0 {
@@ -84,13 +84,12 @@ fn last_piece(w: &Script, c: Progress, buf: &mut [u8]) -> Piece
     requires { (c.over ≡ false) × ProgressOk w.now c × (c.code ≡ 0) × (4 ≤ c.round) × (length buf.old ≡ 65536) }
     ensures { PieceIs w.now c buf.old buf.new result }
 {
-    let st = c.state;
     if 5 <= c.round {
-        let b = put_mean(&st.c, buf, 0);
+        let b = put_mean(&c.state.c, buf, 0);
         let e = finished(c);
         return Piece { len: b, next: e };
     }
-    let r = put_ending(w, st, buf);
+    let r = put_ending(w, &c.state, buf);
     if r.code != 0 {
         let e = finished(c);
         return Piece {
@@ -98,6 +97,7 @@ fn last_piece(w: &Script, c: Progress, buf: &mut [u8]) -> Piece
             next: e,
         };
     }
+    let st = c.state;
     let e = before_step(5, 0, st);
     Piece {
         len: r.len,
@@ -130,10 +130,13 @@ pub fn next_piece(w: &Script, c: Progress, buf: &mut [u8]) -> Piece
         let e = finished(c);
         return Piece { len: a, next: e };
     }
-    let st = c.state;
     if 4 <= c.round {
         return last_piece(w, c, buf);
     }
+    let st = State {
+        c: c.state.c,
+        n: c.state.n,
+    };
     let t = turn(w, st, c.l as u32, buf, 0);
     if t.code != 0 {
         let e = finished(c);
