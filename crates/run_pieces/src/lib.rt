@@ -133,8 +133,9 @@ pub fn next_piece(w: &Script, c: Progress, buf: &mut [u8]) -> Piece
     if 4 <= c.round {
         return last_piece(w, c, buf);
     }
+    let held = c.state.c;
     let st = State {
-        c: c.state.c,
+        c: held,
         n: c.state.n,
     };
     let t = turn(w, st, c.l as u32, buf, 0);
