@@ -14,7 +14,7 @@ use Rattle.terms.specs.Terms.{Process, Component, Context}
 use Rattle.terms.specs.Terms.Process.{one, ◌∥◌}
 use Rattle.terms.specs.Terms.Mark.{none, by}
 use Rattle.terms.specs.Terms.Component.{comp}
-use Rattle.terms.specs.Rules.{Action, Acted, at, set, set_all, some, positions, unmarked, ready, split, wait, pass}
+use Rattle.terms.specs.Rules.{Action, Acted, set, set_all, some, positions, unmarked, ready, split, wait, pass}
 use Rattle.terms.specs.Rules.Answer.{accepted}
 use Rattle.terms.specs.Step.{Swept, Done, fires, step, act_all, act_at}
 use Rattle.terms.proofs.Names.{name-eq, name-refl}
