@@ -6,7 +6,7 @@
 use Rattle.std.specs.Prelude.{ℕ, List, [], ◌∷◌, ◌++◌, map, Bool, true, false, not, ◌&&◌, ◌||◌, ◌≡◌}
 use Rattle.terms.specs.Names.{Name, same_name}
 use Rattle.terms.specs.Terms.{Component, Context, Rights}
-use Rattle.terms.specs.Rules.{Answer, at, pass}
+use Rattle.terms.specs.Rules.{at, pass}
 use Rattle.terms.specs.Rules.Answer.{refused, accepted}
 use Rattle.terms.specs.Same.{every}
 use Rattle.terms.specs.Runs.{Call, Fed, place_of, answer}
