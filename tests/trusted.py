@@ -131,7 +131,7 @@ def load():
 
 # ── the words of a text ──
 WORD = re.compile(r"[^\s(){}\[\];,.λ@\"]+")
-QUALIFIED = re.compile(r"[^\s(){}\[\];,λ@\".]+\.[^\s(){}\[\];,λ@\".]+")
+QUALIFIED = re.compile(r"[^\s(){}\[\];,λ@\".]+(?:\.[^\s(){}\[\];,λ@\".]+)+")
 
 
 def left_side(clause):
@@ -149,9 +149,10 @@ def words_of(lines):
     found = set()
     for clause in "\n".join(lines).split("\0"):
         left = left_side(clause)
-        text = re.sub(r"(?<=[\s()\]])\.[^\s().,;{}]+", " ", clause[len(left):])
+        text = re.sub(r"(?<=\))\.[^\s().,;{}]+", " ", clause[len(left):])
         text = re.sub(r"(record \{|;)\s*[^\s;{}]+\s*=(?=\s)", r"\1", text)
-        words = set(QUALIFIED.findall(text)) | set(WORD.findall(QUALIFIED.sub(" ", text)))
+        qualified = set(QUALIFIED.findall(text))
+        words = qualified | {w.partition(".")[0] for w in qualified} | set(WORD.findall(QUALIFIED.sub(" ", text)))
         bound = set(WORD.findall(left)[1:])
         words = words - (bound - CONSTRUCTORS) | (bound & CONSTRUCTORS)
         if "do" in words:
@@ -161,10 +162,10 @@ def words_of(lines):
 
 
 def is_used(name, words):
-    """A name, or the pieces of an operator such as `_>>=_`."""
-    if "_" not in name:
+    """A name, or the pieces of an operator such as `◌>>=◌`."""
+    if "◌" not in name:
         return name in words
-    pieces = [p for p in name.split("_") if p]
+    pieces = [p for p in name.split("◌") if p]
     return name in words or bool(pieces) and all(p in words for p in pieces)
 
 
@@ -172,8 +173,8 @@ def is_used(name, words):
 # A node is ("def", file, name), ("type", crate, name) of the code, or ("library", module, name).
 def module_of(path):
     """What a written path stands for: a file and the type behind it, a type of the code, or a library's module."""
-    m = re.match(r"Rattle·([a-z_]+)(?:·(?:specs|proofs))?\.(specs|proofs)\.(.*)$", path)
-    if not m:
+    m = re.match(r"Rattle\.([a-z_]+)\.(specs|proofs)\.(.*)$", path)
+    if not m or not os.path.isdir(os.path.join(TOP, "crates", m.group(1))):
         return "library", path, None
     rest = m.group(3).split(".")
     if rest[0] == "declared":
@@ -235,7 +236,9 @@ def type_in(crate, name):
 def types_in(text, path):
     """The structs and enums of the code that a text of a source file names."""
     own = path.split("/")[1]
-    home = {name: own if crate in ("super", "crate", "self") else crate for crate, name in re.findall(r"^use (\w+)(?:::\w+)*::([A-Z]\w*);", read(path), re.M)}
+    home = {}
+    for crate, names in re.findall(r"^use (\w+)(?:::\w+)*::(?:\{([^}]*)\}|[A-Z]\w*);", re.sub(r"::([A-Z]\w*);", r"::{\1};", read(path)), re.M):
+        home.update({name.strip(): own if crate in ("super", "crate", "self") else crate for name in names.split(",")})
     return {("type", home.get(n, own), n) for n in re.findall(r"\b[A-Z]\w*\b", text) if type_in(home.get(n, own), n)}
 
 
