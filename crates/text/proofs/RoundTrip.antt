@@ -10,13 +10,13 @@ use Rattle.terms.specs.Terms.Process.{one, ◌∥◌}
 use Rattle.terms.specs.Terms.Def.{define}
 use Rattle.terms.specs.Terms.Mark.{none, by}
 use Rattle.terms.specs.Terms.Component.{comp}
-use Rattle.terms.specs.Rules.{Answer, split, ◌>>=◌}
+use Rattle.terms.specs.Rules.{Answer, split}
 use Rattle.terms.specs.Rules.Answer.{accepted}
 use Rattle.terms.specs.Same.{every}
 use Rattle.text.specs.Syntax.{Text}
 use Rattle.text.specs.Tree.{timer_of, settle, settle_p, settle_def, settle_at, settled, components, network_of, located, tree_of}
 use Rattle.text.specs.Write.{tokens, spelled, spell_timer, spell_part, spell_process, spell_def, spell_component, spell_network, write}
-use Rattle.text.specs.WellFormed.{Each, WellLocated, NonEmpty, WellTree, WellText, WellComponent, Writable}
+use Rattle.text.specs.WellFormed.{Each, WellLocated, WellTree, WellText, WellComponent, Writable}
 use Rattle.text.specs.Questions.{ask, form, asked, read, short, shallow, fits, calls_met, call_met, bound, bound_at, places, located_places, component_places, network_places, Sound, ◌>>◌}
 use Rattle.text.proofs.ReadBack.{tokens-back}
 use Rattle.text.proofs.Exact.{some-map}

@@ -1,8 +1,8 @@
 -- The spelling of a tree's tokens has those tokens.
 -- No word follows a word directly, a word's bytes are letters and digits, and each sign's spelling has that sign alone.
-use Prim.Native.Nat.{ℕ, ◌+◌}
+use Prim.Native.Nat.{ℕ}
 use mathlib.Core.List.{List, [], ◌∷◌, ◌++◌, map, append_assoc, append-nil}
-use mathlib.Core.Bool.{Bool, true, false, false≢true}
+use mathlib.Core.Bool.{Bool, true, false≢true}
 use mathlib.Core.Path.{◌≡◌, refl, ap, sym, ◌∙◌}
 use Rattle.terms.specs.Names.{Name}
 use Rattle.terms.specs.Terms.Value.{loc, var}

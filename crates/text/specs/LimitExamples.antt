@@ -1,5 +1,5 @@
 -- Each limit of question 4, at it and past it, and how names are numbered: by computation from the definitions. (Bytes, nesting and components: Examples.)
-use Rattle.std.specs.Prelude.{ℕ, zero, suc, ◌+◌, ◌/◌, ◌%◌, List, [], ◌∷◌, ◌++◌, true, false, ◌≡◌, refl}
+use Rattle.std.specs.Prelude.{ℕ, zero, suc, ◌+◌, ◌/◌, ◌%◌, List, [], ◌∷◌, ◌++◌, true, ◌≡◌, refl}
 use Prim.Native.String.{String}
 use Rattle.terms.specs.Names.{Name, bytes}
 use Rattle.terms.specs.Rules.{Answer, ◌>>=◌, ok}
@@ -7,7 +7,7 @@ use Rattle.terms.specs.Rules.Answer.{refused, accepted}
 use Rattle.text.specs.Tokens.{tokenwise}
 use Rattle.text.specs.Tree.{settled}
 use Rattle.text.specs.Grammar.{grammar}
-use Rattle.text.specs.Questions.{read, form, channels, locations, fits, questions}
+use Rattle.text.specs.Questions.{read, form, channels, locations, questions}
 
 -- f of 0 up to n - 1, each before the next
 each : ℕ → (ℕ → List ℕ) → List ℕ
