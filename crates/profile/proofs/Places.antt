@@ -10,12 +10,12 @@ use mathlib.Core.Path.{◌≡◌, refl, ap, sym, ◌∙◌, subst}
 use lib.ListN.{length}
 use borrow.Author.Tests.{not-true}
 use Rattle.terms.specs.Names.{Name, same_name}
-use Rattle.terms.specs.Terms.{Part, Component, Context, Label, fires_at}
+use Rattle.terms.specs.Terms.{Component, Context}
 use Rattle.terms.specs.Terms.Process.{one, ◌∥◌}
 use Rattle.terms.specs.Terms.Mark.{none, by}
 use Rattle.terms.specs.Terms.Component.{comp}
-use Rattle.terms.specs.Rules.{Answer, Kind, Fired, Action, Acted, ok, at, set, set_all, some, only, becomes, meet, fits, fire, positions, firing_at, unmarked, ready, due_go, forced}
-use Rattle.terms.specs.Rules.Answer.{refused, accepted}
+use Rattle.terms.specs.Rules.{Kind, Fired, Action, Acted, ok, at, set, set_all, some, only, becomes, meet, fits, fire, positions, firing_at, unmarked, ready, forced}
+use Rattle.terms.specs.Rules.Answer.{accepted}
 use Rattle.terms.specs.Rules.Kind.{calls, moves}
 use Rattle.terms.specs.Rules.Firing.{alone, together}
 use Rattle.terms.specs.Rules.Action.{single, pair}
@@ -27,7 +27,7 @@ use Rattle.terms.proofs.Lists.{at-within, length-set}
 use Rattle.terms.proofs.Forced.{some-at, some-only, blocking, Blocking, forced-if, ready-place}
 use Rattle.terms.proofs.Steps.{fires-here}
 use Rattle.laws.proofs.Fires.{at-inv}
-use Rattle.profile.specs.Profile.{late_go, sends_on, receives_on, ready_ones, at_most_one, Conforming}
+use Rattle.profile.specs.Profile.{late_go, sends_on, receives_on, at_most_one, Conforming}
 use Rattle.profile.proofs.Counts.{tail-one}
 use Rattle.profile.proofs.Pairs.{one-kind, pairs, sends, no-alone, only-sends, only-receives, no-hear, never, prompt-go}
 

@@ -1,7 +1,7 @@
 -- At a location that conforms all whole steps end in the same network and have the same labels, each as often: document 02, R-13.
 -- Idea: by position, each component that could fire has fired in its one way when the tick is allowed (Places). The labels by weight: what a step fires is what the
 -- network allows there, each once, since a firing takes away itself and no other that is allowed, and at the end none is allowed.
-use Prim.Native.Nat.{ℕ, ◌+◌}
+use Prim.Native.Nat.{ℕ}
 use native.Mathlib.Omega.{arith}
 use mathlib.Core.List.{List, flat_map}
 use mathlib.Core.Bool.{true, false}
@@ -22,7 +22,7 @@ use Rattle.terms.proofs.Steps.{step-accepted, step-whole}
 use Rattle.laws.specs.Exchange.{network_in}
 use Rattle.laws.proofs.Fires.{GoodAt, labels_of, Does, does, plain, plain-on, held_plain, Whole, whole, on, forced-on}
 use Rattle.profile.specs.Profile.{conforms}
-use Rattle.profile.specs.Outcome.{TwoSteps, OneOutcome, SingleOutcome, StepOutcome}
+use Rattle.profile.specs.Outcome.{SingleOutcome, StepOutcome}
 use Rattle.profile.proofs.Profile.{conforms-exactly, Sole, sole, sole-part}
 use Rattle.profile.proofs.Places.{same-places}
 use Rattle.profile.proofs.Allowed.{allowed, allowed-≈, holding, holding-total, all-fired, none_allowed}

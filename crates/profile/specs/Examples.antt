@@ -13,7 +13,6 @@ use Rattle.terms.specs.Terms.Mark.{by}
 use Rattle.terms.specs.Terms.Component.{comp}
 use Rattle.terms.specs.Terms.Def.{define}
 use Rattle.terms.specs.Terms.Label.{called, moved, sent}
-use Rattle.terms.specs.Rules.{Action}
 use Rattle.terms.specs.Rules.Answer.{accepted}
 use Rattle.terms.specs.Rules.Kind.{calls, moves}
 use Rattle.terms.specs.Rules.Action.{single, pair}
@@ -22,7 +21,7 @@ use Rattle.terms.specs.Same.{same}
 use Rattle.terms.specs.Runs.{rules}
 use Rattle.laws.specs.Exchange.{network_in}
 use Rattle.laws.specs.Examples.{A, B, c, x, halt, ◌$◌, bare}
-use Rattle.profile.specs.Profile.{conforms, Conforming, profile}
+use Rattle.profile.specs.Profile.{conforms, profile}
 use Rattle.profile.specs.Outcome.{TwoSteps, OneOutcome}
 
 abbrev k : Name
