@@ -6,12 +6,11 @@ use mathlib.Core.List.{List, [], ◌∷◌, ◌++◌, map}
 use mathlib.Core.Bool.{Bool, true, false, cond, ◌&&◌, ◌||◌}
 use mathlib.Core.Path.{◌≡◌, refl, ap, sym, ◌∙◌}
 use lib.Dec.{eqb, ltb}
-use lib.ListN.{length, get_or, set, take, length-map, length-take}
+use lib.ListN.{length, get_or, set, length-map, length-take}
 use borrow.Author.Tests.{ltb-true, lt-ltb, eqb-true, eqb-false, eq-eqb}
 use Rattle.terms.specs.Names.{Name, same_name}
 use Rattle.terms.specs.Terms.{Part}
 use Rattle.terms.specs.Terms.Value.{loc, var}
-use Rattle.terms.specs.Terms.Part.{go}
 use Rattle.terms.specs.Terms.Mark.{by}
 use Rattle.terms.specs.Terms.Component.{comp}
 use Rattle.terms.specs.Terms.Label.{sent}
@@ -32,10 +31,10 @@ use Rattle.table.specs.declared.Head.TheVariants.{Stop, Go, Out, In, Call}
 use Rattle.table.specs.declared.Comp.{Comp}
 use Rattle.table.specs.Words.{locs_in, chans_in, defs_in, name_at, loc_name, chan_name, def_name, arity_of, body_of, params_at, params_of, head_at, own_at, bound_at, scope_at, names_at, args_at}
 use Rattle.table.specs.Meaning.{value_of, values_of, part_of, process_at, part_at, list_from, def_of, defs_of, with_timer, env_at, means, context_of}
-use Rattle.table.specs.Valid.{index, slot_ok, ref_ok, entered, head_ok, script_ok, comp_ok}
-use Rattle.table.specs.Fire.{Left, ActedAt, label_of, value_in, left_at, arg_in, loaded, becomes_at, handed, meet_at, alone_at, together_at, left_by, act_on, fits_alone, fits_together}
+use Rattle.table.specs.Valid.{index, slot_ok, ref_ok, entered, head_ok, script_ok}
+use Rattle.table.specs.Fire.{Left, ActedAt, label_of, value_in, left_at, arg_in, loaded, becomes_at, handed, meet_at, fits_alone, fits_together}
 use Rattle.table.proofs.Scopes.{enter, enter-is, received, slotted, index-enter}
-use Rattle.table.proofs.Tests.{part-fine, script-fine, def-fine, CompFine, comp-fine, held-once}
+use Rattle.table.proofs.Tests.{part-fine, script-fine, def-fine, CompFine, held-once}
 use Rattle.table.proofs.Places.{go-fine, out-fine, in-fine}
 use Rattle.table.proofs.Splits.{unmarked-is, marked-is, loc-eqb, same-scope}
 

@@ -9,12 +9,12 @@ use lib.Dec.{eqb, ltb}
 use lib.ListN.{length, get_or}
 use borrow.Author.Tests.{ltb-true}
 use Rattle.terms.specs.Names.{Name, same_name}
-use Rattle.terms.specs.Terms.{Label, Rights, RightsOf, all_rights}
+use Rattle.terms.specs.Terms.{Rights, RightsOf, all_rights}
 use Rattle.terms.specs.Terms.Label.{called, moved, sent}
 use Rattle.terms.specs.Letters.{is_location, is_small}
 use Rattle.terms.specs.Same.{every}
 use Rattle.terms.specs.Rights.{number_of, right_by, looked_up, all_given, by_name}
-use Rattle.terms.specs.Rules.{Answer, Kind, Action, Fired, Acted, ◌>>=◌, at, set_all, positions, granted, fire, firing_at, act, fits, seek}
+use Rattle.terms.specs.Rules.{Answer, Kind, Action, ◌>>=◌, at, set_all, positions, granted, fire, firing_at, act, seek}
 use Rattle.terms.specs.Rules.Answer.{refused, accepted}
 use Rattle.terms.specs.Rules.Firing.{alone, together}
 use Rattle.terms.specs.Rules.Action.{single, pair}
@@ -22,15 +22,15 @@ use Rattle.terms.proofs.Forced.{or_right}
 use Rattle.terms.proofs.Lists.{every-at}
 use Rattle.terms.proofs.Names.{and-inv}
 use Rattle.table.specs.declared.Comp.{Comp}
-use Rattle.table.specs.Words.{locs_in, chans_in, defs_in, loc_name, chan_name, def_name, rights_in, head_at}
+use Rattle.table.specs.Words.{locs_in, chans_in, defs_in, loc_name, chan_name, def_name, rights_in}
 use Rattle.table.specs.Meaning.{list_from, context_of, rights_of, means}
 use Rattle.table.specs.Valid.{index, script_ok, comp_ok}
-use Rattle.table.specs.Fire.{Tag, label_of, tag_held, may_leave, may_meet, granted_at, rightly, Left, ActedAt, fits_alone, fits_together, alone_at, together_at, left_by, act_on}
+use Rattle.table.specs.Fire.{Tag, label_of, tag_held, may_leave, may_meet, granted_at, rightly, Left, fits_alone, fits_together, alone_at, together_at, left_by, act_on}
 use Rattle.table.proofs.Tests.{script-fine, CompFine, comp-fine, every-get_or}
 use Rattle.table.proofs.Splits.{loc-eqb}
 use Rattle.table.proofs.Fires.{map_a, fired_of, fits-alone-means, fits-together-means, at_map, set_all-map, acted_of}
 use Rattle.table.proofs.ValidLists.{list_from-length, list_from-at}
-use Rattle.table.proofs.Tags.{numbered, GoodTag, Tagged, fits-alone-tagged, fits-together-tagged}
+use Rattle.table.proofs.Tags.{numbered, Tagged, fits-alone-tagged, fits-together-tagged}
 
 -- ── rights by number ──
 -- a name that is there has its first place for its number

@@ -11,7 +11,7 @@ use Rattle.terms.specs.Terms.{Part, Process}
 use Rattle.terms.proofs.Names.{and-inv}
 use Rattle.table.specs.declared.Head.{Head}
 use Rattle.table.specs.declared.Head.TheVariants.{Stop, Go, Out, In, Call}
-use Rattle.table.specs.Words.{parts_in, head_at, next_at, low_at, bound_at, names_at}
+use Rattle.table.specs.Words.{parts_in, head_at, next_at, low_at}
 use Rattle.table.specs.Meaning.{part_of, joined, process_at, part_at}
 use Rattle.table.specs.Size.{size, size_p}
 use Rattle.table.specs.Valid.{head_ok, next_ok, stacked, floor, low_ok, tree_ok, script_ok}

@@ -1,6 +1,6 @@
 -- What a tick makes of a component on the table stands for what the rules make of what the component stands for.
 -- Idea: a component's own timer takes the place of the written one; a process splits along its chain of next parts, left to right.
-use Prim.Native.Nat.{ℕ, zero, suc, ◌-◌, ◌<◌}
+use Prim.Native.Nat.{ℕ, zero, suc, ◌<◌}
 use native.Mathlib.Omega.{arith}
 use mathlib.Core.List.{List, [], ◌∷◌, map}
 use mathlib.Core.Bool.{Bool, true, false, cond, ◌||◌}
@@ -9,7 +9,6 @@ use lib.Dec.{eqb, ltb}
 use borrow.Author.Tests.{ltb-true, eqb-true}
 use Rattle.terms.specs.Names.{same_name}
 use Rattle.terms.specs.Terms.{Timer, Part, Process, less, expired}
-use Rattle.terms.specs.Terms.Part.{go}
 use Rattle.terms.specs.Terms.Process.{one}
 use Rattle.terms.specs.Terms.Mark.{none, by}
 use Rattle.terms.specs.Terms.Component.{comp}

@@ -1,12 +1,12 @@
 -- The label of an accepted action in numbers: each number is in range, and it is the number of the name that stands there.
 -- By cases on what fires; a name is held once in its sort, so that its first place is its number.
-use Prim.Native.Nat.{ℕ, ◌+◌, ◌<◌}
+use Prim.Native.Nat.{ℕ, ◌<◌}
 use native.Mathlib.Omega.{arith}
 use mathlib.Core.List.{List, []}
 use mathlib.Core.Bool.{Bool, true, false, cond, ◌&&◌, ◌||◌}
 use mathlib.Core.Path.{◌≡◌, refl, ap, ◌∙◌}
 use lib.Dec.{eqb, ltb}
-use lib.ListN.{length, get_or}
+use lib.ListN.{get_or}
 use borrow.Author.Tests.{ltb-true, lt-ltb, eq-eqb, ne_eqb}
 use Rattle.terms.specs.Names.{Name, same_name}
 use Rattle.terms.specs.Letters.{is_location, is_small, is_identifier}

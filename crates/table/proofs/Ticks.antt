@@ -1,6 +1,6 @@
 -- When a tick is allowed on the table, and what it leaves, stand for what the rules say of what the components stand for.
 -- Idea: the forced test looks at each component where it stands (Forced of the crate below), and a head that presses is a part that presses.
-use Prim.Native.Nat.{ℕ, ◌-◌, ◌<◌}
+use Prim.Native.Nat.{ℕ, ◌<◌}
 use mathlib.Core.List.{List, [], ◌∷◌, map, flat_map}
 use mathlib.Core.Bool.{Bool, true, false, cond, ◌&&◌, ◌||◌, not, false≢true}
 use mathlib.Core.Path.{◌≡◌, refl, ap, sym, fun_ext, ◌∙◌}
@@ -8,7 +8,6 @@ use lib.Dec.{eqb, ltb}
 use borrow.Author.Tests.{eqb-true, eq-eqb}
 use Rattle.terms.specs.Names.{Name, same_name}
 use Rattle.terms.specs.Terms.{Process, Mark}
-use Rattle.terms.specs.Terms.Part.{go}
 use Rattle.terms.specs.Terms.Process.{one}
 use Rattle.terms.specs.Terms.Mark.{none}
 use Rattle.terms.specs.Terms.Component.{comp}
@@ -24,7 +23,7 @@ use Rattle.terms.proofs.Forced.{presses, forced-is}
 use Rattle.table.specs.declared.Head.{Head}
 use Rattle.table.specs.declared.Head.TheVariants.{Stop, Go, Out, In, Call}
 use Rattle.table.specs.declared.Comp.{Comp}
-use Rattle.table.specs.Words.{locs_in, loc_name, head_at, bound_at, names_at}
+use Rattle.table.specs.Words.{locs_in, loc_name, head_at}
 use Rattle.table.specs.Meaning.{part_of, process_at, part_at, context_of, with_timer, env_at, means}
 use Rattle.table.specs.Valid.{script_ok, comp_ok}
 use Rattle.table.specs.Split.{due_at, passed}

@@ -1,6 +1,6 @@
 -- Question 17: document 01, *Questions, asked downward*. Every test is local to a part, a definition, a name or a component.
 -- That each process has a part, and each unmarked component one part, holds by what places mean (Meaning).
-use Rattle.std.specs.Prelude.{ℕ, zero, suc, ◌-◌, ◌+◌, ◌*◌, List, [], ◌∷◌, ◌++◌, Bool, true, false, cond, ◌&&◌, ◌||◌, eqb, leb, ltb, length, get_or}
+use Rattle.std.specs.Prelude.{ℕ, zero, suc, ◌-◌, ◌*◌, List, [], ◌∷◌, ◌++◌, Bool, true, false, cond, ◌&&◌, ◌||◌, eqb, leb, ltb, length, get_or}
 use Rattle.terms.specs.Names.{Name, same_name}
 use Rattle.terms.specs.Same.{every}
 use Rattle.terms.specs.Clock.{is_edition}

@@ -1,7 +1,6 @@
 -- Thirteen words are read, one after the other.
 use mathlib.Core.Path.{refl}
 use Rattle.table.specs.Meaning.{comp_in}
-use borrow.Author.Rules.{rules}
 use Rattle.table.proofs.comps.comp_at.Goals as goal
 
 pub returns : goal.returns

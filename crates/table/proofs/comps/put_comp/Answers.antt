@@ -2,7 +2,6 @@
 use Prim.Native.Nat.{◌*◌}
 use lib.ListN.{get_or}
 use Rattle.table.proofs.Stores.{thirteen-stores}
-use borrow.Author.Rules.{rules}
 use Rattle.table.specs.Words.{comp_size}
 use Rattle.table.proofs.comps.put_comp.Goals as goal
 

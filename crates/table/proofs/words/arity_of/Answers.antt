@@ -1,7 +1,6 @@
 -- The word that the definition names.
 -- By its definition.
 use mathlib.Core.Path.{refl}
-use borrow.Author.Rules.{rules}
 use Rattle.table.specs.Words.{arity_of}
 use Rattle.table.proofs.words.arity_of.Goals as goal
 

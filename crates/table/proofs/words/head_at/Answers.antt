@@ -1,7 +1,6 @@
 -- The head's constructor is that of the kind that the match found.
 -- By the law of that kind, with each field read.
 use mathlib.Core.Path.{sym, ◌∙◌}
-use borrow.Author.Rules.{rules}
 use Rattle.table.proofs.WordsHead.{head-go, head-out, head_in, head-call, head-stop}
 use Rattle.table.proofs.words.head_at.Goals as goal
 

@@ -3,7 +3,6 @@
 use Prim.Native.Nat.{◌<◌}
 use native.Mathlib.Omega.{arith}
 use mathlib.Core.Path.{sym, ◌∙◌}
-use borrow.Author.Rules.{rules}
 use Rattle.table.specs.Words.{word, name_at}
 use Rattle.table.proofs.Names.{first-differs}
 use Rattle.table.proofs.words.is_named.Goals as goal

@@ -1,7 +1,6 @@
 -- The four words of a name within the script, or the slower reading of one that runs past its end.
 -- By the definition of a name.
 use mathlib.Core.Path.{refl}
-use borrow.Author.Rules.{rules}
 use Rattle.table.specs.Words.{name_at}
 use Rattle.table.proofs.words.key_at.Goals as goal
 

@@ -1,6 +1,5 @@
 -- The field that the definition names.
 -- By its definition.
-use borrow.Author.Rules.{rules}
 use Rattle.table.specs.Words.{low_at}
 use Rattle.table.proofs.words.low_at.Goals as goal
 

@@ -1,6 +1,5 @@
 -- The field that the definition names.
 -- By its definition.
-use borrow.Author.Rules.{rules}
 use Rattle.table.specs.Words.{next_at}
 use Rattle.table.proofs.words.next_at.Goals as goal
 

@@ -1,9 +1,7 @@
 -- Two names are the same where their four words are: equal words by reflexivity, and a word that differs tells the names apart,
 -- since the letters determine the words.
 use native.Mathlib.Omega.{arith}
-use mathlib.Core.Path.{◌≡◌, sym, ap}
-use mathlib.Core.Bool.{false}
-use Rattle.terms.specs.Names.{same_name}
+use mathlib.Core.Path.{sym, ap}
 use Rattle.terms.proofs.Names.{name-refl}
 use Rattle.table.specs.Tests.{key_name}
 use Rattle.table.proofs.Names.{keys-differ}

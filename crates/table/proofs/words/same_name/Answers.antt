@@ -1,6 +1,5 @@
 -- Two places have the same name where their words are the same name.
 -- By what their keys stand for.
-use borrow.Author.Rules.{rules}
 use Rattle.table.proofs.words.same_name.Goals as goal
 
 pub returns : goal.returns
