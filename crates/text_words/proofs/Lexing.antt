@@ -1,6 +1,6 @@
 -- The tokens of a text read off its bytes: blanks before a token are nothing, a sign is one byte, a word is a longest run.
 -- By recursion on the bytes, going by the class of the first one.
-use Prim.Native.Nat.{ℕ, suc, ◌+◌, ◌≤◌}
+use Prim.Native.Nat.{ℕ, suc, ◌≤◌}
 use native.Mathlib.Omega.{arith}
 use mathlib.Core.List.{List, [], ◌∷◌, ◌++◌, append_assoc, append-nil}
 use mathlib.Core.Bool.{Bool, true, false, cond, false≢true}

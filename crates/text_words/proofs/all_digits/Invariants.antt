@@ -1,14 +1,10 @@
 -- `all_digits` tests every byte.
 -- The loop's invariant: the bytes from i on are all digits exactly if all are.
 use Prim.Native.Nat.{◌-◌}
-use native.Mathlib.Omega.{arith}
-use mathlib.Core.Path.{◌≡◌, refl, sym, ◌∙◌}
+use mathlib.Core.Path.{◌≡◌}
 use lib.ListN.{length, drop}
-use borrow.Author.Rules.{rules}
-use borrow.Author.Tests.{not-true, not-false}
 use Rattle.terms.specs.Same.{every}
 use Rattle.text_words.specs.Bytes.{digit_at}
-use Rattle.text_words.proofs.Positions.{every-on, every-off, every-end}
 use Rattle.text_words.proofs.all_digits.Given as goal
 
 abbrev pub invariant-loop-i : goal.invariant-loop-i

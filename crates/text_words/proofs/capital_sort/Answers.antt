@@ -2,7 +2,6 @@
 -- It is no keyword but perhaps `S`, and else a location if it is short enough.
 use mathlib.Core.Path.{sym, ◌∙◌}
 use Rattle.text_words.proofs.WordSorts.{capital-reserved, capital-name, capital-long}
-use borrow.Author.Rules.{rules}
 use Rattle.text_words.proofs.capital_sort.Goals as goal
 
 pub returns-then-is_same : goal.returns-then-is_same

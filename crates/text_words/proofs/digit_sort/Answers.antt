@@ -1,9 +1,8 @@
 -- `digit_sort` gives the sort of a word that begins with a digit.
 -- It is a number of ticks exactly if the definition's three tests say so.
 use mathlib.Core.Path.{sym, ◌∙◌}
-use borrow.Author.Tests.{not-true, not-false, le-leb, lt-leb}
+use borrow.Author.Tests.{le-leb, lt-leb}
 use Rattle.text_words.proofs.WordSorts.{digit-not-plain, digit-not-digits, digit-ticks, digit-above}
-use borrow.Author.Rules.{rules}
 use Rattle.text_words.proofs.digit_sort.Goals as goal
 
 pub returns-then-not-is_plain : goal.returns-then-not-is_plain

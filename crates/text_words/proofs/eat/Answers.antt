@@ -1,7 +1,6 @@
 -- `eat` finds the sign c past the blanks, or says that it is not there.
 -- By the byte that stands past the blanks, if any.
 use Rattle.text_words.proofs.Positions.{eat-done, eat-other, eat-over}
-use borrow.Author.Rules.{rules}
 use Rattle.text_words.proofs.eat.Goals as goal
 
 pub returns-then-s-a : goal.returns-then-s-a

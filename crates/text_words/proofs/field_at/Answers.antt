@@ -1,6 +1,5 @@
 -- `field_at` reads a word of the sort that the field wants.
 -- The word past the blanks is the next token, and its sort suits the field exactly if the field takes the word.
-use Prim.Native.Nat.{◌-◌}
 use native.Mathlib.Omega.{arith}
 use mathlib.Core.Path.{sym, ap, ◌∙◌}
 use lib.ListN.{drop}
@@ -8,7 +7,6 @@ use Rattle.text.specs.Tokens.{lex}
 use Rattle.text_words.specs.Sorts.{suits_of, fits}
 use Rattle.text_words.proofs.Positions.{word-alnum, word-is, word_none, field-yes, field-no, field-none, ended_at, ended-bad}
 use Rattle.text_words.proofs.WordSorts.{suits-is}
-use borrow.Author.Rules.{rules}
 use Rattle.text_words.proofs.field_at.Goals as goal
 
 pub slice_bounds-sort_of-end : goal.slice_bounds-sort_of-end

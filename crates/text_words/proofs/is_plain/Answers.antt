@@ -1,7 +1,6 @@
 -- `is_plain` says whether a word is not empty and has no leading zero.
 -- By its length, 0, 1 or more.
 use Rattle.text_words.proofs.Positions.{plain-empty, plain-one, plain-long}
-use borrow.Author.Rules.{rules}
 use Rattle.text_words.proofs.is_plain.Goals as goal
 
 pub returns-then-w-eq0 : goal.returns-then-w-eq0

@@ -1,11 +1,7 @@
 -- `is_same` compares two words letter by letter.
 -- The loop's invariant: they are as long, and the rests from i on are the same exactly if the words are.
-use Prim.Native.Nat.{◌-◌}
 use native.Mathlib.Omega.{arith}
-use mathlib.Core.Path.{◌≡◌, refl, ◌∙◌}
-use lib.ListN.{length, drop}
-use borrow.Author.Rules.{rules}
-use Rattle.terms.specs.Names.{same_name}
+use mathlib.Core.Path.{refl, ◌∙◌}
 use Rattle.text_words.proofs.Positions.{same-lengths, same-on, same-off, same_end}
 use Rattle.text_words.proofs.is_same.Goals as goal
 

@@ -1,13 +1,9 @@
 -- `number_of` never wraps, and is above 1,000,000 exactly if the number is.
 -- The loop's invariant: the number so far, followed by the bytes from i on, is the word's number.
-use Prim.Native.Nat.{◌+◌, ◌-◌, ◌*◌, ◌≤◌}
-use native.Mathlib.Omega.{arith}
-use mathlib.Core.Path.{◌≡◌, refl, ap, ◌∙◌}
-use lib.Dec.{leb}
+use Prim.Native.Nat.{◌-◌, ◌≤◌}
+use mathlib.Core.Path.{◌≡◌}
 use lib.ListN.{length, drop}
-use borrow.Author.Rules.{rules}
 use Rattle.text.specs.Tokens.{number_from, number}
-use Rattle.text_words.proofs.Positions.{number-least, number-over, number-on, number-end}
 use Rattle.text_words.proofs.number_of.Given as goal
 
 abbrev pub invariant-loop-i : goal.invariant-loop-i

@@ -1,13 +1,9 @@
 -- `skip_blanks` stops where the definition's bytes past the blanks begin.
 -- The loop's invariant: the bytes past the blanks are the same from i on as from `at` on.
 use Prim.Native.Nat.{◌-◌}
-use native.Mathlib.Omega.{arith}
-use mathlib.Core.Path.{◌≡◌, refl, sym, ◌∙◌}
+use mathlib.Core.Path.{◌≡◌}
 use lib.ListN.{length, drop}
-use borrow.Author.Rules.{rules}
-use borrow.Author.Tests.{not-true, not-false}
 use Rattle.text_words.specs.Bytes.{after_blanks}
-use Rattle.text_words.proofs.Positions.{blank-on, blank-stop, blank-end}
 use Rattle.text_words.proofs.skip_blanks.Given as goal
 
 abbrev pub invariant-loop-i : goal.invariant-loop-i

@@ -3,7 +3,6 @@
 use mathlib.Core.Path.{sym, ◌∙◌}
 use Rattle.text_words.specs.Sorts.{sort_of}
 use Rattle.text_words.proofs.WordSorts.{small-name, small-long}
-use borrow.Author.Rules.{rules}
 use Rattle.text_words.proofs.small_sort.Goals as goal
 
 pub returns-then-is_same : goal.returns-then-is_same

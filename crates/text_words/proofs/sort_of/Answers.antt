@@ -4,15 +4,11 @@ use mathlib.Core.Path.{sym, ap, ◌∙◌}
 use mathlib.Core.Bool.{false≢true}
 use Rattle.text_words.specs.Sorts.{class_is}
 use Rattle.text_words.proofs.WordSorts.{sort-empty, first-is, first-alnum}
-use borrow.Author.Rules.{rules}
 use Rattle.terms.specs.Characters.{is_lower, is_capital, is_digit, alnum}
 use Rattle.text_words.proofs.sort_of.Goals as goal
 
 pub returns-then-w-eq0 : goal.returns-then-w-eq0
 returns-then-w-eq0 c = sort-empty _ c.if-w-eq0.true
-
-pub enum_told-1 : goal.enum_told-1
-enum_told-1 c = search rules
 
 pub small_sort-requires : goal.small_sort-requires
 small_sort-requires c =

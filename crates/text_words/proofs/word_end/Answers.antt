@@ -1,12 +1,8 @@
 -- `word_end` stops where the longest run of letters and digits ends.
 -- The loop's invariant: from `at` to i stand letters and digits only, and the run goes on as it does from i.
-use Prim.Native.Nat.{◌-◌}
 use native.Mathlib.Omega.{arith}
 use mathlib.Core.Path.{sym, ◌∙◌}
-use lib.ListN.{length}
-use borrow.Author.Rules.{rules}
-use borrow.Author.Tests.{not-true, not-false}
-use Rattle.text_words.proofs.Positions.{Running, running-first, running-on, running-stop, running-end}
+use Rattle.text_words.proofs.Positions.{running-first, running-on, running-stop, running-end}
 use Rattle.text_words.proofs.word_end.Goals as goal
 
 pub loop-i-init : goal.loop-i-init
