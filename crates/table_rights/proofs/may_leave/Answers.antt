@@ -3,7 +3,6 @@ use native.Mathlib.Omega.{arith}
 use borrow.Author.Tests.{eq-eqb, ne_eqb}
 use Rattle.table.specs.Words.{rights_in}
 use Rattle.table.specs.Fire.{may_leave}
-use borrow.Author.Rules.{rules}
 use Rattle.table_rights.proofs.may_leave.Goals as goal
 
 pub returns-then-v-l : goal.returns-then-v-l

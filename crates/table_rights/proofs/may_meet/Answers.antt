@@ -3,7 +3,6 @@ use native.Mathlib.Omega.{arith}
 use mathlib.Core.Path.{sym, ◌∙◌}
 use Rattle.table.specs.Words.{rights_in}
 use Rattle.table.specs.Fire.{may_meet}
-use borrow.Author.Rules.{rules}
 use Rattle.table_rights.proofs.may_meet.Goals as goal
 
 pub right_at-requires : goal.right_at-requires
