@@ -1,7 +1,6 @@
 -- The low word, the high word and the count are written, one after the other.
 use native.Mathlib.Omega.{arith}
 use Rattle.table_waits.specs.Ledger.{counted}
-use borrow.Author.Rules.{rules}
 use Rattle.table_waits.proofs.count_messages.Goals as goal
 
 pub overflow_add-t : goal.overflow_add-t

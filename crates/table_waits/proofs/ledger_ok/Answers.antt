@@ -8,7 +8,6 @@ use lib.Dec.{leb}
 use borrow.Author.Tests.{lt-leb, le-leb}
 use Rattle.table.specs.Meaning.{count_in}
 use Rattle.table.specs.Valid.{ledger_ok}
-use borrow.Author.Rules.{rules}
 use Rattle.table_waits.proofs.ledger_ok.Goals as goal
 
 pub returns-then-n-gt-MOST : goal.returns-then-n-gt-MOST

@@ -2,7 +2,6 @@
 -- By reading both.
 use mathlib.Core.Path.{◌∙◌}
 use Rattle.table.specs.Meaning.{total_in}
-use borrow.Author.Rules.{rules}
 use Rattle.table_waits.proofs.total.Goals as goal
 
 pub returns : goal.returns
