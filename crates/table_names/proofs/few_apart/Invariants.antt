@@ -1,15 +1,12 @@
 -- No name stands among those after it.
 -- By the invariant that none passed does.
 use Prim.Native.Nat.{ℕ, ◌+◌, ◌-◌, ◌≤◌, ◌<◌}
-use native.Mathlib.Omega.{arith}
-use mathlib.Core.Path.{◌≡◌, sym, ◌∙◌}
+use mathlib.Core.Path.{◌≡◌}
 use mathlib.Core.Bool.{false}
 use lib.ListN.{drop}
-use borrow.Author.Count.{below_none, below_more}
 use Rattle.terms.specs.Letters.{member}
 use Rattle.table.specs.Meaning.{list_from}
 use Rattle.table.specs.Tests.{row_name}
-use Rattle.table_names.proofs.NamesRows.{apart-all, apart-miss}
 use Rattle.table_names.proofs.few_apart.Given as goal
 
 abbrev pub invariant-loop-i : goal.invariant-loop-i

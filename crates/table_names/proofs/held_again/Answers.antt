@@ -3,7 +3,6 @@
 use native.Mathlib.Omega.{arith}
 use mathlib.Core.Path.{sym, ap, ◌∙◌}
 use lib.ListN.{get_or}
-use borrow.Author.Rules.{rules}
 use Rattle.table.specs.Tests.{row_name}
 use Rattle.table_names.proofs.NamesRows.{again-none, mixed-apart}
 use Rattle.table_names.proofs.held_again.Goals as goal

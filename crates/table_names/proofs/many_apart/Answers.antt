@@ -6,8 +6,7 @@ use native.Mathlib.Omega.{arith}
 use mathlib.Core.Path.{◌≡◌, refl, sym, subst, ◌∙◌}
 use mathlib.Core.Bool.{Bool, true, false}
 use lib.Dec.{eqb}
-use lib.ListN.{length, drop, set, length-set}
-use borrow.Author.Rules.{rules}
+use lib.ListN.{drop, set, length-set}
 use borrow.Author.Tests.{eqb-true, eqb-false}
 use Rattle.terms.specs.Letters.{member}
 use Rattle.table.specs.Meaning.{list_from}

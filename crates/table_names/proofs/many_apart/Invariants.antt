@@ -1,20 +1,14 @@
 -- No name stands among those after it.
 -- By the invariant that none passed does, and that the number of each is noted.
 -- what holds from i on holds from one less on, if it holds there
-use Prim.Native.Nat.{ℕ, ◌+◌, ◌-◌, ◌≤◌, ◌<◌}
-use native.Mathlib.Omega.{arith}
-use mathlib.Core.Path.{◌≡◌, refl, sym, subst, ◌∙◌}
-use mathlib.Core.Bool.{Bool, true, false}
-use lib.Dec.{eqb}
-use lib.ListN.{length, drop, set, length-set}
-use borrow.Author.Rules.{rules}
-use borrow.Author.Tests.{eqb-true, eqb-false}
+use Prim.Native.Nat.{ℕ, ◌+◌, ◌≤◌, ◌<◌}
+use mathlib.Core.Path.{◌≡◌}
+use mathlib.Core.Bool.{false}
+use lib.ListN.{length, drop}
 use Rattle.terms.specs.Letters.{member}
 use Rattle.table.specs.Meaning.{list_from}
 use Rattle.table.specs.Tests.{row_name}
 use Rattle.table_names.specs.Tests.{Noted}
-use Rattle.table_names.proofs.NamesRows.{apart-all, apart-miss, noted_here, noted-still}
-use Rattle.table.proofs.Rows.{row_near}
 use Rattle.table_names.proofs.many_apart.Given as goal
 
 abbrev pub invariant-loop-i : goal.invariant-loop-i

@@ -11,5 +11,4 @@ returns c = record {
   name = c.key_at-x.ensures;
   mix = c.wide.ensures;
   below = omega (arith, c.wide.ensures);
-
 }

@@ -1,13 +1,12 @@
 -- The name is compared with each that comes after it.
 -- By the invariant that no name passed is the same.
-use Prim.Native.Nat.{ℕ, ◌-◌, ◌≤◌, ◌<◌}
+use Prim.Native.Nat.{◌<◌}
 use native.Mathlib.Omega.{arith}
 use mathlib.Core.Path.{◌≡◌, sym, ap, ◌∙◌}
 use mathlib.Core.Bool.{false}
-use borrow.Author.Rules.{rules}
 use borrow.Author.Count.{below_more}
 use Rattle.terms.specs.Names.{same_name}
-use Rattle.table.specs.Tests.{key_name, row_name}
+use Rattle.table.specs.Tests.{row_name}
 use Rattle.table.proofs.Names.{name-sym}
 use Rattle.table_names.proofs.NamesRows.{again-hit, again-none}
 use Rattle.table.proofs.Rows.{row_near}

@@ -1,10 +1,7 @@
 -- The form of each name is tested.
 -- By the invariant that all names passed have the form.
-use Prim.Native.Nat.{ℕ, ◌-◌, ◌≤◌, ◌<◌}
 use native.Mathlib.Omega.{arith}
 use mathlib.Core.Path.{◌≡◌, sym}
-use mathlib.Core.Bool.{true}
-use borrow.Author.Rules.{rules}
 use borrow.Author.Count.{below_none, below_more}
 use Rattle.terms.specs.Letters.{is_name}
 use Rattle.table.specs.Tests.{row_name}

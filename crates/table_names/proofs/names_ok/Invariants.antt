@@ -1,17 +1,11 @@
 -- The form of each name is tested.
 -- By the invariant that all names passed have the form.
 use Prim.Native.Nat.{ℕ, ◌-◌, ◌≤◌, ◌<◌}
-use native.Mathlib.Omega.{arith}
-use mathlib.Core.Path.{◌≡◌, sym}
+use mathlib.Core.Path.{◌≡◌}
 use mathlib.Core.Bool.{true}
-use borrow.Author.Rules.{rules}
-use borrow.Author.Count.{below_none, below_more}
 use Rattle.terms.specs.Letters.{is_name}
 use Rattle.table.specs.Tests.{row_name}
 use Rattle.table_names.specs.Tests.{first_of}
-use Rattle.table_names.proofs.NamesRows.{rows_all, rows-miss}
-use Rattle.table.proofs.Rows.{row_near}
-use Rattle.table.proofs.ValidBool.{failed, passed}
 use Rattle.table_names.proofs.names_ok.Given as goal
 
 abbrev pub invariant-loop-j : goal.invariant-loop-j

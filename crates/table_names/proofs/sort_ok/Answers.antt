@@ -1,7 +1,6 @@
 -- Every name has its form, and is held once.
 -- By the two tests' answers.
 use mathlib.Core.Path.{◌∙◌}
-use borrow.Author.Rules.{rules}
 use Rattle.table.proofs.ValidBool.{failed, passed}
 use Rattle.table_names.proofs.sort_ok.Goals as goal
 

@@ -1,10 +1,6 @@
 -- Each sort asks its own test of the first byte.
 -- By the sort that the match found.
-use borrow.Author.Rules.{rules}
 use Rattle.table_names.proofs.forms.first_ok.Goals as goal
-
-pub enum_told-1 : goal.enum_told-1
-enum_told-1 c = search rules
 
 pub returns-in-Location : goal.returns-in-Location
 returns-in-Location c = rw c.in-Location.is c.is_capital.ensures

@@ -2,7 +2,6 @@
 -- By the two laws of a full word.
 use native.Mathlib.Omega.{arith}
 use mathlib.Core.Path.{sym, ◌∙◌}
-use borrow.Author.Rules.{rules}
 use Rattle.table_names.proofs.NamesForm.{full-low, full-high}
 use Rattle.table_names.proofs.forms.full_word.Goals as goal
 

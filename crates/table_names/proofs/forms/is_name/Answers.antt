@@ -3,7 +3,6 @@
 use Prim.Native.Nat.{◌%◌}
 use mathlib.Core.Path.{◌≡◌, sym, ap, ◌∙◌}
 use mathlib.Core.Bool.{not}
-use borrow.Author.Rules.{rules}
 use Rattle.terms.specs.Characters.{class_of}
 use Rattle.table_names.specs.Tests.{first_of}
 use Rattle.table_names.proofs.NamesForm.{name-is, first-alnum}

@@ -1,7 +1,6 @@
 -- The name's words are read and tested.
 -- By the two calls' answers.
 use mathlib.Core.Path.{ap, ◌∙◌}
-use borrow.Author.Rules.{rules}
 use Rattle.terms.specs.Letters.{is_name}
 use Rattle.table_names.specs.Tests.{first_of}
 use Rattle.table_names.proofs.forms.is_name_at.Goals as goal

@@ -2,7 +2,6 @@
 -- By the law of names of one, two, three and four words.
 use native.Mathlib.Omega.{arith}
 use mathlib.Core.Path.{sym, ◌∙◌}
-use borrow.Author.Rules.{rules}
 use Rattle.table_names.proofs.NamesForm.{solid-1, solid-2, solid-3, solid-4, solid-after}
 use Rattle.table.proofs.ValidBool.{failed, passed, and-false}
 use Rattle.table_names.proofs.forms.solid_key.Goals as goal

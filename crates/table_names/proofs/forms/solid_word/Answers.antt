@@ -4,7 +4,6 @@ use Prim.Native.Nat.{ℕ, ◌/◌, ◌%◌, ◌<◌}
 use native.Mathlib.Omega.{arith}
 use mathlib.Core.Path.{◌≡◌, refl, sym, ap, ◌∙◌}
 use mathlib.Core.Bool.{true, false}
-use borrow.Author.Rules.{rules}
 use Rattle.terms.specs.Characters.{is_alnum}
 use Rattle.table_names.proofs.NamesForm.{solid, solid-turn, solid-zero}
 use Rattle.table.proofs.ValidBool.{failed, passed}

@@ -1,13 +1,8 @@
 -- The word is shifted down a byte a turn until it is 0: its letters are those of what is left of it.
 -- By the invariant that what is left decides, and the word as measure.
-use Prim.Native.Nat.{ℕ, ◌/◌, ◌%◌, ◌<◌}
-use native.Mathlib.Omega.{arith}
-use mathlib.Core.Path.{◌≡◌, refl, sym, ap, ◌∙◌}
-use mathlib.Core.Bool.{true, false}
-use borrow.Author.Rules.{rules}
-use Rattle.terms.specs.Characters.{is_alnum}
-use Rattle.table_names.proofs.NamesForm.{solid, solid-turn, solid-zero}
-use Rattle.table.proofs.ValidBool.{failed, passed}
+use Prim.Native.Nat.{◌<◌}
+use mathlib.Core.Path.{◌≡◌}
+use Rattle.table_names.proofs.NamesForm.{solid}
 use Rattle.table_names.proofs.forms.solid_word.Given as goal
 
 abbrev pub invariant-loop-y : goal.invariant-loop-y
