@@ -1,16 +1,12 @@
 -- Process reader and part reader, each the other's callee: what they answer stands for what the grammar gives, stopped at the limits.
 -- The falling number is the bytes left, twice, and one more for the process reader; the loop's invariant is `Gathered`.
 use native.Mathlib.Omega.{arith}
-use borrow.Author.Rules.{rules}
 use mathlib.Core.Path.{refl, sym, ap, subst, ◌∙◌}
-use Prim.Native.Nat.{◌+◌, ◌*◌, ◌-◌, ◌≤◌}
-use lib.ListN.{length}
 use Rattle.text.specs.Tokens.{lex_from, bar}
 use Rattle.text.specs.Grammar.{the}
 use Rattle.text_parts.specs.Openings.{single, double}
 use Rattle.text_parts.specs.Answers.{began, sized, after, closed_size}
 use Rattle.text_parts.proofs.Cycle.{opening-falls, part-wrong, part-leaf, part-one, part-no-comma, second-falls, part-two, Gathered, gathered-first, gathered-end, turn-falls, gathered-on}
-use Prim.Native.Nat.{ℕ, ◌<◌}
 use Rattle.terms.specs.Characters.{class_of}
 use Rattle.text_parts.proofs.+read_part_read_process.Goals as goal
 

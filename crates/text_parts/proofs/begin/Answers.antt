@@ -8,7 +8,6 @@ use Rattle.text_words.specs.Sorts.{head_is}
 use Rattle.text_words.proofs.Positions.{word-alnum, word-is, word_none}
 use Rattle.text_words.proofs.WordSorts.{head-is}
 use Rattle.text_parts.proofs.Fields.{opening-by, opening-none}
-use borrow.Author.Rules.{rules}
 use Rattle.text_parts.proofs.begin.Goals as goal
 
 pub slice_bounds-sort_of-end : goal.slice_bounds-sort_of-end

@@ -6,11 +6,7 @@ use Rattle.text.specs.Tokens.{lex}
 use Rattle.text_words.specs.Sorts.{head_is}
 use Rattle.text_parts.specs.Openings.{open_form}
 use Rattle.text_parts.proofs.Fields.{open-go, open-out, open_in}
-use borrow.Author.Rules.{rules}
 use Rattle.text_parts.proofs.begin_by.Goals as goal
-
-pub enum_told-1 : goal.enum_told-1
-enum_told-1 c = search rules
 
 pub returns-in-Stop : goal.returns-in-Stop
 returns-in-Stop c =

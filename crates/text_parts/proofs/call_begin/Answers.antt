@@ -3,7 +3,6 @@
 use lib.ListN.{drop}
 use Rattle.text.specs.Tokens.{lex}
 use Rattle.text_parts.proofs.Fields.{call_none, call-done}
-use borrow.Author.Rules.{rules}
 use Rattle.text_parts.proofs.call_begin.Goals as goal
 
 pub returns-in-0 : goal.returns-in-0

@@ -3,7 +3,6 @@
 use mathlib.Core.Path.{refl}
 use Rattle.text.specs.Tokens.{lex_from}
 use Rattle.text_parts.proofs.Cycle.{closed_is}
-use borrow.Author.Rules.{rules}
 use Rattle.terms.specs.Characters.{class_of}
 use Rattle.text_parts.proofs.closed.Goals as goal
 

@@ -5,7 +5,6 @@ use Rattle.text.specs.Tokens.{lex_from}
 use Rattle.text.specs.Tokens.{comma}
 use Rattle.text.specs.Grammar.{bind, the}
 use Rattle.text_words.proofs.Positions.{done, failed, ended-bad}
-use borrow.Author.Rules.{rules}
 use Rattle.terms.specs.Characters.{class_of}
 use Rattle.text_parts.proofs.comma_field.Goals as goal
 

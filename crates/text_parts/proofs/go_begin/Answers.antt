@@ -9,7 +9,6 @@ use Rattle.text_words.proofs.Positions.{done, failed}
 use Rattle.text_parts.proofs.Fields.{row-1, row-2, row-3, row-end}
 use Rattle.text_words.specs.Sorts.{is_timer}
 use Rattle.text_parts.specs.Openings.{single, field_form}
-use borrow.Author.Rules.{rules}
 use Rattle.terms.specs.Characters.{class_of}
 use Rattle.terms.specs.Letters.{is_identifier}
 use Rattle.text_parts.proofs.go_begin.Goals as goal

@@ -1,6 +1,5 @@
 -- `joined` adds two sizes up, stopping at the limits.
 -- By what the sums and the larger of two numbers ensure, field by field.
-use borrow.Author.Rules.{rules}
 use Rattle.text_parts.proofs.joined.Goals as goal
 
 pub returns : goal.returns

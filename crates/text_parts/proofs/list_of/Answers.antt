@@ -7,7 +7,6 @@ use Rattle.text_words.specs.Bytes.{mapped}
 use Rattle.text_words.specs.Sorts.{fits}
 use Rattle.text_words.proofs.Positions.{done, failed, ended_at}
 use Rattle.text_parts.proofs.Fields.{list-none, list_open}
-use borrow.Author.Rules.{rules}
 use Rattle.terms.specs.Characters.{class_of}
 use Rattle.text_parts.proofs.list_of.Goals as goal
 

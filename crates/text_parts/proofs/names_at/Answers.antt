@@ -1,16 +1,14 @@
 -- `names_at` reads names joined by commas and `)`, and counts them up to 5.
 -- The loop's invariant: what is named from here on, with n added, is what is named from `at` on.
-use Prim.Native.Nat.{◌-◌}
-use mathlib.Core.Path.{◌≡◌, refl, ap, ◌∙◌}
-use borrow.Author.Rules.{rules}
-use lib.ListN.{length, drop}
+use mathlib.Core.Path.{refl, ap, ◌∙◌}
+use lib.ListN.{drop}
 use Rattle.terms.specs.Characters.{class_of}
 use Rattle.text.specs.Tokens.{lex, lex_from}
 use Rattle.text_words.specs.Bytes.{mapped}
 use Rattle.text_words.specs.Sorts.{fits}
-use Rattle.text_parts.specs.Counting.{names_form, names_count}
+use Rattle.text_parts.specs.Counting.{names_form}
 use Rattle.text_words.proofs.Positions.{done, failed, ended-bad, bytes-fall}
-use Rattle.text_parts.proofs.Fields.{From, names-first, names-none, names-last, names_more, names-fall}
+use Rattle.text_parts.proofs.Fields.{names-first, names-none, names-last, names_more, names-fall}
 use Rattle.text_parts.proofs.names_at.Goals as goal
 
 pub loop-f-init : goal.loop-f-init

@@ -5,7 +5,6 @@ use Rattle.text.specs.Grammar.{bind}
 use Rattle.text_words.specs.Sorts.{fits}
 use Rattle.text_parts.specs.Openings.{field_form}
 use Rattle.text_words.proofs.Positions.{done, failed, ended-bad}
-use borrow.Author.Rules.{rules}
 use Rattle.text_parts.proofs.pair_fields.Goals as goal
 
 pub returns-in-0 : goal.returns-in-0

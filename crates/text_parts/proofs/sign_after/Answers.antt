@@ -1,7 +1,6 @@
 -- `sign_after` reads a sign behind what was read, if it was.
 -- By whether the size's end is 0.
 use Rattle.text_parts.proofs.Cycle.{after_none, after-some}
-use borrow.Author.Rules.{rules}
 use Rattle.text_parts.proofs.sign_after.Goals as goal
 
 pub returns-in-0 : goal.returns-in-0
