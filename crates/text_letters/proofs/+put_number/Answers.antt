@@ -5,8 +5,6 @@ use mathlib.Core.Path.{sym}
 use Rattle.text_letters.proofs.Puts.{then, same}
 use Rattle.text.proofs.Digits.{digits-one}
 use Rattle.text_letters.proofs.Numbers.{digits_more}
-use borrow.Author.Rules.{rules}
-use Prim.Native.Nat.{ℕ, ◌<◌}
 use Rattle.text_letters.proofs.+put_number.Goals as goal
 
 pub returns-then-n-lt10 : goal.returns-then-n-lt10

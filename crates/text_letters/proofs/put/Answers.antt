@@ -2,7 +2,6 @@
 -- By the laws of the three places.
 use native.Mathlib.Omega.{arith}
 use Rattle.text_letters.proofs.Puts.{one_in, one-past, one-full}
-use borrow.Author.Rules.{rules}
 use Rattle.text_letters.proofs.put.Goals as goal
 
 pub returns-then-at-buf : goal.returns-then-at-buf

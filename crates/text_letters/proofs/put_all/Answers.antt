@@ -1,13 +1,11 @@
 -- All bytes of a slice, one after the other.
 -- Idea: what is left to put is what is left of the slice.
-use Prim.Native.Nat.{◌-◌, ◌≤◌}
 use native.Mathlib.Omega.{arith}
 use native.Mathlib.Numerals.{add-one}
-use mathlib.Core.Path.{◌≡◌, refl, ap, sym}
-use lib.ListN.{length, drop, drop_of_length-le}
+use mathlib.Core.Path.{refl, ap, sym}
+use lib.ListN.{drop, drop_of_length-le}
 use lib.Seq.{drop-cons}
-use Rattle.text_letters.proofs.Puts.{Left, begun, step, done, left_as}
-use borrow.Author.Rules.{rules}
+use Rattle.text_letters.proofs.Puts.{begun, step, done, left_as}
 use Rattle.text_letters.proofs.put_all.Goals as goal
 
 pub loop-i-init : goal.loop-i-init

@@ -2,7 +2,6 @@
 -- By what each call puts.
 use Rattle.text_letters.specs.Forms.{fields_text}
 use Rattle.text_letters.proofs.Puts.{then}
-use borrow.Author.Rules.{rules}
 use Rattle.text_letters.proofs.put_fields.Goals as goal
 
 pub returns : goal.returns

@@ -1,7 +1,6 @@
 -- The four letters of a word, the lowest byte first.
 -- By what each byte is.
 use Rattle.text_letters.proofs.Puts.{then, same}
-use borrow.Author.Rules.{rules}
 use Rattle.text_letters.proofs.put_four.Goals as goal
 
 pub returns : goal.returns

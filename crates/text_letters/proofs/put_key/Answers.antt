@@ -4,7 +4,6 @@ use native.Mathlib.Omega.{arith}
 use mathlib.Core.Path.{sym}
 use Rattle.text_letters.proofs.Puts.{then, same}
 use Rattle.text_letters.proofs.Letters.{key-short, key-long}
-use borrow.Author.Rules.{rules}
 use Rattle.text_letters.proofs.put_key.Goals as goal
 use Rattle.text_letters.proofs.put_key.Goals.{then-k-eq0+else-k-eq0-2, else-k-eq0}
 

@@ -4,7 +4,6 @@ use native.Mathlib.Omega.{arith}
 use mathlib.Core.Path.{sym}
 use Rattle.text_letters.proofs.Puts.{nothing, then, same}
 use Rattle.text_letters.proofs.Letters.{last_none, last_one, last-two, last-three, last-four}
-use borrow.Author.Rules.{rules}
 use Rattle.text_letters.proofs.put_last.Goals as goal
 
 pub returns-then-x-eq0 : goal.returns-then-x-eq0

@@ -1,15 +1,10 @@
 -- Names between brackets, each after its sign.
 -- Idea: what is left to put is the chain of the names that are left, after the sign that comes next.
-use Prim.Native.Nat.{◌-◌, ◌≤◌}
 use native.Mathlib.Omega.{arith}
-use mathlib.Core.List.{map}
-use mathlib.Core.Path.{◌≡◌, refl}
-use lib.ListN.{length, take, drop}
+use mathlib.Core.Path.{refl}
 use Rattle.table.specs.Words.{name_at}
-use Rattle.text_letters.specs.Forms.{chain, listed}
-use Rattle.text_letters.proofs.Puts.{Left, nothing, begun, step, last, same, left_as}
+use Rattle.text_letters.proofs.Puts.{nothing, begun, step, last, same, left_as}
 use Rattle.text_letters.proofs.Lists.{list-none, list-some, chain_next, chain-end}
-use borrow.Author.Rules.{rules}
 use Rattle.text_letters.proofs.put_list.Goals as goal
 
 pub returns-then-n-eq0 : goal.returns-then-n-eq0

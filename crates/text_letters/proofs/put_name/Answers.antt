@@ -1,7 +1,6 @@
 -- The name that stands at a word.
 -- By what its words stand for.
 use Rattle.text_letters.proofs.Puts.{same}
-use borrow.Author.Rules.{rules}
 use Rattle.text_letters.proofs.put_name.Goals as goal
 
 pub returns : goal.returns

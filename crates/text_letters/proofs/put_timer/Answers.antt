@@ -3,7 +3,6 @@
 use native.Mathlib.Omega.{arith}
 use Rattle.terms.proofs.Clock.{ticks-of, inf-of}
 use Rattle.text_letters.specs.Forms.{timer_text}
-use borrow.Author.Rules.{rules}
 use Rattle.text_letters.proofs.put_timer.Goals as goal
 
 pub returns-then-t-le1000000 : goal.returns-then-t-le1000000

@@ -4,7 +4,6 @@ use native.Mathlib.Omega.{arith}
 use mathlib.Core.Path.{sym}
 use Rattle.text_letters.proofs.Puts.{then, same}
 use Rattle.text_letters.proofs.Letters.{two_none, two-some}
-use borrow.Author.Rules.{rules}
 use Rattle.text_letters.proofs.put_two.Goals as goal
 
 pub returns-then-y-eq0 : goal.returns-then-y-eq0
