@@ -1,6 +1,6 @@
 -- A name that is looked up or added: its table holds the names as before and then, unless it was among them, the new one (`into`, so that names are
 -- numbered by first place), and nothing else changes. By the three ways: it is there, it is entered, or it is one too many, and the word 4 says so.
-use Prim.Native.Nat.{ℕ, zero, suc, ◌+◌, ◌-◌, ◌*◌, ◌≤◌, ◌<◌}
+use Prim.Native.Nat.{ℕ, zero, suc, ◌+◌, ◌*◌, ◌≤◌, ◌<◌}
 use native.Mathlib.Omega.{arith}
 use mathlib.Core.List.{List, [], ◌∷◌, ◌++◌}
 use mathlib.Core.Bool.{Bool, true, false, cond}

@@ -1,6 +1,6 @@
 -- The names of a part are entered, and the numbers that its row gets are those that the names have afterwards.
 -- By the law of entering, name by name: a number once given is kept (`Grown`), and a scope's names stand where nothing is written.
-use Prim.Native.Nat.{ℕ, suc, ◌+◌, ◌-◌, ◌*◌, ◌≤◌}
+use Prim.Native.Nat.{ℕ, suc, ◌+◌, ◌*◌, ◌≤◌}
 use native.Mathlib.Omega.{arith}
 use mathlib.Core.List.{List, [], ◌∷◌, ◌++◌, map, flat_map}
 use mathlib.Core.Bool.{Bool, true}

@@ -1,6 +1,6 @@
 -- Locations and channels are numbered by first place: document 01, *Reading*. After a process is put, each table holds what it held and then the new names
 -- of the process, in text order (`firsts`). By induction on the process, name by name.
-use Prim.Native.Nat.{ℕ, ◌+◌, ◌-◌}
+use Prim.Native.Nat.{ℕ}
 use mathlib.Core.List.{List, [], ◌∷◌, ◌++◌, flat_map, append_assoc}
 use mathlib.Core.Path.{◌≡◌, refl, ap, sym, ◌∙◌}
 use Rattle.terms.specs.Names.{Name}

@@ -1,6 +1,6 @@
 -- A part's row as the second pass leaves it holds the part's head: its numbers are those of its names, its Q, next part and least place are set.
 -- By the kind of the part, from what entering its names gives.
-use Prim.Native.Nat.{ℕ, ◌+◌, ◌-◌, ◌*◌, ◌<◌, min}
+use Prim.Native.Nat.{ℕ, ◌+◌, ◌*◌, ◌<◌, min}
 use native.Mathlib.Omega.{arith}
 use mathlib.Core.List.{List, [], ◌∷◌, ◌++◌, map}
 use mathlib.Core.Bool.{true}

@@ -1,6 +1,6 @@
 -- A test of every place of a process, taken apart: of its first part, and of the processes below it.
 -- By the order of the places: a part, then those of its P, then those of its Q, then those of the next part.
-use Prim.Native.Nat.{ℕ, suc, ◌+◌, ◌≤◌}
+use Prim.Native.Nat.{ℕ, suc, ◌≤◌}
 use native.Mathlib.Omega.{arith}
 use mathlib.Core.List.{List, [], ◌∷◌, ◌++◌}
 use mathlib.Core.Bool.{Bool, true}

@@ -9,7 +9,6 @@ use borrow.Author.Tests.{ltb-true, ltb-false, le-leb}
 use lib.Dec.{eqb, leb, ltb}
 use lib.ListN.{length, get_or, take}
 use lib.Seq.{sets, get_or-append-add}
-use Rattle.terms.specs.Terms.Part.{go}
 use Rattle.table.specs.declared.Head.{Head}
 use Rattle.table.specs.declared.Head.TheVariants.{Stop, Go, Out, In, Call}
 use Rattle.table.specs.Words.{row_size, parts_at, word, field, head_at, next_at, low_at, scope_at, arg_words, count_field, first_field, kind_field, low_field, name_field, next_field, second_field, timer_field, value_field}

@@ -1,7 +1,7 @@
 -- A name looked up or added: the ways of `number` to its answer, and what the table holds afterwards.
 -- The law: the names that a table holds become the same with the new one behind them, unless it is among them (`into` of the numbering by first place).
 use Rattle.table.specs.Words.{name_size}
-use Prim.Native.Nat.{ℕ, suc, ◌+◌, ◌-◌, ◌*◌, ◌≤◌, ◌<◌}
+use Prim.Native.Nat.{ℕ, suc, ◌+◌, ◌*◌, ◌≤◌, ◌<◌}
 use native.Mathlib.Omega.{arith}
 use mathlib.Core.List.{List, [], ◌∷◌}
 use mathlib.Core.Bool.{Bool, true, false, cond}

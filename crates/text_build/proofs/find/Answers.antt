@@ -1,16 +1,13 @@
 -- `find` gives the number of a name.
 -- The loop's invariant: its number is j more than that among the names from the j-th on.
-use borrow.Author.Rules.{rules}
-use Prim.Native.Nat.{◌+◌, ◌-◌, ◌≤◌}
+use Prim.Native.Nat.{◌+◌}
 use native.Mathlib.Omega.{arith}
 use mathlib.Core.Bool.{true, false}
 use mathlib.Core.Path.{◌≡◌, ap, ◌∙◌}
 use Rattle.terms.specs.Names.{same_name}
 use Rattle.table.specs.Tests.{key_name, row_name}
 use Rattle.table.proofs.Rows.{row_near}
-use Rattle.table.specs.Meaning.{list_from}
-use Rattle.table.specs.Valid.{index}
-use Rattle.text_build.proofs.Finding.{left, left_here, left-on, left_over, left-all}
+use Rattle.text_build.proofs.Finding.{left_here, left-on, left_over, left-all}
 use Rattle.text_build.proofs.find.Goals as goal
 
 pub loop-j-init : goal.loop-j-init

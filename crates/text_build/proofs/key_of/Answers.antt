@@ -1,6 +1,5 @@
 -- The four words of a word of the text, each from its four bytes.
 use Rattle.text_build.specs.Keys.{key_of}
-use borrow.Author.Rules.{rules}
 use Rattle.text_build.proofs.key_of.Goals as goal
 
 pub returns : goal.returns

@@ -3,7 +3,6 @@ use Prim.Native.Nat.{suc, ◌+◌, ◌*◌}
 use native.Mathlib.Omega.{arith}
 use mathlib.Core.Path.{◌≡◌}
 use Rattle.text_build.specs.Put.{linked}
-use borrow.Author.Rules.{rules}
 use Rattle.table.specs.Words.{row_size, parts_at, low_field, next_field}
 use Rattle.text_build.proofs.link.Goals as goal
 

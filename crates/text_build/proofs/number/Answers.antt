@@ -2,7 +2,6 @@
 use native.Mathlib.Omega.{arith}
 use Rattle.text_build.specs.Tables.{held_in, number_in}
 use Rattle.text_build.proofs.Tables.{enlisted-there, enlisted-new, enlisted-full}
-use borrow.Author.Rules.{rules}
 use Rattle.text_build.proofs.number.Goals as goal
 
 pub find-j-requires : goal.find-j-requires

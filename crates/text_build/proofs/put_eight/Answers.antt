@@ -1,6 +1,5 @@
 -- Eight words, one store after the other: a list of eight is its eight elements.
 use Rattle.text_build.proofs.Stores.{eight-stores}
-use borrow.Author.Rules.{rules}
 use Rattle.text_build.proofs.put_eight.Goals as goal
 
 pub returns : goal.returns

@@ -2,7 +2,6 @@
 use Prim.Native.Nat.{suc, ◌+◌}
 use native.Mathlib.Omega.{arith}
 use mathlib.Core.Path.{◌≡◌}
-use borrow.Author.Rules.{rules}
 use Rattle.text_build.proofs.put_tail.Goals as goal
 
 pub returns : goal.returns

@@ -1,6 +1,5 @@
 -- Four bytes in a word: no sum wraps, since each byte is below 256.
 use Rattle.text_build.specs.Keys.{quad_of}
-use borrow.Author.Rules.{rules}
 use Rattle.text_build.proofs.quad.Goals as goal
 
 pub returns : goal.returns
