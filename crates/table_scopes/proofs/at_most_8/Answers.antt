@@ -3,7 +3,6 @@
 use native.Mathlib.Omega.{arith}
 use mathlib.Core.Path.{◌∙◌}
 use borrow.Author.Tests.{le-leb, lt-leb}
-use borrow.Author.Rules.{rules}
 use Rattle.table_scopes.proofs.at_most_8.Goals as goal
 
 pub returns-then-x-le8 : goal.returns-then-x-le8

@@ -6,7 +6,6 @@ use mathlib.Core.Path.{◌≡◌, sym, ap, ◌∙◌}
 use mathlib.Core.Bool.{true, false}
 use lib.Dec.{eqb}
 use borrow.Author.Tests.{eq-eqb, ne_eqb}
-use borrow.Author.Rules.{rules}
 use Rattle.table.specs.Words.{row_size, owns_at, field, at_most8, own_at, count_field, slot_field}
 use Rattle.table.specs.Valid.{inner_ok}
 use Rattle.table_scopes.proofs.ValidScopes.{inner-high, entered-found, bound-uneven, bound-is}

@@ -6,7 +6,6 @@ use mathlib.Core.Path.{◌≡◌, sym, ◌∙◌}
 use mathlib.Core.Bool.{true, false}
 use lib.Dec.{eqb}
 use borrow.Author.Tests.{eq-eqb, ne_eqb}
-use borrow.Author.Rules.{rules}
 use Rattle.table.specs.Words.{next_at, low_at, scope_at}
 use Rattle.table_scopes.proofs.ValidScopes.{end-last, end-next, inner_below}
 use Rattle.table.proofs.ValidBool.{failed, passed, and-false}

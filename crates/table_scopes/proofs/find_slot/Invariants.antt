@@ -1,15 +1,11 @@
 -- The names in scope are compared with the name from the first slot on.
 -- By the invariant that no slot passed has the name.
 use Prim.Native.Nat.{ℕ, ◌+◌, ◌-◌, ◌≤◌, ◌<◌}
-use native.Mathlib.Omega.{arith}
-use mathlib.Core.Path.{◌≡◌, sym, ap, ◌∙◌}
+use mathlib.Core.Path.{◌≡◌}
 use mathlib.Core.Bool.{false}
-use borrow.Author.Rules.{rules}
-use borrow.Author.Count.{below_none, below_more}
 use Rattle.terms.specs.Names.{same_name}
 use Rattle.table.specs.Words.{name_at, field, slot_field}
 use Rattle.table.specs.Tests.{key_name}
-use Rattle.table_scopes.proofs.ValidScopes.{slot-hit, slot-none}
 use Rattle.table_scopes.proofs.find_slot.Given as goal
 
 abbrev pub invariant-loop-k : goal.invariant-loop-k

@@ -2,7 +2,6 @@
 -- By the law of scopes of one length.
 use native.Mathlib.Omega.{arith}
 use mathlib.Core.Path.{◌≡◌, sym, ap, ◌∙◌}
-use borrow.Author.Rules.{rules}
 use Rattle.table.specs.Words.{field, at_most8, count_field}
 use Rattle.table_scopes.proofs.ValidScopes.{inner-high, inner-uneven, inner-is}
 use Rattle.table_scopes.proofs.inner_ok.Goals as goal

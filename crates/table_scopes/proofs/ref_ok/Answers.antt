@@ -2,7 +2,6 @@
 -- By the first test.
 use native.Mathlib.Omega.{arith}
 use mathlib.Core.Path.{sym, ap, ◌∙◌}
-use borrow.Author.Rules.{rules}
 use Rattle.table.specs.Words.{names_at}
 use Rattle.table.specs.Valid.{slot_ok}
 use Rattle.table_scopes.proofs.ValidScopes.{ref-location, ref-variable}

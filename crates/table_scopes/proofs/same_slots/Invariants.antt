@@ -1,12 +1,8 @@
 -- The words of the two scopes are compared one by one.
 -- By the invariant that all words passed are the same.
 use Prim.Native.Nat.{ℕ, ◌+◌, ◌-◌, ◌≤◌, ◌<◌}
-use native.Mathlib.Omega.{arith}
-use mathlib.Core.Path.{◌≡◌, sym, ◌∙◌}
-use borrow.Author.Rules.{rules}
-use borrow.Author.Count.{below_none, below_more}
+use mathlib.Core.Path.{◌≡◌}
 use Rattle.table.specs.Words.{field, slot_field}
-use Rattle.table_scopes.proofs.ValidScopes.{slots-alike, slots-differ}
 use Rattle.table_scopes.proofs.same_slots.Given as goal
 
 abbrev pub invariant-loop-k : goal.invariant-loop-k

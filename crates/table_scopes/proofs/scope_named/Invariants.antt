@@ -1,14 +1,9 @@
 -- Each name of the scope is tested, from the first on.
 -- By the invariant that all names passed have their form and are the first of their name.
 use Prim.Native.Nat.{ℕ, ◌-◌, ◌≤◌, ◌<◌}
-use native.Mathlib.Omega.{arith}
-use mathlib.Core.Path.{◌≡◌, sym}
+use mathlib.Core.Path.{◌≡◌}
 use mathlib.Core.Bool.{true}
-use borrow.Author.Rules.{rules}
-use borrow.Author.Count.{below_none, below_more}
 use Rattle.table_scopes.specs.Tests.{slot_named}
-use Rattle.table.proofs.ValidBool.{failed, passed}
-use Rattle.table_scopes.proofs.ValidScopes.{slots-named, slots-unnamed}
 use Rattle.table_scopes.proofs.scope_named.Given as goal
 
 abbrev pub invariant-loop-k : goal.invariant-loop-k

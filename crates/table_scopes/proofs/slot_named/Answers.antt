@@ -3,7 +3,6 @@
 use Prim.Native.Nat.{◌+◌}
 use mathlib.Core.Bool.{true, false}
 use mathlib.Core.Path.{◌≡◌, ap, ◌∙◌}
-use borrow.Author.Rules.{rules}
 use Rattle.terms.specs.Letters.{is_name, is_small}
 use Rattle.table.specs.Words.{field, name_at, slot_field}
 use Rattle.table_names.specs.Tests.{first_of}

@@ -3,7 +3,6 @@
 use Prim.Native.Nat.{◌+◌}
 use native.Mathlib.Omega.{arith}
 use mathlib.Core.Path.{◌≡◌, sym, ◌∙◌}
-use borrow.Author.Rules.{rules}
 use Rattle.table.specs.Words.{field, slot_field}
 use Rattle.table_scopes.proofs.ValidScopes.{slot-out, slot-in}
 use Rattle.table_scopes.proofs.slot_ok.Goals as goal
