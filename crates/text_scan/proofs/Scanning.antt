@@ -2,20 +2,18 @@
 -- A number that stops one past its limit is within the limit exactly if the number is.
 use Prim.Native.Nat.{ℕ, suc, ◌≤◌, ◌<◌, min}
 use native.Mathlib.Omega.{arith}
-use mathlib.Core.Bool.{Bool, true, false, cond, ◌&&◌}
+use mathlib.Core.Bool.{Bool, true, false}
 use mathlib.Core.List.{List}
 use mathlib.Core.Path.{◌≡◌, refl, sym, ap, ◌∙◌}
 use borrow.Author.Tests.{le-leb, lt-leb, leb-true, leb-false}
 use lib.Dec.{leb}
 use lib.ListN.{length}
-use Rattle.terms.specs.Rules.{Answer, ok as passes}
-use Rattle.terms.specs.Rules.Answer.{refused, accepted}
 use Rattle.text.specs.Tokens.{Token, lex}
 use Rattle.text.specs.Syntax.{Text}
-use Rattle.text.specs.Tree.{Tree, settled}
+use Rattle.text.specs.Tree.{settled}
 use Rattle.text.specs.Grammar.{Rest, text}
 use Rattle.text.specs.Grammar.Rest.{ok, bad}
-use Rattle.text.specs.Questions.{form, whole, short, shallow, fits, nesting, definition_count, parameter_count, part_count, component_count, channels, locations, scope_size}
+use Rattle.text.specs.Questions.{form, whole, short}
 use Rattle.text_words.specs.Bytes.{mapped}
 use Rattle.text.proofs.Exact.{clash}
 use Rattle.text_scan.specs.Totals.{tree_totals, capped_t}

@@ -1,9 +1,6 @@
 -- `all_located` reads located processes joined by `|`, and adds their numbers up.
 -- The loop's invariant is `Gathered`: what was gathered, joined with what is left, is the whole.
-use Prim.Native.Nat.{◌-◌}
 use mathlib.Core.Path.{refl, sym, ap, subst, ◌∙◌}
-use borrow.Author.Rules.{rules}
-use lib.ListN.{length}
 use Rattle.terms.specs.Characters.{class_of}
 use Rattle.text.specs.Tokens.{lex_from, bar}
 use Rattle.text.specs.Grammar.{the}

@@ -2,7 +2,6 @@
 -- The sign is read behind the process, whose numbers stay.
 use mathlib.Core.Path.{refl}
 use Rattle.text_scan.proofs.Texts.{body_is}
-use borrow.Author.Rules.{rules}
 use Rattle.text_scan.proofs.body.Goals as goal
 
 pub returns : goal.returns

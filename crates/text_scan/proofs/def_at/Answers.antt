@@ -6,7 +6,6 @@ use Rattle.text.specs.Tokens.{lex, lex_from}
 use Rattle.text_scan.specs.Totals.{of_body}
 use Rattle.text_words.proofs.Positions.{done, failed}
 use Rattle.text_scan.proofs.Texts.{totaled-bad, totaled-body, listed-bad, listed_ok, def-1, def-2, def-3, def-4}
-use borrow.Author.Rules.{rules}
 use Rattle.terms.specs.Characters.{class_of}
 use Rattle.text_scan.proofs.def_at.Goals as goal
 

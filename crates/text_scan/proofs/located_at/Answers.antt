@@ -6,7 +6,6 @@ use Rattle.text.specs.Tokens.{lex, lex_from}
 use Rattle.text_scan.specs.Totals.{of_bracket}
 use Rattle.text_words.proofs.Positions.{done, failed}
 use Rattle.text_scan.proofs.Texts.{totaled-bad, totaled-body, located-1, located-2, located-3}
-use borrow.Author.Rules.{rules}
 use Rattle.terms.specs.Characters.{class_of}
 use Rattle.text_scan.proofs.located_at.Goals as goal
 

@@ -5,7 +5,6 @@ use lib.ListN.{drop}
 use Rattle.text.specs.Tokens.{lex, lex_from}
 use Rattle.text_words.proofs.Positions.{done, failed, word-is, word_none}
 use Rattle.text_scan.proofs.Texts.{net-yes, net-no, net-none}
-use borrow.Author.Rules.{rules}
 use Rattle.terms.specs.Characters.{class_of}
 use Rattle.text_scan.proofs.net_next.Goals as goal
 

@@ -3,7 +3,6 @@
 use mathlib.Core.Path.{refl, ap, ◌∙◌}
 use Rattle.text.specs.Tokens.{lex_from}
 use Rattle.text_scan.proofs.Texts.{totaled-bad, network-no-dot, network-more, network-end}
-use borrow.Author.Rules.{rules}
 use Rattle.terms.specs.Characters.{class_of}
 use Rattle.text_scan.proofs.network_at.Goals as goal
 

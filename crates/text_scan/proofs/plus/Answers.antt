@@ -1,6 +1,5 @@
 -- `plus` adds two totals up, stopping at the limits.
 -- By what the sums and the larger of two numbers ensure, field by field.
-use borrow.Author.Rules.{rules}
 use Rattle.text_scan.proofs.plus.Goals as goal
 
 pub returns : goal.returns

@@ -2,7 +2,6 @@
 -- By its length, and by whether the text has an end.
 use mathlib.Core.Path.{◌∙◌}
 use Rattle.text_scan.proofs.Scanning.{scan-long, scan-none, scan-some}
-use borrow.Author.Rules.{rules}
 use Rattle.text_scan.proofs.scan.Goals as goal
 
 pub returns-then-text-gt65535 : goal.returns-then-text-gt65535

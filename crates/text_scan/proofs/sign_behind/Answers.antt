@@ -1,7 +1,6 @@
 -- `sign_behind` reads a sign behind what was read, if it was.
 -- By whether the totals' end is 0.
 use Rattle.text_scan.proofs.Texts.{behind-none, behind-some}
-use borrow.Author.Rules.{rules}
 use Rattle.text_scan.proofs.sign_behind.Goals as goal
 
 pub returns-in-0 : goal.returns-in-0

@@ -2,7 +2,6 @@
 -- The loop's invariant is `Before`: what was gathered, joined with the text that is left, is the whole.
 use Prim.Native.Nat.{◌-◌, ◌<◌}
 use mathlib.Core.Path.{sym, ap, subst, ◌∙◌}
-use borrow.Author.Rules.{rules}
 use lib.ListN.{length}
 use Rattle.text_scan.specs.Answers.{totals_of, totaled}
 use Rattle.text_scan.proofs.Texts.{Before, before-first, before-network, before-none, def-falls, before_on}

@@ -1,11 +1,8 @@
 -- `text_at` reads definitions and then a network, and adds their numbers up.
 -- The loop's invariant is `Before`: what was gathered, joined with the text that is left, is the whole.
-use Prim.Native.Nat.{◌-◌, ◌<◌}
-use mathlib.Core.Path.{sym, ap, subst, ◌∙◌}
-use borrow.Author.Rules.{rules}
+use Prim.Native.Nat.{◌-◌}
 use lib.ListN.{length}
-use Rattle.text_scan.specs.Answers.{totals_of, totaled}
-use Rattle.text_scan.proofs.Texts.{Before, before-first, before-network, before-none, def-falls, before_on}
+use Rattle.text_scan.proofs.Texts.{Before}
 use Rattle.text_scan.proofs.text_at.Given as goal
 
 abbrev pub invariant-loop-t : goal.invariant-loop-t
