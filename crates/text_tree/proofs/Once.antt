@@ -11,12 +11,12 @@ use Rattle.terms.specs.Terms.Part.{stop, go, out, inp, call}
 use Rattle.terms.specs.Terms.Process.{one, ◌∥◌}
 use Rattle.terms.specs.Terms.Def.{define}
 use Rattle.terms.specs.Same.{every}
-use Rattle.terms.proofs.Names.{and-inv, and_in}
+use Rattle.terms.proofs.Names.{and_in}
 use Rattle.terms.specs.Letters.{is_location, is_small, distinct}
 use Rattle.text.specs.Tree.{Located, Tree}
 use Rattle.text.specs.Tree.Located.{at}
 use Rattle.text.specs.WellFormed.{Each, WellValue, WellPart, WellProcess, WellDef, WellLocated, WellTree}
-use Rattle.text.specs.Questions.{Place, into, firsts, part_places, process_places, def_places, located_places, places, channels_at, loc_of, locations_at, located_names, channels, locations}
+use Rattle.text.specs.Questions.{Place, into, part_places, process_places, def_places, located_places, places, channels_at, loc_of, locations_at, located_names, channels, locations}
 use Rattle.text.proofs.Gives.{each_append}
 use Rattle.table.proofs.Tests.{every_append}
 use Rattle.text_build.proofs.Into.{firsts-differ, firsts-every}

@@ -18,7 +18,7 @@ use Rattle.text_build.specs.Growth.{Making}
 use Rattle.table.proofs.Stores.{set_out}
 use Rattle.text_build.proofs.Grows.{grown-none}
 use Rattle.text_build.proofs.Numbering.{flat_append, Numbered, numbered-then}
-use Rattle.text_tree.specs.Pass.{Within, Blank, heads, bodies, started, top, defined, behind, script_of, spots_of}
+use Rattle.text_tree.specs.Pass.{Within, Blank, heads, started, top, defined, behind, script_of, spots_of}
 use Rattle.text_tree.proofs.Whole.{Whole}
 use Rattle.text_tree.proofs.Sizes.{size_defs, parts_are, behind-is}
 use Rattle.text_tree.proofs.Heads.{FewParams, HeadsStand, heads-long, heads-under, heads-past, heads-stand}

@@ -8,7 +8,6 @@ use lib.ListN.{length}
 use Rattle.terms.specs.Names.{Name}
 use Rattle.terms.specs.Terms.{Process, Def}
 use Rattle.terms.specs.Terms.Def.{define}
-use Rattle.text.specs.Tree.Located.{at}
 use Rattle.text.specs.Questions.{firsts}
 use Rattle.table.specs.Words.{row_size, parts_at, word}
 use Rattle.table.specs.Size.{size_p}
