@@ -1,19 +1,17 @@
 -- A part is what stands before its first process, and then its processes; a process is its parts, joined by ` | `.
 -- Both fall by the place: twice the place for a part, and one more for a process, since a process begins with the part at its own place.
 -- the process at n, where n is the place m
-use Prim.Native.Nat.{◌+◌, ◌-◌, ◌*◌, ◌≤◌, suc}
+use Prim.Native.Nat.{◌-◌, suc}
 use native.Mathlib.Omega.{arith}
 use mathlib.Core.List.{List}
 use mathlib.Core.Path.{◌≡◌, refl, ap, sym, ◌∙◌}
-use lib.ListN.{length}
 use Rattle.table.specs.Words.{next_at}
 use Rattle.text_letters.specs.Put.{Wrote}
 use Rattle.text_process.specs.Forms.{part_text, process_text}
-use Rattle.text_process.specs.Values.{Places, part_seen, process_seen}
-use Rattle.text_letters.proofs.Puts.{Left, begun, step, last, then, same, left_as}
+use Rattle.text_process.specs.Values.{part_seen, process_seen}
+use Rattle.text_letters.proofs.Puts.{begun, step, last, then, same, left_as}
 use Rattle.text_process.proofs.Heads.{place-small, below-go, below_out, below_in, below_next, close-stop, close-call, close-go, close-out, close-in, process-last, process-more}
-use borrow.Author.Rules.{rules}
-use Prim.Native.Nat.{ℕ, ◌<◌}
+use Prim.Native.Nat.{ℕ}
 use Rattle.text_process.proofs.+write_part_write_process.Goals as goal
 
 moved : {d e : List ℕ} {at r m n : ℕ} (w vs : List ℕ) → n ≡ m → Wrote d at (process_text (process_seen w n vs)) e r → Wrote d at (process_text (process_seen w m vs)) e r

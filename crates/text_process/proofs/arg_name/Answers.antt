@@ -1,5 +1,4 @@
 -- `arg_name` meets its contract: it is that of the value that stands at the argument's word.
-use borrow.Author.Rules.{rules}
 use Rattle.text_process.proofs.arg_name.Goals as goal
 
 pub returns : goal.returns

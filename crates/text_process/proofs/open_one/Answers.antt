@@ -1,7 +1,6 @@
 -- The word and the fields.
 -- By what each call puts.
 use Rattle.text_letters.proofs.Puts.{then}
-use borrow.Author.Rules.{rules}
 use Rattle.text_process.proofs.open_one.Goals as goal
 
 pub returns : goal.returns

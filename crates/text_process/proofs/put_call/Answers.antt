@@ -4,7 +4,6 @@ use Prim.Native.Nat.{◌+◌, ◌*◌}
 use mathlib.Core.Path.{ap}
 use Rattle.table.specs.Words.{row_size, name_at, def_name, ids_at}
 use Rattle.text_letters.proofs.Puts.{then, same}
-use borrow.Author.Rules.{rules}
 use Rattle.text_process.proofs.put_call.Goals as goal
 
 pub returns : goal.returns

@@ -11,9 +11,6 @@ use Rattle.text_process.proofs.put_open.Goals as goal
 pub head_at-requires : goal.head_at-requires
 head_at-requires c = place-small c.requires
 
-pub enum_told-1 : goal.enum_told-1
-enum_told-1 c = search rules
-
 pub value_at-requires : goal.value_at-requires
 value_at-requires c = (place-small c.requires, c.requires.slots)
 

@@ -6,7 +6,6 @@ use mathlib.Core.Path.{◌≡◌, ap, ◌∙◌}
 use lib.ListN.{get_or}
 use Rattle.table.specs.Words.{row_size, locs_at, parts_at, name_at, name_size}
 use Rattle.text_process.proofs.Values.{location-written, value_written, name-written, slot-few}
-use borrow.Author.Rules.{rules}
 use Rattle.text_process.proofs.value_at.Goals as goal
 
 pub returns-then-n-lt64 : goal.returns-then-n-lt64

@@ -4,7 +4,6 @@ use native.Mathlib.Omega.{arith}
 use mathlib.Core.Path.{ap, sym}
 use lib.ListN.{set}
 use lib.Seq.{set_out}
-use borrow.Author.Rules.{rules}
 use Rattle.text_process.proofs.without.Goals as goal
 
 pub returns-then-j-lt8 : goal.returns-then-j-lt8
