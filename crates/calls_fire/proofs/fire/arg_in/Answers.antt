@@ -3,7 +3,6 @@ use mathlib.Core.Path.{◌∙◌, ap}
 use borrow.Author.Tests.{lt-ltb, le-ltb}
 use Rattle.table.specs.Words.{arg_at}
 use Rattle.table.specs.Fire.{arg_in, value_in}
-use borrow.Author.Rules.{rules}
 use Rattle.calls_fire.proofs.fire.arg_in.Goals as goal
 
 pub arg_at-requires : goal.arg_at-requires

@@ -5,7 +5,6 @@ use Prim.Native.Nat.{◌<◌}
 use Rattle.terms.specs.Rules.Kind.{calls}
 use Rattle.table.specs.Fire.{becomes_at, loaded}
 use Rattle.calls_fire.specs.Fired.{one_of, callee}
-use borrow.Author.Rules.{rules}
 use Rattle.calls_fire.proofs.fire.becomes_call.Goals as goal
 
 pub arg_in-x0-requires : goal.arg_in-x0-requires

@@ -3,11 +3,7 @@ use mathlib.Core.Path.{sym, ap}
 use Rattle.terms.specs.Rules.Kind.{moves}
 use Rattle.table.specs.Fire.{becomes_at}
 use Rattle.calls_fire.specs.Fired.{one_of}
-use borrow.Author.Rules.{rules}
 use Rattle.calls_fire.proofs.fire.becomes_move.Goals as goal
-
-pub enum_told-1 : goal.enum_told-1
-enum_told-1 c = search rules
 
 pub returns-in-Go : goal.returns-in-Go
 unfolding one_of becomes_at

@@ -6,7 +6,6 @@ use Rattle.table.specs.Words.{head_at}
 use Rattle.table.specs.Fire.{becomes_at, alone_at, fits_alone}
 use Rattle.calls_fire.specs.Fired.{one_of, righted}
 use Rattle.calls_fire.proofs.Heads.{place-fits, callee-fits, call-free}
-use borrow.Author.Rules.{rules}
 use Rattle.calls_fire.proofs.fire.fire_call.Goals as goal
 
 pub returns-then-c-lt64 : goal.returns-then-c-lt64

@@ -5,7 +5,6 @@ use Rattle.table.specs.Words.{head_at}
 use Rattle.table.specs.Fire.{meet_at, together_at, fits_together}
 use Rattle.calls_fire.specs.Fired.{two_of, righted}
 use Rattle.calls_fire.proofs.Heads.{place-fits}
-use borrow.Author.Rules.{rules}
 use Rattle.calls_fire.proofs.fire.fire_pair.Goals as goal
 
 pub returns-then-c-lt64 : goal.returns-then-c-lt64

@@ -3,11 +3,7 @@ use mathlib.Core.Path.{sym, ap, ◌∙◌}
 use Rattle.table.specs.Fire.{meet_at}
 use Rattle.calls_fire.specs.Fired.{two_of}
 use Rattle.calls_fire.proofs.Heads.{meet-out}
-use borrow.Author.Rules.{rules}
 use Rattle.calls_fire.proofs.fire.meet.Goals as goal
-
-pub enum_told-1 : goal.enum_told-1
-enum_told-1 c = search rules
 
 pub returns-in-Out : goal.returns-in-Out
 returns-in-Out c =

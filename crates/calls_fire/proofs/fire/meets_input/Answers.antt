@@ -3,7 +3,6 @@ use mathlib.Core.Path.{sym, ap, ◌∙◌}
 use borrow.Author.Tests.{eq-eqb, ne_eqb}
 use Rattle.table.specs.Fire.{handed}
 use Rattle.calls_fire.specs.Fired.{two_of, meets_input}
-use borrow.Author.Rules.{rules}
 use Rattle.calls_fire.proofs.fire.meets_input.Goals as goal
 
 pub returns-then-l-l2 : goal.returns-then-l-l2
@@ -17,9 +16,6 @@ unfolding two_of meets_input
 returns-then-d-d2 c =
     let a = c.args in
     rw c.not_met.ensures (sym (ap (meets_input a.c a.e a.d a.x a.p) c.in-In.is ∙ rw (eq-eqb _ _ c.if-d-d2.true, ne_eqb _ _ c.if-l-l2.false)))
-
-pub enum_told-1 : goal.enum_told-1
-enum_told-1 c = search rules
 
 pub returns-else-d-d2 : goal.returns-else-d-d2
 unfolding two_of meets_input

@@ -1,5 +1,4 @@
 -- `not_fired` meets its contract.
-use borrow.Author.Rules.{rules}
 use Rattle.calls_fire.proofs.fire.not_fired.Goals as goal
 
 pub returns : goal.returns

@@ -1,5 +1,4 @@
 -- `not_met` meets its contract.
-use borrow.Author.Rules.{rules}
 use Rattle.calls_fire.proofs.fire.not_met.Goals as goal
 
 pub returns : goal.returns

@@ -1,9 +1,8 @@
 -- `rightly_one` meets its contract: a refusal stays, what fits is asked for its right.
-use mathlib.Core.Path.{sym, ap, ◌∙◌}
+use mathlib.Core.Path.{sym, ◌∙◌}
 use borrow.Author.Tests.{eq-eqb, ne_eqb}
 use Rattle.table.specs.Fire.{rightly}
 use Rattle.calls_fire.specs.Fired.{one_of}
-use borrow.Author.Rules.{rules}
 use Rattle.calls_fire.proofs.fire.rightly_one.Goals as goal
 
 pub returns-then-f-ne0 : goal.returns-then-f-ne0

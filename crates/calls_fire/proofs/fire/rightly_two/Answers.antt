@@ -1,9 +1,8 @@
 -- `rightly_two` meets its contract: a refusal stays, what fits is asked for its rights.
-use mathlib.Core.Path.{sym, ap, ◌∙◌}
+use mathlib.Core.Path.{sym, ◌∙◌}
 use borrow.Author.Tests.{eq-eqb, ne_eqb}
 use Rattle.table.specs.Fire.{rightly}
 use Rattle.calls_fire.specs.Fired.{two_of}
-use borrow.Author.Rules.{rules}
 use Rattle.calls_fire.proofs.fire.rightly_two.Goals as goal
 
 pub returns-then-m-ne0 : goal.returns-then-m-ne0

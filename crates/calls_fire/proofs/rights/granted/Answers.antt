@@ -1,7 +1,6 @@
 -- `granted` meets its contract: by the kind of the label.
 use borrow.Author.Tests.{eq-eqb, ne_eqb}
 use Rattle.table.specs.Fire.{granted_at}
-use borrow.Author.Rules.{rules}
 use Rattle.calls_fire.proofs.rights.granted.Goals as goal
 
 pub returns-then-x-eq1 : goal.returns-then-x-eq1

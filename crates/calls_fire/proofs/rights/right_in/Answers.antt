@@ -1,7 +1,6 @@
 -- `right_in` meets its contract: in each arm the head is known.
 use mathlib.Core.Path.{sym, ap}
 use Rattle.table.specs.Fire.{right_in}
-use borrow.Author.Rules.{rules}
 use Rattle.calls_fire.proofs.rights.right_in.Goals as goal
 
 pub returns-in-Stop : goal.returns-in-Stop
