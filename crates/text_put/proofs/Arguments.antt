@@ -9,7 +9,6 @@ use lib.Seq.{length-take-le, get_or-take}
 use Rattle.terms.specs.Names.{Name, same_name}
 use Rattle.terms.specs.Terms.{Value}
 use Rattle.terms.specs.Terms.Value.{loc, var}
-use Rattle.terms.specs.Characters.Class.{capital}
 use Rattle.terms.specs.Characters.{is_capital}
 use Rattle.terms.specs.Letters.{first_is}
 use Rattle.text.specs.Tokens.{Token, lex, opens, closes, comma}

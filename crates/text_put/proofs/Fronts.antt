@@ -39,7 +39,6 @@ use Rattle.text_put.specs.declared.Args.{Args}
 use Rattle.text_put.specs.Found.{PairIs, FrontIs, name_of, ValueBy, entered_by, marked_by, Marked, ListAt, ArgsAre}
 use Rattle.text_put.specs.Opened.{PartAt, TailAt, rest, head_name, tail_t, OpenIs}
 use Rattle.text_put.proofs.Arguments.{slot-few, value-is, value_after}
-use Rattle.text_words.specs.declared.Sort.TheVariants as sort
 
 abbrev pub no_words : Key
 no_words = record { a = 0; b = 0; c = 0; d = 0 }

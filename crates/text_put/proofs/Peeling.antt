@@ -2,7 +2,7 @@
 -- From what the code of words and signs gives, where the next token is known.
 use Prim.Native.Nat.{ℕ, ◌-◌, ◌≤◌, ◌<◌}
 use native.Mathlib.Omega.{arith}
-use mathlib.Core.Bool.{Bool, true, false, cond, ◌||◌, false≢true}
+use mathlib.Core.Bool.{Bool, true, false, cond, false≢true}
 use mathlib.Core.List.{List, [], ◌∷◌}
 use mathlib.Core.Path.{◌≡◌, refl, sym, ap, ◌∙◌}
 use borrow.Author.Tests.{eq-eqb, leb-false}
@@ -11,7 +11,6 @@ use lib.ListN.{length, take, drop, get_or}
 use Rattle.terms.specs.Names.{Name, bytes, same_name}
 use Rattle.terms.specs.declared.Made.TheVariants.{Valid, TooLarge}
 use Rattle.terms.specs.Clock.{made_of}
-use Rattle.terms.specs.Characters.Class.{small, digit, bracket, blank, other}
 use Rattle.text.specs.Tokens.{Token, lex, digits, number}
 use Rattle.text.specs.Tokens.Token.{word, sign}
 use Rattle.text.specs.Syntax.{Span}
@@ -28,7 +27,7 @@ use Rattle.text_build.specs.Rows.{timer_word}
 use Rattle.text.proofs.Exact.{clash}
 use Rattle.text_parts.proofs.Rests.{next-yes, next-no, ended_is, ended-zero}
 use Rattle.terms.specs.declared.Timer.{Timer as CodeTimer}
-use Rattle.terms.specs.Characters.{Class, within, class_of, is_capital}
+use Rattle.terms.specs.Characters.{Class, class_of}
 use Rattle.terms.specs.Letters.{first_is}
 
 -- ── signs ──

@@ -1,5 +1,4 @@
 -- By the two tests.
-use borrow.Author.Rules.{rules}
 use Rattle.text_put.proofs.Fronts.{entered-there, entered-new, entered-full}
 use Rattle.text_put.proofs.heads.entered.Goals as goal
 

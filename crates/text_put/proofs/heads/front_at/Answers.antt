@@ -1,6 +1,5 @@
 -- A bracket, a word, a comma, then a timer and a name.
 use mathlib.Core.Path.{refl}
-use borrow.Author.Rules.{rules}
 use Rattle.terms.specs.Characters.{class_of}
 use Rattle.text.specs.Tokens.{lex_from, opens, comma}
 use Rattle.text_put.proofs.Peeling.{peel-sign}

@@ -1,15 +1,11 @@
 -- The sort of the first word says which form the part has.
 use Prim.Native.Nat.{◌-◌}
 use mathlib.Core.Path.{refl, ap}
-use borrow.Author.Rules.{rules}
 use Rattle.text.specs.Grammar.Head.{stops, goes, sends, receives, calls, nothing}
 use Rattle.text_words.specs.Sorts.{head_is}
 use Rattle.text_put.specs.Opened.{OpenIs}
 use Rattle.text_put.proofs.Fronts.{stop-open, by, list_at}
 use Rattle.text_put.proofs.heads.open_by.Goals as goal
-
-pub enum_told-1 : goal.enum_told-1
-enum_told-1 c = search rules
 
 pub open_call-requires : goal.open_call-requires
 open_call-requires c =

@@ -3,7 +3,6 @@ use Rattle.table.specs.Words.{ids_at, row_size}
 use Prim.Native.Nat.{◌-◌}
 use native.Mathlib.Omega.{arith}
 use mathlib.Core.Path.{refl}
-use borrow.Author.Rules.{rules}
 use Rattle.table.specs.Meaning.{list_from}
 use Rattle.table.specs.Tests.{key_name, row_name}
 use Rattle.table.proofs.Tests.{length-list_from}

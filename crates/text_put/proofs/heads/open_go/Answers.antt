@@ -1,7 +1,6 @@
 -- A bracket, a timer, a value; then the row.
 use mathlib.Core.List.{◌∷◌}
 use mathlib.Core.Path.{refl, ap, ◌∙◌}
-use borrow.Author.Rules.{rules}
 use Rattle.terms.specs.Characters.{class_of}
 use Rattle.text.specs.Tokens.{lex_from, opens, comma}
 use Rattle.text.specs.Tokens.Token.{sign}

@@ -1,6 +1,5 @@
 -- A channel, a timer, a name; its slot and the scope of P; then the row.
 use native.Mathlib.Omega.{arith}
-use borrow.Author.Rules.{rules}
 use Rattle.text_put.proofs.Fronts.{chan-few, in-open}
 use Rattle.text_put.proofs.heads.open_in.Goals as goal
 

@@ -2,7 +2,6 @@
 use native.Mathlib.Omega.{arith}
 use mathlib.Core.List.{◌∷◌}
 use mathlib.Core.Path.{ap, ◌∙◌}
-use borrow.Author.Rules.{rules}
 use Rattle.text.specs.Tokens.{opens, comma}
 use Rattle.text.specs.Tokens.Token.{word, sign}
 use Rattle.text.specs.Write.{timer_t}

@@ -1,7 +1,6 @@
 -- The first word, then what is behind it.
 use native.Mathlib.Omega.{arith}
 use mathlib.Core.Path.{◌∙◌}
-use borrow.Author.Rules.{rules}
 use Rattle.text_words.proofs.Positions.{word-alnum}
 use Rattle.text_put.specs.Opened.{head_name}
 use Rattle.text_put.proofs.Peeling.{peel-name, peel-word, peel-none}

@@ -1,12 +1,8 @@
 -- Process reader and part reader, each the other's callee. The falling number is the bytes left, twice, and one more for the process reader.
 use native.Mathlib.Omega.{arith}
-use borrow.Author.Rules.{rules}
 use mathlib.Core.Path.{refl}
-use Prim.Native.Nat.{◌+◌, ◌*◌, ◌-◌}
-use lib.ListN.{length}
 use Rattle.text.specs.Tokens.{lex_from}
 use Rattle.text_put.proofs.Putting.{inner-small, part-leaf, first-at, first-falls, part-one, second_at, second-falls, part-two, part_at, low-few, process-last, process-next, next-falls, process-more, first-low, next_low}
-use Prim.Native.Nat.{ℕ, ◌<◌}
 use Rattle.terms.specs.Characters.{class_of}
 use Rattle.text_put.proofs.parts.+put_part_put_process.Goals as goal
 

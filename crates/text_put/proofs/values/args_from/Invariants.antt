@@ -1,12 +1,8 @@
 -- The loop's invariant: of the values some are read, and from here on stand the others. The bytes left fall with each value and its comma.
 use Prim.Native.Nat.{◌-◌}
-use mathlib.Core.Path.{refl}
 use lib.ListN.{length}
-use borrow.Author.Rules.{rules}
-use Rattle.terms.specs.Characters.{class_of}
-use Rattle.text.specs.Tokens.{lex_from}
 use Rattle.text_put.specs.Found.{ValuesAt, values_of}
-use Rattle.text_put.proofs.Arguments.{Going, going-first, going-word, going_end, going_on, going-falls}
+use Rattle.text_put.proofs.Arguments.{Going}
 use Rattle.text_put.proofs.values.args_from.Given as goal
 
 abbrev pub invariant-loop-sc : goal.invariant-loop-sc

@@ -1,16 +1,12 @@
 -- The names in scope are compared with the name from the first slot on.
 -- By the invariant that no slot passed has the name.
 use Prim.Native.Nat.{ℕ, ◌-◌, ◌≤◌, ◌<◌}
-use native.Mathlib.Omega.{arith}
-use mathlib.Core.Path.{◌≡◌, sym, ap, ◌∙◌}
+use mathlib.Core.Path.{◌≡◌}
 use mathlib.Core.Bool.{false}
-use lib.ListN.{length, get_or}
-use borrow.Author.Rules.{rules}
-use borrow.Author.Count.{below_none, below_more}
+use lib.ListN.{get_or}
 use Rattle.terms.specs.Names.{same_name}
 use Rattle.table.specs.Words.{name_at}
 use Rattle.table.specs.Tests.{key_name}
-use Rattle.text_put.proofs.Arguments.{slot-here, slot-nowhere}
 use Rattle.text_put.proofs.values.slot.Given as goal
 
 abbrev pub invariant-loop-j : goal.invariant-loop-j

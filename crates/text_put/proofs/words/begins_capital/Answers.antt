@@ -1,6 +1,5 @@
 -- By the first byte, if there is one.
 use Rattle.text_put.proofs.Peeling.{first-none, first_of}
-use borrow.Author.Rules.{rules}
 use Rattle.terms.specs.Characters.{is_capital}
 use Rattle.text_put.proofs.words.begins_capital.Goals as goal
 

@@ -1,10 +1,8 @@
 -- The word past the blanks is the next token.
-use Prim.Native.Nat.{◌-◌}
 use native.Mathlib.Omega.{arith}
 use mathlib.Core.Path.{ap, ◌∙◌}
 use Rattle.text_build.specs.Keys.{key_of}
 use Rattle.text_put.proofs.Peeling.{peel-name, peel-word, peel-none}
-use borrow.Author.Rules.{rules}
 use Rattle.terms.specs.Characters.{is_capital}
 use Rattle.terms.specs.Letters.{first_is}
 use Rattle.text_put.proofs.words.name_at.Goals as goal

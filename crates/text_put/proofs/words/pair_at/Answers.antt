@@ -2,7 +2,6 @@
 use mathlib.Core.Path.{refl}
 use Rattle.text.specs.Tokens.{lex_from, comma}
 use Rattle.text_put.proofs.Peeling.{peel-sign}
-use borrow.Author.Rules.{rules}
 use Rattle.terms.specs.Characters.{class_of}
 use Rattle.text_put.proofs.words.pair_at.Goals as goal
 

@@ -1,11 +1,9 @@
 -- The word past the blanks is the timer's.
-use Prim.Native.Nat.{◌-◌}
 use native.Mathlib.Omega.{arith}
 use mathlib.Core.List.{◌∷◌}
 use mathlib.Core.Path.{sym, ap, ◌∙◌}
 use Rattle.text.specs.Tokens.Token.{word}
 use Rattle.text_put.proofs.Peeling.{peel-name, peel-word, peel-none, timer_name, timer-word}
-use borrow.Author.Rules.{rules}
 use Rattle.text_put.proofs.words.timer_at.Goals as goal
 
 pub slice_bounds-timer_of-end : goal.slice_bounds-timer_of-end

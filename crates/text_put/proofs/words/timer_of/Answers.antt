@@ -1,14 +1,10 @@
 -- `inf` is the only timer of letters; the constructor takes the number of any other.
 use mathlib.Core.Path.{sym, ◌∙◌}
 use Rattle.text_put.proofs.Peeling.{timer-inf, timer-made, timer-large}
-use borrow.Author.Rules.{rules}
 use Rattle.text_put.proofs.words.timer_of.Goals as goal
 
 pub returns-then-is_same : goal.returns-then-is_same
 returns-then-is_same c = λ t us f g. timer-inf t us _ f g (sym c.is_same.ensures ∙ c.if-is_same.true)
-
-pub enum_told-1 : goal.enum_told-1
-enum_told-1 c = search rules
 
 pub returns-in-Valid : goal.returns-in-Valid
 returns-in-Valid c = λ t us f g. timer-made t us _ f g (sym c.is_same.ensures ∙ c.if-is_same.false) _ c.number_of.ensures.exact _ (sym c.new.ensures ∙ c.in-Valid.is)
