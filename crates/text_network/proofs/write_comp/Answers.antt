@@ -8,7 +8,6 @@ use Rattle.text_process.specs.Values.{part_seen}
 use Rattle.text_letters.proofs.Puts.{then, same}
 use Rattle.text_process.proofs.Places.{comp-place}
 use Rattle.text_network.proofs.Networks.{comp-written}
-use borrow.Author.Rules.{rules}
 use Rattle.text_network.proofs.write_comp.Goals as goal
 
 pub write_part-d-requires : goal.write_part-d-requires

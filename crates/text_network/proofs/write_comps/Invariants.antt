@@ -1,15 +1,11 @@
 -- The first component, each other one after ` | `, and the line's end.
 -- Idea: what is left to put is the components from the position on.
 use Prim.Native.Nat.{◌-◌, ◌≤◌}
-use native.Mathlib.Omega.{arith}
-use mathlib.Core.Path.{◌≡◌, refl, sym}
+use mathlib.Core.Path.{◌≡◌}
 use lib.ListN.{length}
 use Rattle.text_network.specs.Forms.{barred}
-use Rattle.text_letters.proofs.Puts.{Left, begun, step, last, then, same, left_as}
-use Rattle.table.specs.declared.State.{State}
-use Rattle.table.proofs.InUse.{valid-script, valid-state}
-use Rattle.text_network.proofs.Networks.{left, comps-first, comps-next, comps-end, comp-good}
-use borrow.Author.Rules.{rules}
+use Rattle.text_letters.proofs.Puts.{Left}
+use Rattle.text_network.proofs.Networks.{left}
 use Rattle.text_network.proofs.write_comps.Given as goal
 
 abbrev pub invariant-loop-k : goal.invariant-loop-k

@@ -1,16 +1,11 @@
 -- Each definition in order.
 -- Idea: what is left to put is the definitions from the number on.
-use Prim.Native.Nat.{◌-◌, ◌≤◌}
 use native.Mathlib.Omega.{arith}
-use mathlib.Core.Path.{◌≡◌, refl, ◌∙◌}
-use lib.ListN.{length}
+use mathlib.Core.Path.{refl, ◌∙◌}
 use Rattle.table.specs.Words.{defs_in}
-use Rattle.table.specs.Meaning.{list_from, def_of, defs_of}
 use Rattle.table.proofs.Tests.{script-fine}
-use Rattle.text_network.specs.Forms.{defs_text}
-use Rattle.text_letters.proofs.Puts.{Left, begun, step, done, left_as}
+use Rattle.text_letters.proofs.Puts.{begun, step, done, left_as}
 use Rattle.text_network.proofs.Networks.{defs-next, defs-end, defs-all}
-use borrow.Author.Rules.{rules}
 use Rattle.text_network.proofs.write_defs.Goals as goal
 
 pub loop-d-init : goal.loop-d-init

@@ -3,7 +3,6 @@
 use Rattle.text_letters.proofs.Puts.{then, same}
 use Rattle.table.proofs.InUse.{valid-script}
 use Rattle.text_network.proofs.Networks.{text-is}
-use borrow.Author.Rules.{rules}
 use Rattle.text_network.proofs.write_text.Goals as goal
 
 pub write_defs-a-requires : goal.write_defs-a-requires
