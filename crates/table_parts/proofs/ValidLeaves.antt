@@ -1,12 +1,11 @@
 -- A part with no variable in scope and nothing after it: stop, or a call of locations.
 -- By the definitions: a value below 64 asks nothing of a scope.
-use Prim.Native.Nat.{ℕ, ◌+◌, ◌≤◌, ◌<◌}
+use Prim.Native.Nat.{ℕ, ◌≤◌, ◌<◌}
 use native.Mathlib.Omega.{arith}
 use mathlib.Core.List.{List}
 use mathlib.Core.Bool.{Bool, true, false}
 use mathlib.Core.Path.{◌≡◌, refl, ap, ◌∙◌}
 use lib.Dec.{eqb, leb, ltb}
-use lib.ListN.{take}
 use borrow.Author.Tests.{eq-eqb, lt-ltb, ltb-true, ltb-false}
 use Rattle.terms.specs.Same.{every}
 use Rattle.table.specs.declared.Head.TheVariants.{Call}

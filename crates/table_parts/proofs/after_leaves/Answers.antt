@@ -1,6 +1,6 @@
 -- Parts are passed as long as each is in order by its own.
 -- By the invariant that all parts passed are in order.
-use Prim.Native.Nat.{ℕ, ◌-◌, ◌≤◌, ◌<◌}
+use Prim.Native.Nat.{◌≤◌}
 use native.Mathlib.Omega.{arith}
 use mathlib.Core.Path.{refl}
 use borrow.Author.Count.{below_more}

@@ -1,10 +1,6 @@
 -- Parts are passed as long as each is in order by its own.
 -- By the invariant that all parts passed are in order.
 use Prim.Native.Nat.{ℕ, ◌-◌, ◌≤◌, ◌<◌}
-use native.Mathlib.Omega.{arith}
-use mathlib.Core.Path.{refl}
-use borrow.Author.Count.{below_more}
-use Rattle.table.proofs.ValidBool.{passed}
 use Rattle.table_parts.specs.Tests.{Leaf}
 use Rattle.table_parts.proofs.after_leaves.Given as goal
 

@@ -6,7 +6,6 @@ use mathlib.Core.Path.{◌≡◌, sym, ap, ◌∙◌}
 use mathlib.Core.Bool.{true, false}
 use lib.Dec.{eqb}
 use borrow.Author.Tests.{eq-eqb, ne_eqb}
-use borrow.Author.Rules.{rules}
 use Rattle.terms.specs.Letters.{is_name, is_small}
 use Rattle.table.specs.Words.{row_size, owns_at, field, names_at, name_at, own_at, bound_at, first_field, value_field}
 use Rattle.table.specs.Valid.{inner_ok, head_ok, stacked, floor, index, entered}

@@ -3,7 +3,6 @@
 use native.Mathlib.Omega.{arith}
 use mathlib.Core.Path.{◌≡◌, ap, ◌∙◌}
 use mathlib.Core.Bool.{true, false}
-use borrow.Author.Rules.{rules}
 use Rattle.table.specs.Words.{field, scope_at, names_at, first_field, value_field}
 use Rattle.table.specs.Valid.{ref_ok, inner_ok, head_ok, stacked, floor}
 use Rattle.table_parts.specs.Tests.{rest_ok, send_ok}

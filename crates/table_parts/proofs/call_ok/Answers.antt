@@ -6,7 +6,6 @@ use mathlib.Core.Bool.{true, false}
 use lib.Dec.{eqb, ltb}
 use lib.ListN.{take}
 use borrow.Author.Tests.{eq-eqb, ne_eqb, lt-ltb, le-ltb}
-use borrow.Author.Rules.{rules}
 use Rattle.terms.specs.Same.{every}
 use Rattle.table.specs.Words.{field, names_at, defs_in, arity_of, arg_words, args_at, name_field, value_field}
 use Rattle.table.specs.Valid.{ref_ok, head_ok, stacked, floor}

@@ -6,7 +6,6 @@ use mathlib.Core.Path.{◌≡◌, ap, ◌∙◌}
 use mathlib.Core.Bool.{true, false}
 use lib.Dec.{eqb}
 use borrow.Author.Tests.{eq-eqb, ne_eqb}
-use borrow.Author.Rules.{rules}
 use Rattle.table.specs.Words.{field, low_at, scope_at, names_at, first_field, timer_field, value_field}
 use Rattle.table.specs.Valid.{timer_ok, ref_ok, inner_ok, head_ok, stacked, floor}
 use Rattle.table_scopes.specs.Tests.{end_ok}

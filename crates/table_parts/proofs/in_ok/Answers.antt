@@ -1,7 +1,6 @@
 -- An input passes by few tests or by all of them.
 -- By the two answers.
 use mathlib.Core.Path.{sym}
-use borrow.Author.Rules.{rules}
 use Rattle.table_parts.proofs.in_ok.Goals as goal
 
 pub returns-then-plain_in : goal.returns-then-plain_in

@@ -2,8 +2,6 @@
 -- By the laws of a leaf.
 use mathlib.Core.Path.{sym, ◌∙◌}
 use mathlib.Core.Bool.{false≢true}
-use borrow.Author.Rules.{rules}
-use Rattle.table.specs.Words.{field}
 use Rattle.table_parts.proofs.ValidLeaves.{leaf-stop, leaf-call}
 use Rattle.table_parts.proofs.leaf_ok.Goals as goal
 

@@ -6,7 +6,6 @@ use mathlib.Core.Path.{◌≡◌, sym, ap, ◌∙◌}
 use mathlib.Core.Bool.{true}
 use lib.Dec.{leb}
 use borrow.Author.Tests.{lt-leb}
-use borrow.Author.Rules.{rules}
 use Rattle.table.specs.Words.{field, kind_field}
 use Rattle.table_parts.specs.Tests.{slots_ok, rest_ok}
 use Rattle.table.proofs.WordsHead.{head-go, head-out, head_in, head-call, head-stop}

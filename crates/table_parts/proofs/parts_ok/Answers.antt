@@ -1,10 +1,9 @@
 -- First each row, leaves in runs, then the names in the scopes.
 -- By the invariant that all rows passed are in order, and the law that a part's test is both (ValidRoots).
-use Prim.Native.Nat.{ℕ, ◌+◌, ◌-◌, ◌≤◌, ◌<◌}
+use Prim.Native.Nat.{◌+◌}
 use native.Mathlib.Omega.{arith}
 use mathlib.Core.Path.{◌≡◌, sym, ◌∙◌}
 use mathlib.Core.Bool.{true, false}
-use borrow.Author.Rules.{rules}
 use borrow.Author.Count.{below_more}
 use Rattle.table.specs.Words.{parts_in}
 use Rattle.table.specs.Valid.{below, part_ok}

@@ -1,11 +1,7 @@
 -- The first m of the four arguments are compared with the number of locations.
 -- By the invariant that all arguments passed are less.
 use Prim.Native.Nat.{ℕ, ◌+◌, ◌-◌, ◌≤◌, ◌<◌}
-use native.Mathlib.Omega.{arith}
 use mathlib.Core.Path.{◌≡◌}
-use mathlib.Core.Bool.{false≢true}
-use borrow.Author.Rules.{rules}
-use borrow.Author.Count.{below_none, below_more}
 use Rattle.table.specs.Words.{field, locs_in, arg_field}
 use Rattle.table_parts.proofs.plain_args.Given as goal
 

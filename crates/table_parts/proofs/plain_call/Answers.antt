@@ -1,10 +1,9 @@
 -- The definition is held, the number of arguments is its own, and they are locations.
 -- By each test's answer, at the fields that it read.
 use native.Mathlib.Omega.{arith}
-use mathlib.Core.Path.{◌≡◌, sym, ap, ◌∙◌}
+use mathlib.Core.Path.{sym, ap, ◌∙◌}
 use mathlib.Core.Bool.{false≢true}
-use borrow.Author.Rules.{rules}
-use Rattle.table.specs.Words.{field, arity_of}
+use Rattle.table.specs.Words.{arity_of}
 use Rattle.table_parts.proofs.plain_call.Goals as goal
 
 pub returns-then-word-d : goal.returns-then-word-d

@@ -3,7 +3,6 @@
 use native.Mathlib.Omega.{arith}
 use mathlib.Core.Path.{◌≡◌, sym, ap, subst, ◌∙◌}
 use mathlib.Core.Bool.{true, false≢true}
-use borrow.Author.Rules.{rules}
 use borrow.Author.Tests.{lt-ltb}
 use Rattle.table.specs.Words.{locs_in, field, scope_at, names_at, count_field, first_field, value_field}
 use Rattle.table.specs.Valid.{ref_ok, inner_ok}

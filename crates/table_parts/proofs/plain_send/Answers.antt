@@ -4,7 +4,6 @@ use Prim.Native.Nat.{suc, ◌<◌}
 use native.Mathlib.Omega.{arith}
 use mathlib.Core.Path.{◌≡◌, sym, ap, ◌∙◌}
 use mathlib.Core.Bool.{true, false≢true}
-use borrow.Author.Rules.{rules}
 use borrow.Author.Tests.{eqb-true}
 use Rattle.table.specs.Words.{chans_in, field, low_at, count_field, first_field, name_field, second_field, timer_field}
 use Rattle.table.specs.Valid.{timer_ok}

@@ -1,10 +1,8 @@
 -- The first row of each process that is in no other is tested, from the highest place down.
 -- By the invariant that the names in the scopes of all rows from i on are in order; below f there are none (ValidRoots).
-use Prim.Native.Nat.{ℕ, ◌-◌, ◌≤◌, ◌<◌}
+use Prim.Native.Nat.{◌-◌, ◌<◌}
 use native.Mathlib.Omega.{arith}
-use mathlib.Core.Path.{◌≡◌, sym, ◌∙◌}
-use mathlib.Core.Bool.{true}
-use borrow.Author.Rules.{rules}
+use mathlib.Core.Path.{sym, ◌∙◌}
 use Rattle.table.specs.Words.{parts_in}
 use Rattle.table_scopes.specs.Tests.{scope_named}
 use Rattle.table.proofs.ValidBool.{failed, passed}

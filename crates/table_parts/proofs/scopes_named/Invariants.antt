@@ -1,15 +1,10 @@
 -- The first row of each process that is in no other is tested, from the highest place down.
 -- By the invariant that the names in the scopes of all rows from i on are in order; below f there are none (ValidRoots).
-use Prim.Native.Nat.{ℕ, ◌-◌, ◌≤◌, ◌<◌}
-use native.Mathlib.Omega.{arith}
-use mathlib.Core.Path.{◌≡◌, sym, ◌∙◌}
+use Prim.Native.Nat.{ℕ, ◌≤◌, ◌<◌}
+use mathlib.Core.Path.{◌≡◌}
 use mathlib.Core.Bool.{true}
-use borrow.Author.Rules.{rules}
 use Rattle.table.specs.Words.{parts_in}
 use Rattle.table_scopes.specs.Tests.{scope_named}
-use Rattle.table.proofs.ValidBool.{failed, passed}
-use Rattle.table.proofs.ValidLists.{below_all, below-miss}
-use Rattle.table_parts.proofs.ValidRoots.{fine-at, covered, named-from, named-all}
 use Rattle.table_parts.proofs.scopes_named.Given as goal
 
 abbrev pub invariant-loop-i : goal.invariant-loop-i

@@ -6,7 +6,6 @@ use mathlib.Core.Path.{◌≡◌, ap, ◌∙◌}
 use mathlib.Core.Bool.{true, false}
 use lib.Dec.{eqb, ltb}
 use borrow.Author.Tests.{eq-eqb, ne_eqb, lt-ltb, le-ltb}
-use borrow.Author.Rules.{rules}
 use Rattle.table.specs.Words.{chans_in, field, low_at, scope_at, first_field, name_field, second_field, timer_field}
 use Rattle.table.specs.Valid.{timer_ok, inner_ok}
 use Rattle.table_scopes.specs.Tests.{end_ok}
