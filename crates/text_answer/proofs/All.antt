@@ -2,8 +2,8 @@
 use Prim.Native.Nat.{ℕ, ◌<◌, ◌≤◌}
 use native.Mathlib.Omega.{arith}
 use mathlib.Core.List.{List}
-use mathlib.Core.Bool.{Bool, true, false}
-use mathlib.Core.Path.{◌≡◌, refl, ap, ◌∙◌}
+use mathlib.Core.Bool.{true, false}
+use mathlib.Core.Path.{◌≡◌, ap, ◌∙◌}
 use lib.ListN.{length, get_or, replicate, get_or-replicate}
 use Rattle.terms.specs.Terms.{Network, context_in, all_rights}
 use Rattle.terms.specs.Clock.{edition_of}
@@ -16,7 +16,6 @@ use Rattle.table.proofs.InUse.{valid-script}
 use Rattle.table.proofs.ValidLists.{list_from-length}
 use Rattle.text.specs.Questions.{form}
 use Rattle.text_build.specs.Rows.{locs_of, chans_of}
-use Rattle.text_answer.specs.declared.Row.{Row}
 use Rattle.text_answer.specs.declared.Settings.{Settings}
 use Rattle.text_answer.specs.declared.Reading.{Reading}
 use Rattle.text_answer.specs.Answer.{no_row, given, all_row, all_settings, locations_in, channels_in, Took}

@@ -1,6 +1,5 @@
 -- By the fields.
 use mathlib.Core.Path.{ap}
-use borrow.Author.Rules.{rules}
 use Rattle.text_answer.proofs.refuse.Goals as goal
 
 pub returns : goal.returns

@@ -1,7 +1,5 @@
 -- `clear` meets its contract: zeros, one after the other. The loop's invariant: the first i are written (Kept).
 use native.Mathlib.Omega.{arith}
-use Prim.Native.Nat.{◌-◌, ◌≤◌}
-use Rattle.text_answer.specs.Front.{Front}
 use Rattle.text_answer.proofs.Kept.{front-none, front-more, front-all}
 use Rattle.text_answer.proofs.front.clear.Goals as goal
 

@@ -1,8 +1,6 @@
 -- `put_back` meets its contract: the kept words, one after the other. The loop's invariant: the first i are written (Kept).
 use native.Mathlib.Omega.{arith}
-use Prim.Native.Nat.{◌-◌, ◌≤◌}
 use Rattle.table.specs.Words.{word}
-use Rattle.text_answer.specs.Front.{Front}
 use Rattle.text_answer.proofs.Kept.{front-none, front-more, front-all}
 use Rattle.text_answer.proofs.front.put_back.Goals as goal
 

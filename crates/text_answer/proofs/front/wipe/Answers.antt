@@ -1,5 +1,4 @@
 -- `clear` of all words.
-use borrow.Author.Rules.{rules}
 use Rattle.text_answer.proofs.Kept.{front-zeros}
 use Rattle.text_answer.proofs.front.wipe.Goals as goal
 

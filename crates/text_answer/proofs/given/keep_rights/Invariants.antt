@@ -1,9 +1,7 @@
 -- `keep_rights` meets its contract: a word, one after the other. The loop's invariant: the first i are written (Kept).
-use native.Mathlib.Omega.{arith}
 use Prim.Native.Nat.{◌+◌, ◌-◌, ◌≤◌}
 use Rattle.table.specs.Words.{rights_at, word}
 use Rattle.text_answer.specs.Front.{Front}
-use Rattle.text_answer.proofs.Kept.{front-none, front-more, front-all}
 use Rattle.text_answer.proofs.given.keep_rights.Given as goal
 
 abbrev pub invariant-loop-i : goal.invariant-loop-i

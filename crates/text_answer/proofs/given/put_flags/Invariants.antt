@@ -1,13 +1,11 @@
 -- `put_flags` meets its contract: a right, one after the other. The loop's invariant: the first c are written (Under).
-use native.Mathlib.Omega.{arith}
-use Prim.Native.Nat.{◌+◌, ◌-◌, ◌≤◌}
+use Prim.Native.Nat.{◌-◌, ◌≤◌}
 use mathlib.Core.Bool.{false}
-use mathlib.Core.Path.{◌≡◌, refl, ap, ◌∙◌}
-use lib.ListN.{get_or, set}
+use mathlib.Core.Path.{◌≡◌}
+use lib.ListN.{get_or}
 use lib.Seq.{sets}
 use Rattle.table.specs.Meaning.{list_from}
-use Rattle.text_answer.specs.Answer.{flag, flags}
-use Rattle.text_answer.proofs.Under.{stores-more}
+use Rattle.text_answer.specs.Answer.{flag}
 use Rattle.text_answer.proofs.given.put_flags.Given as goal
 
 abbrev pub invariant-loop-c : goal.invariant-loop-c

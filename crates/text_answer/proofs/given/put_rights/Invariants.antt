@@ -1,14 +1,12 @@
 -- `put_rights` meets its contract: a row, one after the other. The loop's invariant: the first l are written (Under).
-use native.Mathlib.Omega.{arith}
-use Prim.Native.Nat.{◌+◌, ◌-◌, ◌*◌, ◌≤◌}
+use Prim.Native.Nat.{◌-◌, ◌≤◌}
 use mathlib.Core.List.{flat_map}
-use mathlib.Core.Path.{◌≡◌, refl, ap, ◌∙◌}
+use mathlib.Core.Path.{◌≡◌}
 use lib.ListN.{get_or}
 use lib.Seq.{sets}
-use Rattle.table.specs.Words.{rights_at, rights_size}
+use Rattle.table.specs.Words.{rights_at}
 use Rattle.table.specs.Meaning.{list_from}
-use Rattle.text_answer.specs.Answer.{no_row, row_words, rights_words}
-use Rattle.text_answer.proofs.Under.{rows_more}
+use Rattle.text_answer.specs.Answer.{no_row, row_words}
 use Rattle.text_answer.proofs.given.put_rights.Given as goal
 
 abbrev pub invariant-loop-l : goal.invariant-loop-l

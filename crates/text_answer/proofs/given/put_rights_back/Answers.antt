@@ -1,6 +1,6 @@
 -- `put_rights_back` meets its contract: a word, one after the other. The loop's invariant: the first i are written (Under).
 use native.Mathlib.Omega.{arith}
-use Prim.Native.Nat.{◌+◌, ◌-◌, ◌≤◌}
+use Prim.Native.Nat.{◌+◌}
 use mathlib.Core.Path.{◌≡◌, refl, ap, ◌∙◌}
 use lib.ListN.{set, take}
 use lib.Seq.{sets}

@@ -1,11 +1,9 @@
 -- `put_rights_back` meets its contract: a word, one after the other. The loop's invariant: the first i are written (Under).
-use native.Mathlib.Omega.{arith}
-use Prim.Native.Nat.{◌+◌, ◌-◌, ◌≤◌}
-use mathlib.Core.Path.{◌≡◌, refl, ap, ◌∙◌}
-use lib.ListN.{set, take}
+use Prim.Native.Nat.{◌-◌, ◌≤◌}
+use mathlib.Core.Path.{◌≡◌}
+use lib.ListN.{take}
 use lib.Seq.{sets}
-use Rattle.table.specs.Words.{rights_at, word}
-use Rattle.text_answer.proofs.Under.{taken_more}
+use Rattle.table.specs.Words.{rights_at}
 use Rattle.text_answer.proofs.given.put_rights_back.Given as goal
 
 abbrev pub invariant-loop-i : goal.invariant-loop-i

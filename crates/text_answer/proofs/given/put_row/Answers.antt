@@ -1,5 +1,4 @@
 -- `put_row` meets its contract: its three kinds of rights, one after the other (Under).
-use borrow.Author.Rules.{rules}
 use Rattle.text_answer.proofs.Under.{row_put}
 use Rattle.text_answer.proofs.given.put_row.Goals as goal
 

@@ -1,5 +1,4 @@
 -- The edition, and then the rights.
-use borrow.Author.Rules.{rules}
 use mathlib.Core.Path.{ap, ◌∙◌}
 use lib.Seq.{sets}
 use Rattle.table.specs.Words.{rights_at}

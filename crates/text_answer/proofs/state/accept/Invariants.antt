@@ -1,16 +1,11 @@
 -- The loop's invariant: the components of the places before j stand, and all else is zeros.
-use Prim.Native.Nat.{◌+◌, ◌-◌, ◌*◌, ◌≤◌}
-use native.Mathlib.Omega.{arith}
-use mathlib.Core.List.{[], map}
-use mathlib.Core.Path.{◌≡◌, refl, sym, ap, ◌∙◌}
+use Prim.Native.Nat.{◌-◌, ◌≤◌}
+use mathlib.Core.List.{map}
+use mathlib.Core.Path.{◌≡◌}
 use lib.ListN.{length, take, replicate}
-use lib.Seq.{length-sets, length-take-le}
-use borrow.Author.Rules.{rules}
-use Rattle.table.specs.Words.{comp_size, state_words}
-use Rattle.table.specs.Meaning.{list_from, comp_in, words_in, PastKept, comps_of}
-use Rattle.table.proofs.Stores.{past-put, past-none, past-then, past_to}
+use Rattle.table.specs.Words.{state_words}
+use Rattle.table.specs.Meaning.{list_from, comp_in, PastKept}
 use Rattle.text_tree.specs.Asked.{comp_of}
-use Rattle.text_answer.proofs.States.{made-on}
 use Rattle.text_answer.proofs.state.accept.Given as goal
 
 abbrev pub invariant-loop-j : goal.invariant-loop-j

@@ -1,5 +1,4 @@
 -- By the fields.
-use borrow.Author.Rules.{rules}
 use Rattle.text_tree.specs.Asked.{comp_of}
 use Rattle.text_answer.proofs.state.comp_of.Goals as goal
 
