@@ -1,6 +1,6 @@
 -- One of the definitions is the same.
 -- Idea: what is left to look at is the definitions from the number on.
-use Prim.Native.Nat.{◌-◌, ◌≤◌}
+use Prim.Native.Nat.{◌-◌}
 use native.Mathlib.Omega.{arith}
 use mathlib.Core.Path.{◌≡◌, ap, sym, ◌∙◌}
 use Rattle.terms.specs.Rules.{some}
@@ -9,7 +9,6 @@ use Rattle.table.specs.Words.{defs_in}
 use Rattle.table.specs.Meaning.{list_from, def_of, defs_of}
 use Rattle.table.proofs.Tests.{script-fine}
 use Rattle.calls_alike.proofs.Definitions.{from_next, from_end, some-here, some-later, some-none}
-use borrow.Author.Rules.{rules}
 use Rattle.calls_alike.proofs.defs.def_among.Goals as goal
 
 pub loop-e-init : goal.loop-e-init

@@ -1,15 +1,11 @@
 -- One of the definitions is the same.
 -- Idea: what is left to look at is the definitions from the number on.
 use Prim.Native.Nat.{◌-◌, ◌≤◌}
-use native.Mathlib.Omega.{arith}
-use mathlib.Core.Path.{◌≡◌, ap, sym, ◌∙◌}
+use mathlib.Core.Path.{◌≡◌}
 use Rattle.terms.specs.Rules.{some}
 use Rattle.terms.specs.Same.{same_def}
 use Rattle.table.specs.Words.{defs_in}
 use Rattle.table.specs.Meaning.{list_from, def_of, defs_of}
-use Rattle.table.proofs.Tests.{script-fine}
-use Rattle.calls_alike.proofs.Definitions.{from_next, from_end, some-here, some-later, some-none}
-use borrow.Author.Rules.{rules}
 use Rattle.calls_alike.proofs.defs.def_among.Given as goal
 
 abbrev pub invariant-loop-e : goal.invariant-loop-e

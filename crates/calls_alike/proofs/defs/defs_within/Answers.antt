@@ -1,6 +1,6 @@
 -- Each definition is among the others.
 -- Idea: what is left to look for is the definitions from the number on.
-use Prim.Native.Nat.{◌-◌, ◌≤◌}
+use Prim.Native.Nat.{◌-◌}
 use native.Mathlib.Omega.{arith}
 use mathlib.Core.Path.{◌≡◌, ap, sym, ◌∙◌}
 use Rattle.terms.specs.Rules.{some}
@@ -10,7 +10,6 @@ use Rattle.table.specs.Meaning.{list_from, def_of, defs_of}
 use Rattle.table.proofs.Tests.{script-fine}
 use Rattle.table.proofs.ValidBool.{failed, passed}
 use Rattle.calls_alike.proofs.Definitions.{from_next, from_end, every-fails, every-later, every-none}
-use borrow.Author.Rules.{rules}
 use Rattle.calls_alike.proofs.defs.defs_within.Goals as goal
 
 pub loop-d-init : goal.loop-d-init

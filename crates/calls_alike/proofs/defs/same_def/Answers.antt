@@ -17,7 +17,6 @@ use Rattle.text_process.specs.Values.{process_seen}
 use Rattle.text_process.proofs.Places.{body-place}
 use Rattle.calls_alike.proofs.Decided.{carried, differ, shown, placed, one_answer, defs-decide}
 use Rattle.calls_alike.proofs.Definitions.{def_is}
-use borrow.Author.Rules.{rules}
 use Rattle.calls_alike.proofs.defs.same_def.Goals as goal
 
 name-is : {x y : Name} {us vs : List Name} {p q : Process} → define x us p ≡ define y vs q → x ≡ y

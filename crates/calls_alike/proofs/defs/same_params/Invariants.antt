@@ -1,14 +1,8 @@
 -- As many parameters, each with the same name.
 -- Idea: those before the position have the same names.
 use Prim.Native.Nat.{ℕ, ◌+◌, ◌-◌, ◌*◌, ◌≤◌, ◌<◌}
-use native.Mathlib.Omega.{arith}
-use mathlib.Core.Path.{◌≡◌, sym, ◌∙◌}
-use borrow.Author.Count.{below_more}
+use mathlib.Core.Path.{◌≡◌}
 use Rattle.table.specs.Words.{row_size, name_at, arity_of, first_param, name_size}
-use Rattle.table.proofs.Tests.{script-fine, def-fine}
-use Rattle.calls_alike.proofs.Decided.{never, always, differ, shown}
-use Rattle.calls_alike.proofs.Fronts.{params_same, params-at, params-long}
-use borrow.Author.Rules.{rules}
 use Rattle.calls_alike.proofs.defs.same_params.Given as goal
 
 abbrev pub invariant-loop-k : goal.invariant-loop-k

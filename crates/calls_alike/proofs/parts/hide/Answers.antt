@@ -5,7 +5,6 @@ use mathlib.Core.Path.{ap, sym}
 use lib.ListN.{set}
 use lib.Seq.{set_out}
 use Rattle.table.specs.Words.{field}
-use borrow.Author.Rules.{rules}
 use Rattle.calls_alike.proofs.parts.hide.Goals as goal
 
 pub returns-then-k-lt8 : goal.returns-then-k-lt8

@@ -6,7 +6,6 @@ use mathlib.Core.Path.{ap, sym, ◌∙◌}
 use lib.ListN.{get_or}
 use borrow.Author.Tests.{lt-ltb, le-ltb}
 use Rattle.calls_alike.specs.Pieces.{resolved}
-use borrow.Author.Rules.{rules}
 use Rattle.calls_alike.proofs.parts.resolve.Goals as goal
 
 pub returns-then-a-lt64 : goal.returns-then-a-lt64

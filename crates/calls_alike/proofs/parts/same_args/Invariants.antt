@@ -1,14 +1,9 @@
 -- As many arguments, each the same.
 -- Idea: those before the position are the same.
 use Prim.Native.Nat.{ℕ, ◌+◌, ◌-◌, ◌≤◌, ◌<◌}
-use native.Mathlib.Omega.{arith}
 use mathlib.Core.Path.{◌≡◌}
-use borrow.Author.Count.{below_more}
 use Rattle.table.specs.Words.{field, arg_field}
 use Rattle.text_process.specs.Values.{value_seen}
-use Rattle.text_process.proofs.Heads.{place-small}
-use Rattle.calls_alike.proofs.Decided.{always, differ, shown, placed}
-use Rattle.calls_alike.proofs.Fronts.{arg-ok, args-same, args-at}
 use Rattle.calls_alike.proofs.parts.same_args.Given as goal
 
 abbrev pub invariant-loop-k : goal.invariant-loop-k

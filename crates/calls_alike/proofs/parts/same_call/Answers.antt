@@ -13,7 +13,6 @@ use Rattle.calls_alike.specs.Pieces.{args_seen, call_seen}
 use Rattle.calls_alike.proofs.Decided.{never, carried, differ, shown, placed}
 use Rattle.calls_alike.proofs.Fronts.{args-long}
 use Rattle.calls_alike.proofs.Pieces.{call-args}
-use borrow.Author.Rules.{rules}
 use Rattle.calls_alike.proofs.parts.same_call.Goals as goal
 
 name-is : {x y : Name} {a b : List Value} → call x a ≡ call y b → x ≡ y

@@ -4,7 +4,6 @@ use Prim.Native.Nat.{◌+◌, ◌*◌}
 use mathlib.Core.Path.{◌∙◌}
 use Rattle.table.specs.Words.{chans_at, name_at, chan_name, name_size}
 use Rattle.calls_alike.proofs.Decided.{placed}
-use borrow.Author.Rules.{rules}
 use Rattle.calls_alike.proofs.parts.same_channel.Goals as goal
 
 pub returns : goal.returns

@@ -4,7 +4,6 @@ use mathlib.Core.Path.{ap, ◌∙◌}
 use Rattle.terms.specs.Names.{same_name}
 use Rattle.table.specs.Words.{name_at}
 use Rattle.calls_alike.proofs.Decided.{told, flipped, names-decide}
-use borrow.Author.Rules.{rules}
 use Rattle.calls_alike.proofs.parts.same_name.Goals as goal
 
 pub returns : goal.returns

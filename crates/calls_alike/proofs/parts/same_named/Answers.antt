@@ -10,7 +10,6 @@ use Rattle.terms.specs.Terms.Value.{loc, var}
 use Rattle.table.specs.Words.{locs_at, name_at, loc_name, field, name_size, slot_field}
 use Rattle.calls_alike.specs.Pieces.{named}
 use Rattle.calls_alike.proofs.Decided.{never, carried, placed}
-use borrow.Author.Rules.{rules}
 use Rattle.calls_alike.proofs.parts.same_named.Goals as goal
 
 apart : {x y : Name} → loc x ≡ var y → ⊥

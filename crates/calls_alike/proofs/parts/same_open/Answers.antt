@@ -10,7 +10,6 @@ use Rattle.text_process.proofs.Heads.{place-small}
 use Rattle.calls_alike.specs.Pieces.{halt, go_seen}
 use Rattle.calls_alike.proofs.Decided.{never, always, carried, differ, shown}
 use Rattle.calls_alike.proofs.Pieces.{open-go, open-out, open_in, open-call, open-stop, one-kind, go-value, out-value}
-use borrow.Author.Rules.{rules}
 use Rattle.calls_alike.proofs.parts.same_open.Goals as goal
 
 out-channel : {c d : Name} {t u : Timer} {x y : Value} → out c t x halt halt ≡ out d u y halt halt → c ≡ d

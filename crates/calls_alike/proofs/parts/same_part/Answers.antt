@@ -4,7 +4,6 @@ use mathlib.Core.Path.{ap, sym, ◌∙◌}
 use Rattle.calls_alike.specs.Pieces.{opening, inner}
 use Rattle.calls_alike.proofs.Decided.{carried, differ, shown}
 use Rattle.calls_alike.proofs.Pieces.{both-pieces, inner-any, one-kind}
-use borrow.Author.Rules.{rules}
 use Rattle.calls_alike.proofs.parts.same_part.Goals as goal
 
 pub returns-then-not-same_open : goal.returns-then-not-same_open

@@ -8,7 +8,6 @@ use Rattle.text_process.proofs.Heads.{place-small}
 use native.Mathlib.Omega.{arith}
 use Rattle.calls_alike.specs.Pieces.{halt, go_seen}
 use Rattle.calls_alike.proofs.Decided.{carried, differ, shown, placed}
-use borrow.Author.Rules.{rules}
 use Rattle.calls_alike.proofs.parts.same_timed.Goals as goal
 
 timer-is : {t u : Timer} {x y : Value} → go t x halt ≡ go u y halt → t ≡ u
