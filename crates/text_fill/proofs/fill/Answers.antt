@@ -1,6 +1,5 @@
 -- The counts, then the three passes one after the other.
 use native.Mathlib.Omega.{arith}
-use borrow.Author.Rules.{rules}
 use Rattle.text_fill.proofs.Passes.{network-at, behind-small, network-of, filled}
 use Rattle.text_fill.proofs.fill.Goals as goal
 

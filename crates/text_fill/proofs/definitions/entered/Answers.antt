@@ -1,5 +1,4 @@
 -- By whether the name is in scope.
-use borrow.Author.Rules.{rules}
 use Rattle.text_fill.proofs.Defs.{scope-there, scope-new}
 use Rattle.text_fill.proofs.definitions.entered.Goals as goal
 

@@ -1,7 +1,6 @@
 -- The name and the number of parameters; their scope; the body.
 use native.Mathlib.Omega.{arith}
 use mathlib.Core.Path.{refl}
-use borrow.Author.Rules.{rules}
 use Rattle.terms.specs.Characters.{class_of}
 use Rattle.text.specs.Tokens.{lex_from}
 use Rattle.text_fill.proofs.Defs.{def-word, name-later, param-count, params-few, body_at, body-put}

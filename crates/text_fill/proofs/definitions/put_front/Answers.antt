@@ -2,7 +2,6 @@
 use Prim.Native.Nat.{suc, ◌+◌, ◌*◌}
 use native.Mathlib.Omega.{arith}
 use mathlib.Core.Path.{◌≡◌, ◌∙◌}
-use borrow.Author.Rules.{rules}
 use Rattle.table.specs.Words.{row_size, defs_at}
 use Rattle.text_fill.proofs.definitions.put_front.Goals as goal
 

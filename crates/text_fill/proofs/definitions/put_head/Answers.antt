@@ -1,6 +1,5 @@
 -- The name, the number of parameters, the parameters; the body is skipped.
 use mathlib.Core.Path.{refl}
-use borrow.Author.Rules.{rules}
 use Rattle.terms.specs.Characters.{class_of}
 use Rattle.text.specs.Tokens.{lex_from}
 use Rattle.text_fill.proofs.Defs.{def-word, name-later, params-at, head-put}

@@ -1,12 +1,7 @@
 -- The loop's invariant: from here on stand the definitions whose heads are left to write.
-use Prim.Native.Nat.{◌-◌, ◌<◌}
 use native.Mathlib.Omega.{arith}
 use mathlib.Core.Path.{sym, ◌∙◌}
-use lib.ListN.{length}
-use borrow.Author.Rules.{rules}
-use borrow.Author.Tests.{not-true, not-false}
-use Rattle.text_fill.specs.Ready.{Ready}
-use Rattle.text_fill.proofs.Defs.{turn, number_small, defs-fall, HeadsGoing, heads-first, heads-end, heads-on}
+use Rattle.text_fill.proofs.Defs.{turn, number_small, defs-fall, heads-first, heads-end, heads-on}
 use Rattle.text_fill.proofs.definitions.put_heads.Goals as goal
 
 pub loop-w-init : goal.loop-w-init

@@ -1,7 +1,6 @@
 -- The location, its number, the process in brackets.
 use native.Mathlib.Omega.{arith}
 use mathlib.Core.Path.{refl}
-use borrow.Author.Rules.{rules}
 use Rattle.terms.specs.Characters.{class_of}
 use Rattle.text.specs.Tokens.{lex_from}
 use Rattle.text_fill.proofs.Bracketed.{located-word, loc-few, body_at, located-put}

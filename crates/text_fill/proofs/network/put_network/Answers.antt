@@ -1,13 +1,10 @@
 -- The loop's invariant: from here on stand the located processes that are left to put and to gather.
-use Prim.Native.Nat.{◌-◌, ◌≤◌, ◌<◌}
 use native.Mathlib.Omega.{arith}
-use mathlib.Core.Path.{◌≡◌, refl, ◌∙◌}
-use lib.ListN.{length}
+use mathlib.Core.Path.{refl, ◌∙◌}
 use borrow.Author.Rules.{rules}
 use Rattle.terms.specs.Characters.{class_of}
 use Rattle.text.specs.Tokens.{lex_from}
-use Rattle.text_fill.specs.Located.{NetworkAt}
-use Rattle.text_fill.proofs.Bracketed.{Going, network-first, going-at, place-small, going_end, going_on, going-falls}
+use Rattle.text_fill.proofs.Bracketed.{network-first, going-at, place-small, going_end, going_on, going-falls}
 use Rattle.text_fill.proofs.Spreading.{spread-within}
 use Rattle.text_fill.proofs.network.put_network.Goals as goal
 

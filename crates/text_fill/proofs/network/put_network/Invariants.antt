@@ -1,14 +1,9 @@
 -- The loop's invariant: from here on stand the located processes that are left to put and to gather.
 use Prim.Native.Nat.{◌-◌, ◌≤◌, ◌<◌}
-use native.Mathlib.Omega.{arith}
-use mathlib.Core.Path.{◌≡◌, refl, ◌∙◌}
+use mathlib.Core.Path.{◌≡◌}
 use lib.ListN.{length}
-use borrow.Author.Rules.{rules}
-use Rattle.terms.specs.Characters.{class_of}
-use Rattle.text.specs.Tokens.{lex_from}
 use Rattle.text_fill.specs.Located.{NetworkAt}
-use Rattle.text_fill.proofs.Bracketed.{Going, network-first, going-at, place-small, going_end, going_on, going-falls}
-use Rattle.text_fill.proofs.Spreading.{spread-within}
+use Rattle.text_fill.proofs.Bracketed.{Going}
 use Rattle.text_fill.proofs.network.put_network.Given as goal
 
 abbrev pub invariant-loop-at : goal.invariant-loop-at

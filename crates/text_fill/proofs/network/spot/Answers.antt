@@ -1,5 +1,4 @@
 -- By whether there is space.
-use borrow.Author.Rules.{rules}
 use Rattle.text_fill.proofs.Spreading.{spread-here, spread-full}
 use Rattle.text_fill.proofs.network.spot.Goals as goal
 
