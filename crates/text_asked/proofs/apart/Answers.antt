@@ -5,7 +5,6 @@ use Prim.Native.Nat.{ℕ}
 use mathlib.Core.List.{List}
 use mathlib.Core.Path.{◌≡◌, ap, ◌∙◌}
 use mathlib.Core.Bool.{true, false}
-use borrow.Author.Rules.{rules}
 use Rattle.terms.specs.Letters.{distinct}
 use Rattle.table.specs.Words.{defs_in, def_name, ids_at, row_size}
 use Rattle.table.specs.Meaning.{list_from}

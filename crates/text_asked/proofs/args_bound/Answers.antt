@@ -1,10 +1,9 @@
 -- The first m of the four arguments are tested.
 -- By the invariant that all arguments passed are in scope.
-use Prim.Native.Nat.{ℕ, ◌+◌, ◌-◌, ◌≤◌, ◌<◌}
+use Prim.Native.Nat.{◌+◌}
 use native.Mathlib.Omega.{arith}
 use mathlib.Core.Path.{◌≡◌, sym, ap, ◌∙◌}
 use mathlib.Core.Bool.{true, false}
-use borrow.Author.Rules.{rules}
 use borrow.Author.Count.{below_none, below_more}
 use Rattle.table.specs.Words.{field, arg_field}
 use Rattle.text_tree.specs.Asked.{in_scope}

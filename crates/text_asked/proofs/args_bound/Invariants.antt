@@ -1,15 +1,10 @@
 -- The first m of the four arguments are tested.
 -- By the invariant that all arguments passed are in scope.
 use Prim.Native.Nat.{ℕ, ◌+◌, ◌-◌, ◌≤◌, ◌<◌}
-use native.Mathlib.Omega.{arith}
-use mathlib.Core.Path.{◌≡◌, sym, ap, ◌∙◌}
-use mathlib.Core.Bool.{true, false}
-use borrow.Author.Rules.{rules}
-use borrow.Author.Count.{below_none, below_more}
+use mathlib.Core.Path.{◌≡◌}
+use mathlib.Core.Bool.{true}
 use Rattle.table.specs.Words.{field, arg_field}
 use Rattle.text_tree.specs.Asked.{in_scope}
-use Rattle.table_parts.proofs.ValidParts.{args-all, args-miss}
-use Rattle.table.proofs.ValidBool.{failed, passed}
 use Rattle.text_asked.proofs.args_bound.Given as goal
 
 abbrev pub invariant-loop-k : goal.invariant-loop-k

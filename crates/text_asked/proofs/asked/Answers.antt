@@ -1,7 +1,5 @@
 -- Question by question.
 use mathlib.Core.Path.{sym, ◌∙◌}
-use borrow.Author.Rules.{rules}
-use borrow.Author.Tests.{not-true, not-false}
 use Rattle.text_asked.proofs.asked.Goals as goal
 
 pub returns-then-not-roomy : goal.returns-then-not-roomy

@@ -5,7 +5,6 @@ use mathlib.Core.Path.{◌≡◌, ap, ap₂, sym, ◌∙◌}
 use mathlib.Core.Bool.{true, false}
 use lib.Dec.{eqb, ltb}
 use borrow.Author.Tests.{lt-ltb, le-ltb}
-use borrow.Author.Rules.{rules}
 use Rattle.table.specs.Words.{defs_in, arity_of, field, kind_field, name_field}
 use Rattle.text_asked.proofs.Rows.{held-call, held-other}
 use Rattle.text_asked.proofs.call_held.Goals as goal

@@ -1,10 +1,7 @@
 -- The parameters of each definition differ.
 -- By the invariant that those of all definitions passed do.
-use Prim.Native.Nat.{ℕ, ◌-◌, ◌≤◌, ◌<◌}
 use native.Mathlib.Omega.{arith}
-use mathlib.Core.Path.{◌≡◌, sym, ◌∙◌}
-use mathlib.Core.Bool.{true}
-use borrow.Author.Rules.{rules}
+use mathlib.Core.Path.{sym, ◌∙◌}
 use borrow.Author.Count.{below_none, below_more}
 use Rattle.terms.specs.Letters.{distinct}
 use Rattle.table.specs.Words.{defs_in, params_of}

@@ -1,15 +1,10 @@
 -- The parameters of each definition differ.
 -- By the invariant that those of all definitions passed do.
 use Prim.Native.Nat.{ℕ, ◌-◌, ◌≤◌, ◌<◌}
-use native.Mathlib.Omega.{arith}
-use mathlib.Core.Path.{◌≡◌, sym, ◌∙◌}
+use mathlib.Core.Path.{◌≡◌}
 use mathlib.Core.Bool.{true}
-use borrow.Author.Rules.{rules}
-use borrow.Author.Count.{below_none, below_more}
 use Rattle.terms.specs.Letters.{distinct}
 use Rattle.table.specs.Words.{defs_in, params_of}
-use Rattle.table.proofs.ValidLists.{below_all, below-miss}
-use Rattle.table.proofs.ValidBool.{failed, passed}
 use Rattle.text_asked.proofs.each_apart.Given as goal
 
 abbrev pub invariant-loop-d : goal.invariant-loop-d

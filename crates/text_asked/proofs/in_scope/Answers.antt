@@ -2,7 +2,6 @@
 -- By its definition.
 use Prim.Native.Nat.{◌+◌}
 use mathlib.Core.Path.{ap₂}
-use borrow.Author.Rules.{rules}
 use lib.Dec.{ltb}
 use Rattle.text_tree.specs.Asked.{in_scope}
 use Rattle.text_asked.proofs.in_scope.Goals as goal

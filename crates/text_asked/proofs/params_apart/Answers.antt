@@ -2,7 +2,6 @@
 -- By the number of parameters: four if the script says more.
 use native.Mathlib.Omega.{arith}
 use mathlib.Core.Path.{◌≡◌, ap, sym, ◌∙◌}
-use borrow.Author.Rules.{rules}
 use Rattle.terms.specs.Letters.{distinct}
 use Rattle.table.specs.Words.{arity_of}
 use Rattle.table.proofs.ValidDefs.{params-names}

@@ -1,7 +1,6 @@
 -- The word 4 says whether a table or a scope was too small.
 -- By its definition.
 use mathlib.Core.Path.{ap}
-use borrow.Author.Rules.{rules}
 use lib.Dec.{eqb}
 use Rattle.text_tree.specs.Asked.{roomy}
 use Rattle.text_asked.proofs.roomy.Goals as goal

@@ -2,7 +2,6 @@
 -- By the law of the head of each kind, with each word read.
 use native.Mathlib.Omega.{arith}
 use mathlib.Core.Path.{sym, ◌∙◌}
-use borrow.Author.Rules.{rules}
 use Rattle.text_asked.proofs.Rows.{bound-value, bound-call, bound-other}
 use Rattle.text_asked.proofs.values_bound.Goals as goal
 
