@@ -5,7 +5,6 @@ use Rattle.table.specs.Fire.{alone_at}
 use Rattle.table.specs.declared.State.{State}
 use Rattle.calls_act.specs.Acted.{single_kind}
 use Rattle.calls_act.proofs.Positions.{few-comps, comp-good, valid-parts, one_left, one_out}
-use borrow.Author.Rules.{rules}
 use Rattle.calls_act.proofs.act.act_one.Goals as goal
 
 pub returns-then-n-p : goal.returns-then-n-p

@@ -5,7 +5,6 @@ use Rattle.table.specs.declared.State.{State}
 use Rattle.table.proofs.InUse.{valid-ledger}
 use Rattle.table.proofs.Tests.{comp-fine}
 use Rattle.calls_act.proofs.Positions.{few-comps, comp-good, valid-parts, two-left, two-out-p, two-out-q}
-use borrow.Author.Rules.{rules}
 use Rattle.calls_act.proofs.act.act_pair.Goals as goal
 
 pub returns-then-n-p : goal.returns-then-n-p

@@ -5,7 +5,6 @@ use Rattle.terms.specs.Rules.Kind.{calls, moves}
 use Rattle.terms.specs.Rules.Action.{single, pair}
 use Rattle.calls_act.specs.Acted.{action_rule, action_of}
 use Rattle.calls_act.proofs.Positions.{acts-as}
-use borrow.Author.Rules.{rules}
 use Rattle.calls_act.proofs.act.act_valid.Goals as goal
 
 pub returns-then-kind-eq1 : goal.returns-then-kind-eq1

@@ -2,7 +2,6 @@
 use Rattle.table.specs.Fire.{alone_at}
 use Rattle.calls_act.specs.Acted.{single_kind}
 use mathlib.Core.Path.{ap, sym, ◌∙◌}
-use borrow.Author.Rules.{rules}
 use Rattle.calls_act.proofs.act.fire_one.Goals as goal
 
 pub returns-then-call : goal.returns-then-call

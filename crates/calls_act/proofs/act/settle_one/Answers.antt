@@ -1,7 +1,6 @@
 -- `settle_one` meets its contract: the code decides the case.
 use mathlib.Core.Path.{refl}
 use borrow.Author.Tests.{eq-eqb, ne_eqb}
-use borrow.Author.Rules.{rules}
 use Rattle.calls_act.proofs.act.settle_one.Goals as goal
 
 pub returns-then-f-eq0 : goal.returns-then-f-eq0

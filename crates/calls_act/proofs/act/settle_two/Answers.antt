@@ -6,7 +6,6 @@ use lib.Dec.{ltb}
 use borrow.Author.Tests.{eq-eqb, ne_eqb, lt-ltb, le-ltb}
 use Rattle.table.specs.Meaning.{count_in}
 use Rattle.calls_act.proofs.Positions.{met-ledger}
-use borrow.Author.Rules.{rules}
 use Rattle.calls_act.proofs.act.settle_two.Goals as goal
 
 pub returns-then-messages-ge-MOST : goal.returns-then-messages-ge-MOST

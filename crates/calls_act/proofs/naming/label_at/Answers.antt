@@ -2,7 +2,6 @@
 use borrow.Author.Tests.{eq-eqb, ne_eqb}
 use Rattle.calls_act.specs.Acted.{action_allowed, action_of}
 use Rattle.calls_act.specs.Labelled.{named}
-use borrow.Author.Rules.{rules}
 use Rattle.calls_act.proofs.naming.label_at.Goals as goal
 
 pub returns-then-kind-eq1 : goal.returns-then-kind-eq1

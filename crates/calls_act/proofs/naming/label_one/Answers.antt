@@ -7,7 +7,6 @@ use Rattle.calls_act.specs.Acted.{single_kind}
 use Rattle.calls_act.specs.Labelled.{named}
 use Rattle.calls_act.proofs.Positions.{few-comps, comp-good, valid-parts}
 use Rattle.calls_act.proofs.Labelling.{one-past, one_at}
-use borrow.Author.Rules.{rules}
 use Rattle.calls_act.proofs.naming.label_one.Goals as goal
 
 pub returns-then-n-p : goal.returns-then-n-p

@@ -6,7 +6,6 @@ use Rattle.table.specs.declared.State.{State}
 use Rattle.calls_act.proofs.Positions.{few-comps, comp-good, valid-parts}
 use Rattle.calls_act.specs.Labelled.{named}
 use Rattle.calls_act.proofs.Labelling.{two-past-p, two-past-q, two_at}
-use borrow.Author.Rules.{rules}
 use Rattle.calls_act.proofs.naming.label_pair.Goals as goal
 
 pub returns-then-n-p : goal.returns-then-n-p
