@@ -1,18 +1,13 @@
 -- Each head is tested, and each value counted that is too large.
 -- By the invariant that all heads passed are in order, and that nothing was counted exactly if all values passed are locations.
 use Prim.Native.Nat.{ℕ, ◌+◌, ◌*◌, ◌-◌, ◌≤◌, ◌<◌}
-use native.Mathlib.Omega.{arith}
-use native.Mathlib.Numerals.{add-one}
-use mathlib.Core.Path.{◌≡◌, refl, sym, ap, subst, ◌∙◌}
-use mathlib.Core.Bool.{Bool, true, ◌&&◌}
+use mathlib.Core.Path.{◌≡◌}
+use mathlib.Core.Bool.{true}
 use lib.Dec.{ltb}
-use borrow.Author.Count.{below_none, below_more}
 use Rattle.terms.specs.Same.{every}
-use Rattle.table.specs.Valid.{below, comp_ok}
+use Rattle.table.specs.Valid.{below}
 use Rattle.table.specs.Meaning.{comp_in}
 use Rattle.table_valid.specs.Tests.{head_fine, Few, nothing}
-use Rattle.table_valid.proofs.ValidWhole.{comps-miss, comps-are, comp-no-head, few-more}
-use Rattle.table.proofs.ValidBool.{failed, passed}
 use Rattle.table_valid.proofs.comps_ok.Given as goal
 
 abbrev pub invariant-loop-i : goal.invariant-loop-i

@@ -2,7 +2,6 @@
 -- By the law of four sums of which none grew.
 use native.Mathlib.Omega.{arith}
 use Prim.Native.Nat.{◌+◌}
-use borrow.Author.Rules.{rules}
 use Rattle.table.specs.Meaning.{comp_in}
 use Rattle.table_valid.specs.declared.Sums.{Sums}
 use Rattle.table_valid.proofs.ValidWhole.{counted}

@@ -2,7 +2,6 @@
 -- By the law of a sum that is 0.
 use native.Mathlib.Omega.{arith}
 use mathlib.Core.Path.{◌∙◌}
-use borrow.Author.Rules.{rules}
 use Rattle.table_valid.proofs.ValidWhole.{sum-none}
 use Rattle.table_valid.proofs.count_two.Goals as goal
 

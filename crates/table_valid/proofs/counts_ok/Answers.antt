@@ -2,7 +2,6 @@
 -- By each test.
 use native.Mathlib.Omega.{arith}
 use borrow.Author.Tests.{le-leb, lt-leb}
-use borrow.Author.Rules.{rules}
 use mathlib.Core.Path.{ap, ◌∙◌}
 use Rattle.terms.specs.Clock.{is_edition}
 use Rattle.table.specs.Words.{parts_in, locs_in, chans_in, defs_in}

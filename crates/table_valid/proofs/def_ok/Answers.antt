@@ -5,7 +5,6 @@ use mathlib.Core.Path.{◌≡◌, sym, ap, ◌∙◌}
 use mathlib.Core.Bool.{true, false, ◌&&◌}
 use lib.Dec.{leb, ltb}
 use borrow.Author.Tests.{le-leb, lt-leb, lt-ltb, le-ltb}
-use borrow.Author.Rules.{rules}
 use Rattle.terms.specs.Same.{every}
 use Rattle.terms.specs.Letters.{is_name, is_small, distinct}
 use Rattle.table.specs.Words.{parts_in, arity_of, body_of, params_at, scope_at}

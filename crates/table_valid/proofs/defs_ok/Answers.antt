@@ -1,10 +1,7 @@
 -- Each definition is tested.
 -- By the invariant that all definitions passed are in order.
-use Prim.Native.Nat.{ℕ, ◌-◌, ◌≤◌, ◌<◌}
 use native.Mathlib.Omega.{arith}
-use mathlib.Core.Path.{◌≡◌, sym, ◌∙◌}
-use mathlib.Core.Bool.{true}
-use borrow.Author.Rules.{rules}
+use mathlib.Core.Path.{sym, ◌∙◌}
 use borrow.Author.Count.{below_none, below_more}
 use Rattle.table.specs.Words.{defs_in}
 use Rattle.table.specs.Valid.{def_ok}

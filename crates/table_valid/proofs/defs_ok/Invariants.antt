@@ -1,15 +1,10 @@
 -- Each definition is tested.
 -- By the invariant that all definitions passed are in order.
 use Prim.Native.Nat.{ℕ, ◌-◌, ◌≤◌, ◌<◌}
-use native.Mathlib.Omega.{arith}
-use mathlib.Core.Path.{◌≡◌, sym, ◌∙◌}
+use mathlib.Core.Path.{◌≡◌}
 use mathlib.Core.Bool.{true}
-use borrow.Author.Rules.{rules}
-use borrow.Author.Count.{below_none, below_more}
 use Rattle.table.specs.Words.{defs_in}
 use Rattle.table.specs.Valid.{def_ok}
-use Rattle.table.proofs.ValidLists.{below_all, below-miss}
-use Rattle.table.proofs.ValidBool.{failed, passed}
 use Rattle.table_valid.proofs.defs_ok.Given as goal
 
 abbrev pub invariant-loop-d : goal.invariant-loop-d

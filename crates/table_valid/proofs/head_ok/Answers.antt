@@ -5,7 +5,6 @@ use mathlib.Core.Path.{◌≡◌, ap, ◌∙◌}
 use mathlib.Core.Bool.{true, false, ◌||◌}
 use lib.Dec.{eqb, ltb}
 use borrow.Author.Tests.{lt-ltb, le-ltb}
-use borrow.Author.Rules.{rules}
 use Rattle.table.specs.Words.{parts_in, locs_in}
 use Rattle.table.specs.Meaning.{comp_in}
 use Rattle.table.specs.Valid.{mark_ok, wait_ok}

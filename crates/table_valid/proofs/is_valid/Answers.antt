@@ -1,7 +1,6 @@
 -- A table is a script, components, and a total with a count.
 -- By the three tests' answers.
 use mathlib.Core.Path.{◌∙◌}
-use borrow.Author.Rules.{rules}
 use Rattle.table.specs.Valid.{valid}
 use Rattle.table.proofs.ValidBool.{failed, passed, and-false}
 use Rattle.table_valid.proofs.is_valid.Goals as goal

@@ -1,12 +1,8 @@
 -- The scope of the body has as many names as there are parameters, at the parameters' places.
 -- By the invariant that all places passed are the same.
 use Prim.Native.Nat.{ℕ, ◌+◌, ◌*◌, ◌-◌, ◌≤◌, ◌<◌}
-use native.Mathlib.Omega.{arith}
-use mathlib.Core.Path.{◌≡◌, sym, ap, ◌∙◌}
-use borrow.Author.Rules.{rules}
-use borrow.Author.Count.{below_none, below_more}
-use Rattle.table.specs.Words.{row_size, field, at_most8, first_param, name_size, count_field, slot_field}
-use Rattle.table.proofs.ValidDefs.{params-uneven, params-differ, params-alike}
+use mathlib.Core.Path.{◌≡◌}
+use Rattle.table.specs.Words.{row_size, field, first_param, name_size, slot_field}
 use Rattle.table_valid.proofs.params_in.Given as goal
 
 abbrev pub invariant-loop-k : goal.invariant-loop-k

@@ -3,7 +3,6 @@
 use native.Mathlib.Omega.{arith}
 use mathlib.Core.Path.{◌≡◌, ap, ◌∙◌}
 use mathlib.Core.Bool.{true, false}
-use borrow.Author.Rules.{rules}
 use Rattle.terms.specs.Letters.{is_location, is_small, is_identifier}
 use Rattle.table.specs.Words.{locs_in, chans_in, defs_in, loc_name, chan_name, def_name}
 use Rattle.table.specs.Meaning.{list_from}

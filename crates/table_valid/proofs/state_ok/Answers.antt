@@ -5,7 +5,6 @@ use native.Mathlib.Omega.{arith}
 use mathlib.Core.Path.{◌≡◌, ◌∙◌}
 use mathlib.Core.Bool.{true}
 use lib.Dec.{leb, ltb}
-use borrow.Author.Rules.{rules}
 use borrow.Author.Tests.{lt-leb, le-leb, lt-ltb}
 use Rattle.table.specs.Valid.{comp_ok, state_ok}
 use Rattle.table_valid.proofs.ValidWhole.{comps-miss, comp-nowhere}
