@@ -1,17 +1,10 @@
 -- No component in use is marked.
 -- Idea: what is left to test is the components from the position on.
-use Prim.Native.Nat.{◌-◌, ◌≤◌}
 use native.Mathlib.Omega.{arith}
-use mathlib.Core.Bool.{Bool, not}
-use mathlib.Core.Path.{◌≡◌, refl, ap, ◌∙◌}
-use lib.Dec.{ltb}
-use lib.ListN.{drop}
+use mathlib.Core.Bool.{not}
+use mathlib.Core.Path.{refl, ap, ◌∙◌}
 use borrow.Author.Tests.{lt-ltb, le-ltb}
-use Rattle.terms.specs.Same.{every}
-use Rattle.table.specs.declared.Comp.{Comp}
-use Rattle.table.specs.Meaning.{comps_of}
 use Rattle.text_write.proofs.Unmarked.{every-yes, every-no, every-end}
-use borrow.Author.Rules.{rules}
 use Rattle.text_write.proofs.all_unmarked.Invariants.{free}
 use Rattle.text_write.proofs.all_unmarked.Goals as goal
 

@@ -1,9 +1,8 @@
 -- The loop's invariant: the first i bytes are copied, and the others as they were.
-use Prim.Native.Nat.{◌-◌, ◌≤◌}
 use native.Mathlib.Omega.{arith}
-use mathlib.Core.Path.{◌≡◌, refl}
-use lib.ListN.{length, length-set}
-use lib.Seq.{paste, paste-zero}
+use mathlib.Core.Path.{refl}
+use lib.ListN.{length-set}
+use lib.Seq.{paste-zero}
 use borrow.Author.Rules.{rules}
 use Rattle.text_write.proofs.Answered.{pasted-on, pasted-all}
 use Rattle.text_write.proofs.copy_front.Goals as goal

@@ -1,9 +1,7 @@
 -- The write call: a network that fails question 17 is refused, and any other is written by `write_valid`.
 -- By the answer to question 17.
 use mathlib.Core.Path.{sym, ◌∙◌}
-use borrow.Author.Tests.{not-true, not-false}
 use Rattle.text_write.proofs.Answered.{says-17}
-use borrow.Author.Rules.{rules}
 use Rattle.text_write.proofs.write.Goals as goal
 
 pub returns-then-not-is_valid : goal.returns-then-not-is_valid

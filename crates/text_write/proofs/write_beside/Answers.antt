@@ -2,7 +2,6 @@
 -- Idea: the text is written beside the buffer first, so that a refusal leaves the buffer as it was.
 use native.Mathlib.Omega.{arith}
 use Rattle.text_write.proofs.Answered.{says-15, says-text, says-copied}
-use borrow.Author.Rules.{rules}
 use Rattle.text_write.proofs.write_beside.Goals as goal
 
 pub write_text-k-requires : goal.write_text-k-requires

@@ -1,10 +1,8 @@
 -- A valid network's text, or 14 or 15: by the answer to question 14, and by `write_beside`.
 use mathlib.Core.Path.{sym, ◌∙◌}
-use borrow.Author.Tests.{not-true, not-false}
 use Rattle.table.proofs.InUse.{valid-state}
 use Rattle.text_network.proofs.Networks.{unmarked-table}
 use Rattle.text_write.proofs.Answered.{says-14}
-use borrow.Author.Rules.{rules}
 use Rattle.text_write.proofs.write_valid.Goals as goal
 
 pub all_unmarked-requires : goal.all_unmarked-requires
