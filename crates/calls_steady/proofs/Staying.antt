@@ -12,7 +12,7 @@ use lib.Seq.{take-suc}
 use borrow.Author.Tests.{eqb-true, eq-eqb, ltb-true, lt-ltb}
 use Rattle.terms.specs.Same.{every}
 use Rattle.terms.specs.Clock.{less_raw}
-use Rattle.terms.specs.Rules.{Answer, Kind, Action}
+use Rattle.terms.specs.Rules.{Kind, Action}
 use Rattle.terms.specs.Rules.Answer.{refused, accepted}
 use Rattle.terms.specs.Rules.Kind.{calls, moves}
 use Rattle.terms.proofs.Names.{and-inv, and_in}
@@ -22,7 +22,7 @@ use Rattle.table.specs.declared.Head.TheVariants.{Stop, Go, Out, In, Call}
 use Rattle.table.specs.Words.{parts_in, defs_in, body_of, head_at, next_at}
 use Rattle.table.specs.Valid.{head_ok, script_ok, comp_ok}
 use Rattle.table.specs.Split.{and_then, parts_from, split_at, timed, or_else, waited, passed, expired_at}
-use Rattle.table.specs.Fire.{Left, left_at, value_in, loaded, becomes_at, handed, meet_at, alone_at, together_at, fits_alone, fits_together, act_on, passed_all}
+use Rattle.table.specs.Fire.{left_at, value_in, loaded, becomes_at, handed, meet_at, alone_at, together_at, fits_alone, fits_together, act_on, passed_all}
 use Rattle.table.proofs.Tests.{every_append, script-fine, part-fine, def-fine, comp-fine}
 use Rattle.table.proofs.Places.{go-fine, out-fine, in-fine}
 use Rattle.table.proofs.Kept.{ok_a, in_left, in_acted, rightly-kept, act-keeps}

@@ -1,7 +1,5 @@
 -- `both_one` meets its contract: the first decides, then the second.
 use mathlib.Core.Path.{sym, ◌∙◌}
-use borrow.Author.Tests.{not-true, not-false}
-use borrow.Author.Rules.{rules}
 use Rattle.calls_steady.proofs.both_one.Goals as goal
 
 pub returns-then-not-one_part : goal.returns-then-not-one_part

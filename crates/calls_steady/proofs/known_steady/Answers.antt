@@ -1,11 +1,9 @@
 -- `known_steady` meets its contract. The loop's invariant: every component looked at stays one.
-use Prim.Native.Nat.{◌≤◌, ◌<◌, ◌-◌}
+use Prim.Native.Nat.{◌<◌}
 use native.Mathlib.Omega.{arith}
 use mathlib.Core.Bool.{true, false≢true}
 use mathlib.Core.Path.{◌≡◌, refl, sym, ap, subst, ◌∙◌}
-use lib.ListN.{take}
 use lib.Seq.{take_all}
-use borrow.Author.Tests.{not-true, not-false}
 use Rattle.terms.specs.Same.{every}
 use Rattle.table.specs.declared.State.{State}
 use Rattle.table.specs.Meaning.{comps_of, no_comp}
@@ -13,7 +11,6 @@ use Rattle.table.proofs.InUse.{comps-length, in_use}
 use Rattle.calls_act.proofs.Positions.{few-comps, valid-parts, comp-good}
 use Rattle.calls_steady.specs.Steady.{touches, stays_one}
 use Rattle.calls_steady.proofs.Staying.{every_more, untouched-one}
-use borrow.Author.Rules.{rules}
 use Rattle.calls_steady.proofs.known_steady.Goals as goal
 
 pub loop-j-init : goal.loop-j-init

@@ -1,10 +1,9 @@
 -- `leaves_one` meets its contract: in each arm the head is known, and it leads to places in range.
-use mathlib.Core.Path.{◌≡◌, sym, ap, subst, ◌∙◌}
+use mathlib.Core.Path.{sym, ap, subst, ◌∙◌}
 use Rattle.table.specs.Words.{body_of, head_at}
 use Rattle.calls_fire.proofs.Heads.{place-fits}
 use Rattle.calls_steady.specs.Steady.{one_part, leaves_one}
 use Rattle.calls_steady.proofs.Staying.{LeadsTo, leads-fit}
-use borrow.Author.Rules.{rules}
 use Rattle.calls_steady.proofs.leaves_one.Goals as goal
 
 pub head_at-h-requires : goal.head_at-h-requires

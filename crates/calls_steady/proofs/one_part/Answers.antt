@@ -3,7 +3,6 @@ use mathlib.Core.Path.{ap, ◌∙◌}
 use lib.Dec.{eqb}
 use Rattle.table.specs.Words.{next_at}
 use Rattle.calls_steady.specs.Steady.{one_part}
-use borrow.Author.Rules.{rules}
 use Rattle.calls_steady.proofs.one_part.Goals as goal
 
 pub returns : goal.returns

@@ -2,7 +2,6 @@
 use borrow.Author.Tests.{lt-ltb, le-ltb, eq-eqb, ne_eqb}
 use Rattle.calls_fire.proofs.Heads.{place-fits}
 use Rattle.calls_steady.specs.Steady.{stays_one}
-use borrow.Author.Rules.{rules}
 use Rattle.calls_steady.proofs.stays_one.Goals as goal
 
 pub one_part-requires : goal.one_part-requires
