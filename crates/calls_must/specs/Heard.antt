@@ -1,7 +1,6 @@
 -- Which channels are heard at a location, and what presses there: what the contracts of `forced` cite.
 -- Serves inner contracts only.
-use Rattle.std.specs.Prelude.{ℕ, ◌<◌, List, Bool, true, false, cond, ◌&&◌, ◌≡◌, eqb, get_or}
-use Rattle.terms.specs.Rules.{some}
+use Rattle.std.specs.Prelude.{ℕ, ◌<◌, List, Bool, cond, ◌&&◌, ◌≡◌, eqb, get_or}
 use Rattle.table.specs.declared.Comp.{Comp}
 use Rattle.table.specs.declared.Head.{Head}
 use Rattle.table.specs.declared.Head.TheVariants.{Stop, Go, Out, In, Call}

@@ -1,9 +1,9 @@
 -- `forced_at` meets its contract. The loop's invariant: no component looked at presses.
-use Prim.Native.Nat.{◌≤◌, ◌<◌, ◌-◌}
+use Prim.Native.Nat.{◌<◌}
 use native.Mathlib.Omega.{arith}
 use mathlib.Core.Bool.{false}
 use mathlib.Core.Path.{◌≡◌, refl, sym, ap, subst, ◌∙◌}
-use lib.ListN.{get_or, take}
+use lib.ListN.{get_or}
 use lib.Seq.{take_all}
 use Rattle.terms.specs.Rules.{some}
 use Rattle.table.specs.declared.State.{State}

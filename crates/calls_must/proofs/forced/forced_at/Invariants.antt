@@ -1,18 +1,10 @@
 -- `forced_at` meets its contract. The loop's invariant: no component looked at presses.
-use Prim.Native.Nat.{◌≤◌, ◌<◌, ◌-◌}
-use native.Mathlib.Omega.{arith}
+use Prim.Native.Nat.{◌≤◌, ◌-◌}
 use mathlib.Core.Bool.{false}
-use mathlib.Core.Path.{◌≡◌, refl, sym, ap, subst, ◌∙◌}
-use lib.ListN.{get_or, take}
-use lib.Seq.{take_all}
-use Rattle.terms.specs.Rules.{some}
-use Rattle.table.specs.declared.State.{State}
-use Rattle.table.specs.Meaning.{comps_of, no_comp}
-use Rattle.table.specs.Fire.{forced_at}
-use Rattle.table.proofs.InUse.{comps-length, in_use}
-use Rattle.calls_act.proofs.Positions.{few-comps, valid-parts, comp-good}
-use Rattle.calls_must.specs.Heard.{pressed_by}
-use Rattle.calls_must.proofs.Hearing.{quiet, quiet-more, some-get_or, pressed-is}
+use mathlib.Core.Path.{◌≡◌}
+use lib.ListN.{take}
+use Rattle.table.specs.Meaning.{comps_of}
+use Rattle.calls_must.proofs.Hearing.{quiet}
 use Rattle.calls_must.proofs.forced.forced_at.Given as goal
 
 abbrev pub invariant-loop-j : goal.invariant-loop-j

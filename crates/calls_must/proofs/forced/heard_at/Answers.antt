@@ -1,10 +1,9 @@
 -- `heard_at` meets its contract. The loop's invariant: what is heard so far is what the components looked at hear.
-use Prim.Native.Nat.{◌+◌, ◌-◌, ◌≤◌, ◌<◌}
+use Prim.Native.Nat.{◌+◌, ◌<◌}
 use native.Mathlib.Omega.{arith}
 use mathlib.Core.Path.{◌≡◌, refl, sym, ap, subst, ◌∙◌}
 use lib.ListN.{length, set, take, length-set}
 use lib.Seq.{take_all}
-use borrow.Author.Rules.{rules}
 use Rattle.table.specs.declared.State.{State}
 use Rattle.table.specs.Meaning.{comps_of, no_comp}
 use Rattle.table.proofs.InUse.{comps-length, in_use}
@@ -44,7 +43,7 @@ loop-j-preserved c =
     let b : j < length (comps_of st) = omega (arith, comps-length st) in
     let k = c.wide-k.ensures ∙ c.hears_at.ensures ∙ ap (hears_at a.w.now a.l) (c.comp_at-x.ensures ∙ sym (in_use st no_comp j h)) in
     elim c.if-k-lt64.branch [
-      then-k-lt64 t ↦ (omega arith, ap length t.out-is ∙ length-set ys c.wide-k.result 1 ∙ i.1, subst (Heard a.w.now a.l (take (j + 1) (comps_of st))) (sym (t.out-is ∙ ap (λ z. set ys z 1) k)) (heard-more a.w.now a.l (comps_of st) j no_comp ys b i.1 i.2 (omega (arith, k, t.if-k-lt64.true))))
+      | then-k-lt64 t ↦ (omega arith, ap length t.out-is ∙ length-set ys c.wide-k.result 1 ∙ i.1, subst (Heard a.w.now a.l (take (j + 1) (comps_of st))) (sym (t.out-is ∙ ap (λ z. set ys z 1) k)) (heard-more a.w.now a.l (comps_of st) j no_comp ys b i.1 i.2 (omega (arith, k, t.if-k-lt64.true))))
       | else-k-lt64 t ↦ (omega arith, ap length t.out-is ∙ i.1, subst (Heard a.w.now a.l (take (j + 1) (comps_of st))) (sym t.out-is) (heard-past a.w.now a.l (comps_of st) j no_comp ys b i.1 i.2 (omega (arith, k, t.if-k-lt64.false))))
     ]
 

@@ -1,11 +1,7 @@
 -- `heard_on` meets its contract: in each arm the head is known.
 use mathlib.Core.Path.{sym, ap}
 use Rattle.calls_must.specs.Heard.{heard_on}
-use borrow.Author.Rules.{rules}
 use Rattle.calls_must.proofs.forced.heard_on.Goals as goal
-
-pub enum_told-1 : goal.enum_told-1
-enum_told-1 c = search rules
 
 pub returns-in-In : goal.returns-in-In
 unfolding heard_on

@@ -1,7 +1,6 @@
 -- `must_act` meets its contract: what would act is asked for its right.
 use mathlib.Core.Path.{sym, ◌∙◌}
 use Rattle.table.specs.Fire.{must_act}
-use borrow.Author.Rules.{rules}
 use Rattle.calls_must.proofs.forced.must_act.Goals as goal
 
 pub returns-then-would_act : goal.returns-then-would_act

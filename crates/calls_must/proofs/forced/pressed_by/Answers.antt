@@ -6,7 +6,6 @@ use Rattle.table.specs.Words.{head_at}
 use Rattle.table.specs.Fire.{sent_on, must_act}
 use Rattle.calls_must.specs.Heard.{pressed_by}
 use Rattle.calls_fire.proofs.Heads.{place-fits}
-use borrow.Author.Rules.{rules}
 use Rattle.calls_must.proofs.forced.pressed_by.Goals as goal
 
 pub head_at-h-requires : goal.head_at-h-requires

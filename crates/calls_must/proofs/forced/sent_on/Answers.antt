@@ -1,11 +1,7 @@
 -- `sent_on` meets its contract: in each arm the head is known.
 use mathlib.Core.Path.{sym, ap}
 use Rattle.table.specs.Fire.{sent_on}
-use borrow.Author.Rules.{rules}
 use Rattle.calls_must.proofs.forced.sent_on.Goals as goal
-
-pub enum_told-1 : goal.enum_told-1
-enum_told-1 c = search rules
 
 pub returns-in-Out : goal.returns-in-Out
 unfolding sent_on

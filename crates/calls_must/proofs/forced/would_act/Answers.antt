@@ -2,7 +2,6 @@
 use mathlib.Core.Path.{sym, ap, ◌∙◌}
 use Rattle.table.specs.Split.{due_at}
 use Rattle.table.specs.Fire.{would_act}
-use borrow.Author.Rules.{rules}
 use Rattle.calls_must.proofs.forced.would_act.Goals as goal
 
 pub returns-in-Stop : goal.returns-in-Stop
