@@ -3,7 +3,6 @@ use mathlib.Core.Path.{sym, ◌∙◌}
 use Rattle.table.specs.Meaning.{tally_of}
 use Rattle.table.proofs.InUse.{valid-ledger}
 use Rattle.calls_mean.specs.Averaged.{mean_answer}
-use borrow.Author.Rules.{rules}
 use Rattle.calls_mean.proofs.mean.Goals as goal
 
 pub mean_of-requires : goal.mean_of-requires

@@ -4,7 +4,6 @@ use native.Mathlib.Omega.{arith}
 use mathlib.Core.Path.{◌≡◌, sym, ◌∙◌}
 use Rattle.table.specs.Meaning.{total_in, count_in}
 use Rattle.calls_mean.proofs.Means.{mean-none, mean-some, quotient-small, remainder-small}
-use borrow.Author.Rules.{rules}
 use Rattle.calls_mean.proofs.mean_of.Goals as goal
 
 pub returns-then-k-eq0 : goal.returns-then-k-eq0
