@@ -1,5 +1,4 @@
 -- The script, and what is asked of it.
-use borrow.Author.Rules.{rules}
 use native.Mathlib.Omega.{arith}
 use mathlib.Core.Path.{refl}
 use Rattle.text_enter.proofs.Answering.{may-fill, may-ask, entered}

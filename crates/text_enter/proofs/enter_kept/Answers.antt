@@ -1,5 +1,4 @@
 -- After a refusal the words in front are put back, and those behind were never written.
-use borrow.Author.Rules.{rules}
 use native.Mathlib.Omega.{arith}
 use mathlib.Core.Path.{refl, ◌∙◌}
 use Rattle.text_answer.proofs.Kept.{back-again}
