@@ -6,7 +6,7 @@ use mathlib.Core.List.{List, [], ◌∷◌, ◌++◌, map}
 use mathlib.Core.Bool.{Bool, true, false, cond, ◌||◌}
 use mathlib.Core.Path.{◌≡◌, refl, ap, ◌∙◌}
 use lib.Dec.{leb, ltb}
-use lib.ListN.{length, get_or, take, replicate, length-map, length-take}
+use lib.ListN.{length, get_or, replicate, length-map, length-take}
 use borrow.Author.Tests.{ltb-true, leb-true, eq-eqb}
 use Rattle.terms.specs.Names.{Name}
 use Rattle.terms.specs.Same.{every}
