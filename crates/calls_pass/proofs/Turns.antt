@@ -1,6 +1,6 @@
 -- The tick, one component written at a time, gives what the tick gives: each turn writes the head of what is left.
 -- By the law that a split begins with a fresh part and goes on with the next one.
-use Prim.Native.Nat.{ℕ, zero, suc, ◌+◌, ◌-◌, ◌<◌, ◌≤◌}
+use Prim.Native.Nat.{ℕ, zero, suc, ◌-◌, ◌<◌, ◌≤◌}
 use native.Mathlib.Omega.{arith}
 use mathlib.Core.List.{List, [], ◌∷◌, ◌++◌, flat_map}
 use mathlib.Core.Bool.{Bool, true, false, cond, not, false≢true}

@@ -1,7 +1,6 @@
 -- `else_turn` meets its contract.
 use mathlib.Core.Path.{sym, ◌∙◌}
 use Rattle.calls_pass.specs.Turn.{else_turn}
-use borrow.Author.Rules.{rules}
 use Rattle.calls_pass.proofs.pass.else_turn.Goals as goal
 
 pub is_expired-requires : goal.is_expired-requires

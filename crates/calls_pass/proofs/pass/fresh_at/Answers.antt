@@ -1,6 +1,5 @@
 -- `fresh_at` meets its contract.
 use Rattle.table.specs.Split.{fresh}
-use borrow.Author.Rules.{rules}
 use Rattle.calls_pass.proofs.pass.fresh_at.Goals as goal
 
 pub returns : goal.returns

@@ -2,7 +2,6 @@
 use mathlib.Core.Path.{sym, ap, ◌∙◌}
 use Rattle.terms.specs.Clock.{is_edition}
 use Rattle.table.specs.Split.{expired_at}
-use borrow.Author.Rules.{rules}
 use Rattle.calls_pass.proofs.pass.is_expired.Goals as goal
 
 pub is_expired-requires : goal.is_expired-requires

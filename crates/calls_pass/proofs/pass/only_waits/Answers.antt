@@ -2,7 +2,6 @@
 use mathlib.Core.Path.{sym, ap, ◌∙◌}
 use mathlib.Core.Bool.{not}
 use Rattle.calls_pass.specs.Turn.{only_waits}
-use borrow.Author.Rules.{rules}
 use Rattle.calls_pass.proofs.pass.only_waits.Goals as goal
 
 pub returns-in-Stop : goal.returns-in-Stop

@@ -3,7 +3,6 @@ use Rattle.calls_pass.proofs.Turns.{step-none}
 use mathlib.Core.Path.{◌≡◌, sym, ap, ◌∙◌}
 use Rattle.table.specs.Words.{next_at}
 use Rattle.calls_pass.specs.Turn.{step_of}
-use borrow.Author.Rules.{rules}
 use Rattle.calls_pass.proofs.pass.part_turn.Goals as goal
 
 pub returns-then-next-eq0 : goal.returns-then-next-eq0

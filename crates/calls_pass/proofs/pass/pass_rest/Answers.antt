@@ -3,12 +3,11 @@ use native.Mathlib.Omega.{arith}
 use mathlib.Core.Path.{ap, ◌∙◌}
 use Rattle.table.specs.declared.State.{State}
 use Prim.Native.Nat.{◌+◌}
-use Rattle.table.specs.Meaning.{comp_in, PastKept, comps_of}
+use Rattle.table.specs.Meaning.{comp_in, comps_of}
 use Rattle.table.proofs.Stores.{past-put, past-none, past-then}
 use Rattle.calls_act.proofs.Positions.{few-comps, valid-parts, comp-good}
 use Rattle.calls_pass.specs.Turn.{turn_of}
-use Rattle.calls_pass.specs.Passed.{passed_from}
-use Rattle.calls_pass.proofs.Passing.{Passing, passing-begin, passing-turn, passing-full, passing-done, left_over, turn-less, step_fits}
+use Rattle.calls_pass.proofs.Passing.{passing-begin, passing-turn, passing-full, passing-done, turn-less, step_fits}
 use Rattle.calls_pass.proofs.pass.pass_rest.Goals as goal
 
 pub loop-i-init : goal.loop-i-init

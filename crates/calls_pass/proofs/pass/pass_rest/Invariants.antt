@@ -1,14 +1,7 @@
 -- `pass_rest` meets its contract. The loop's invariant: what was written and what remains are what the tick leaves (Passing).
-use native.Mathlib.Omega.{arith}
-use mathlib.Core.Path.{ap, ◌∙◌}
-use Rattle.table.specs.declared.State.{State}
-use Prim.Native.Nat.{◌+◌}
-use Rattle.table.specs.Meaning.{comp_in, PastKept, comps_of}
-use Rattle.table.proofs.Stores.{past-put, past-none, past-then}
-use Rattle.calls_act.proofs.Positions.{few-comps, valid-parts, comp-good}
-use Rattle.calls_pass.specs.Turn.{turn_of}
+use Rattle.table.specs.Meaning.{PastKept}
 use Rattle.calls_pass.specs.Passed.{passed_from}
-use Rattle.calls_pass.proofs.Passing.{Passing, passing-begin, passing-turn, passing-full, passing-done, left_over, turn-less, step_fits}
+use Rattle.calls_pass.proofs.Passing.{Passing, left_over}
 use Rattle.calls_pass.proofs.pass.pass_rest.Given as goal
 
 abbrev pub invariant-loop-i : goal.invariant-loop-i

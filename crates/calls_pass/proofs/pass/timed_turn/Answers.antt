@@ -1,7 +1,6 @@
 -- `timed_turn` meets its contract.
 use mathlib.Core.Path.{ap, ◌∙◌}
 use Rattle.calls_pass.specs.Turn.{whole}
-use borrow.Author.Rules.{rules}
 use Rattle.calls_pass.proofs.pass.timed_turn.Goals as goal
 
 pub returns : goal.returns

@@ -1,11 +1,7 @@
 -- `timer_in` meets its contract: in each arm the head is known.
 use mathlib.Core.Path.{sym, ap}
 use Rattle.table.specs.Split.{timer_in}
-use borrow.Author.Rules.{rules}
 use Rattle.calls_pass.proofs.pass.timer_in.Goals as goal
-
-pub enum_told-1 : goal.enum_told-1
-enum_told-1 c = search rules
 
 pub returns-in-Stop : goal.returns-in-Stop
 unfolding timer_in

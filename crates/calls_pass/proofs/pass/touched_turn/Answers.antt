@@ -5,7 +5,6 @@ use Rattle.table.specs.Words.{head_at}
 use Rattle.calls_pass.specs.Turn.{wait_turn, touched_turn}
 use Rattle.calls_fire.proofs.Heads.{place-fits}
 use Rattle.table.proofs.Tests.{part-fine, comp-fine, script-fine}
-use borrow.Author.Rules.{rules}
 use Rattle.calls_pass.proofs.pass.touched_turn.Goals as goal
 
 pub part_turn-requires : goal.part_turn-requires

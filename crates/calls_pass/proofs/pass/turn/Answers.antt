@@ -4,7 +4,6 @@ use native.Mathlib.Omega.{arith}
 use mathlib.Core.Path.{sym, ◌∙◌}
 use Rattle.table.proofs.Tests.{script-fine}
 use Rattle.calls_pass.specs.Turn.{turn_of}
-use borrow.Author.Rules.{rules}
 use Rattle.calls_pass.proofs.pass.turn.Goals as goal
 
 pub returns-then-next-eq0 : goal.returns-then-next-eq0

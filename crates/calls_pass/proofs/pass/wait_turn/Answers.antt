@@ -5,11 +5,7 @@ use mathlib.Core.Bool.{true}
 use Rattle.table.specs.Valid.{head_ok}
 use Rattle.table.proofs.Places.{out-fine, in-fine}
 use Rattle.calls_pass.specs.Turn.{wait_turn}
-use borrow.Author.Rules.{rules}
 use Rattle.calls_pass.proofs.pass.wait_turn.Goals as goal
-
-pub enum_told-1 : goal.enum_told-1
-enum_told-1 c = search rules
 
 pub else_turn-requires : goal.else_turn-requires
 else_turn-requires c =

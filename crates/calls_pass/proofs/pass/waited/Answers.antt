@@ -1,6 +1,5 @@
 -- `waited` meets its contract.
 use Rattle.table.specs.Split.{timed}
-use borrow.Author.Rules.{rules}
 use Rattle.calls_pass.proofs.pass.waited.Goals as goal
 
 pub returns : goal.returns

@@ -5,7 +5,6 @@ use Rattle.table.specs.Words.{head_at}
 use Rattle.calls_pass.specs.Turn.{only_waits, waits_on}
 use Rattle.calls_fire.proofs.Heads.{place-fits}
 use Rattle.table.proofs.Tests.{script-fine}
-use borrow.Author.Rules.{rules}
 use Rattle.calls_pass.proofs.pass.waits_on.Goals as goal
 
 pub returns-then-c-lt64 : goal.returns-then-c-lt64
