@@ -7,6 +7,9 @@ ghost use Rattle.std.specs.Io.KnownBytes.{Appends, Consumes, IsAtEnd};
 
 use std::io::{Read, Write};
 
+#[cfg(test)]
+mod tests;
+
 // What was read: whether a read failed, and the number of bytes at the front of the buffer.
 #[derive(Clone, Copy)]
 pub struct Input {
