@@ -1,5 +1,9 @@
 // Layer 4, the program: bytes from standard input, bytes to standard output, and a message to standard error. No contract can say what the system's streams
 // give and take, so these go over any reader and any writer: where its bytes are known, they say which of them moved.
+//
+//   tests          readers and writers that fail in mid-stream
+//
+//   proofs/Moved   what two reads, or two writes, move one after the other
 #![tactic(auto)]
 
 ghost use Rattle.std.specs.Prelude.{◌≡◌, ◌≤◌, ◌<◌, ℕ, length, take, true, false, MatchBool};
