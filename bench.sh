@@ -29,12 +29,12 @@ printf '\n'
 "$bench" --profile | tee target/profile.md
 
 # the whole process, from its start to its end: the least of some hundred runs
-rt check timorun > target/timorun.log 2>&1 || { tail -n 20 target/timorun.log; exit 1; }
+(cd crates/timorun && rt run < /dev/null) > target/timorun.log 2>&1 || { tail -n 20 target/timorun.log; exit 1; }
 (cd reference && cargo build --release --offline --quiet)
 {
     printf '\n| whole process on | timorun, proved ms | reference ms | ratio | /bin/true ms |\n|---|---|---|---|---|\n'
     for script in examples/document_01.timo examples/rovers.timo examples/growth_to_refusal_13.timo; do
-        compare/target/release/process "$script" target/bin/timorun reference/target/release/timorun /bin/true |
+        compare/target/release/process "$script" crates/timorun/out/timorun reference/target/release/timorun /bin/true |
             awk -v name="$(basename "$script")" '{ ms[NR] = $2 } END { printf "| %s | %s | %s | %.2f | %s |\n", name, ms[1], ms[2], ms[1] / ms[2], ms[3] }'
     done
 } | tee target/process.md

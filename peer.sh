@@ -5,10 +5,10 @@ set -eu
 cd "$(dirname "$0")"
 : "${PEER:?the folder of the peer}"
 mkdir -p target
-test -x target/bin/timorun || rt check timorun > target/timorun.log 2>&1 || { tail -n 20 target/timorun.log; exit 1; }
+test -x crates/timorun/out/timorun || (cd crates/timorun && rt run < /dev/null) > target/timorun.log 2>&1 || { tail -n 20 target/timorun.log; exit 1; }
 (cd reference && cargo build --release --offline --quiet)
 reference/target/release/vectors "${2:-1}" "${1:-100}" > target/peer.in
-python3 - target/bin/timorun "$PEER/timomaude.py" target/peer.in examples/*.timo <<'END'
+python3 - crates/timorun/out/timorun "$PEER/timomaude.py" target/peer.in examples/*.timo <<'END'
 import os, subprocess, sys
 program, peer, generated, *examples = sys.argv[1:]
 scripts = [open(path, "rb").read() for path in examples] + open(generated, "rb").read().split(b"#\n")[:-1]

@@ -5,7 +5,8 @@
 # A longer run: cd compare && cargo run --release -- SEED N
 set -eu -o pipefail
 cd "$(dirname "$0")/.."
-rt staticlib timo > target/staticlib.log 2>&1 || { tail -n 20 target/staticlib.log; exit 1; }
+mkdir -p target
+(cd crates/timo && rt lib) > target/timo.log 2>&1 || { tail -n 20 target/timo.log; exit 1; }
 (cd reference && cargo build --release --offline -q)
 (cd compare && cargo build --release --offline -q --bins && ./target/release/compare 2026 180)
 (cd compare && cargo test --release --offline --tests > ../target/compare-tests.log 2>&1) || { tail -n 40 target/compare-tests.log; exit 1; }

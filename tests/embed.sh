@@ -4,8 +4,8 @@
 set -eu -o pipefail
 cd "$(dirname "$0")/.."
 mkdir -p target/embed
-rt staticlib timo > target/staticlib.log 2>&1 || { tail -n 20 target/staticlib.log; exit 1; }
-library=target/staticlib/libtimo.a
+(cd crates/timo && rt lib) > target/timo.log 2>&1 || { tail -n 20 target/timo.log; exit 1; }
+library=crates/timo/out/libtimo.a
 flags="-pedantic -Wall -Wextra -Werror -O2 -Iinclude"
 
 # host NAME COMPILER..: compiles the example and compares what it prints

@@ -3,8 +3,9 @@
 # long in small pieces; then what it does when it cannot read or write, and on a small stack (tests/timorun_ends.py).
 set -eu
 cd "$(dirname "$0")/.."
-timorun=target/bin/timorun
-test -x "$timorun" || rt check timorun > target/timorun.log 2>&1 || { tail -n 20 target/timorun.log; exit 1; }
+timorun=crates/timorun/out/timorun
+mkdir -p target
+test -x "$timorun" || (cd crates/timorun && rt run < /dev/null) > target/timorun.log 2>&1 || { tail -n 20 target/timorun.log; exit 1; }
 for script in examples/*.timo; do
     "$timorun" < "$script" | cmp -s - "${script%.timo}.out" || { echo "differs: $script"; exit 1; }
 done

@@ -68,11 +68,11 @@ def failed_writes():
 
 
 def closed_pipe():
-    """Nobody reads: the signal ends the program; where it is ignored, the write fails and is told."""
+    """Nobody reads: the program ignores the signal, as every program in Rattle does, whatever it was started with; the write fails and is told."""
     def ignore():
         signal.signal(signal.SIGPIPE, signal.SIG_IGN)
 
-    for prepare, wanted in ((None, (-signal.SIGPIPE, None, b"")), (ignore, (0, None, NOT_WRITTEN))):
+    for prepare, wanted in ((None, (0, None, NOT_WRITTEN)), (ignore, (0, None, NOT_WRITTEN))):
         reader, writer = os.pipe()
         os.close(reader)
         expect("a closed pipe", run(input=SCRIPT, stdout=writer, preexec_fn=prepare), wanted)

@@ -4,6 +4,8 @@
 
 ghost use Rattle.std.specs.Prelude.{◌≤◌, length};
 
+use std::io::Write;
+
 // The place of the next `#` from a on, or the end.
 fn mark(s: &[u8], a: usize) -> usize
     requires { a ≤ length s.now }
@@ -20,27 +22,28 @@ fn mark(s: &[u8], a: usize) -> usize
 }
 
 // One text. A printout that is longer than the buffer is left out; none of the stored ones is.
-fn one(text: &[u8]) {
-    let mut out = io::large_buffer();
+fn one<W: Write>(to: &mut W, text: &[u8]) {
+    let mut out = [0u8; 65536];
     let k = run_print::printout(text, &mut out);
     if k <= out.len() {
-        run_emit::emit(&out, k);
+        run_emit::emit(to, &out, k);
     }
-    io::write_all(1, b"#\n");
+    run_emit::emit(to, b"#\n", 2);
 }
 
-fn main() {
-    let mut text = io::large_buffer();
-    let n = io::read_full(0, &mut text);
-    all(&text[..n]);
+fn main(rt: HostRuntime) {
+    let mut text = [0u8; 65536];
+    let r = run_emit::read_input(&mut rt.stdin(), &mut text);
+    let n = r.len;
+    all(&mut rt.stdout(), &text[..n]);
 }
 
 // All of them.
-fn all(s: &[u8]) {
+fn all<W: Write>(to: &mut W, s: &[u8]) {
     let mut a = 0;
     while a < s.len() {
         let e = mark(s, a);
-        one(&s[a..e]);
+        one(to, &s[a..e]);
         if s.len() - e < 2 {
             return;
         }

@@ -1,0 +1,46 @@
+-- Pieces written one after the other, and what was read of a text.
+use Rattle.std.proofs.Common.{ℕ, Bool, true, cond, ◌≡◌, ◌+◌, ◌≤◌, ◌<◌, ◌⊎◌, inl, inr, List, [], ◌∷◌, ◌++◌, None, Some, IfSome, length, take, sym, ap, ◌∙◌, subst, append_assoc, append-nil, take_all, length-take-le, eq-or-lt_of_le, le_of_eq, arith}
+use Rattle.std.proofs.Math.Seq.{take-append-add}
+use Rattle.std.proofs.lemmas.List.{take-append-le, take-take}
+use Rattle.std.specs.Io.KnownBytes.{Appends, Consumes, IsAtEnd}
+use Rattle.std.specs.declared.option.Option.{Option}
+use mathlib.Core.List.{flatten}
+
+-- One piece more was written.
+pub piece_more : (all done x : List ℕ) (xs ys : List (List ℕ)) → xs ≡ x ∷ ys → all ≡ done ++ flatten xs → all ≡ (done ++ x) ++ flatten ys
+unfolding flatten
+piece_more all done x xs ys e h = h ∙ ap (λ l. done ++ flatten l) e ∙ sym (append_assoc done x (flatten ys))
+
+-- Of the next piece, the first n bytes of a buffer, k were written.
+pub piece_cut : (all done buf : List ℕ) (n k : ℕ) (xs ys : List (List ℕ)) → xs ≡ take n buf ∷ ys → all ≡ done ++ flatten xs → k ≤ n → n ≤ length buf
+    → take (length done + k) all ≡ done ++ take k buf
+unfolding flatten
+piece_cut all done buf n k xs ys e h few within =
+    let long = length-take-le n buf within in
+    ap (take (length done + k)) (h ∙ ap (λ l. done ++ flatten l) e) ∙ take-append-add done (take n buf ++ flatten ys) k
+    ∙ ap (λ l. done ++ l) (take-append-le k (take n buf) (flatten ys) (omega arith) ∙ take-take k n buf few)
+
+-- What was read of a text, n bytes at most and fewer only at its end, are its first n bytes.
+of_read : (a b : Option (List ℕ)) (bs : List ℕ) (n : ℕ) (P : List ℕ → Type 0) → Consumes a b bs → length bs ≤ n → (length bs < n → IsAtEnd b) → P bs
+    → IfSome a (λ s. P (take n s))
+of_read None b bs n P moved few end p = tt
+of_read (Some xs) None bs n P moved few end p = absurd moved
+of_read (Some xs) (Some ys) bs n P moved few end p = subst P (sym (go (eq-or-lt_of_le few))) p
+  where
+    go : (length bs ≡ n) ⊎ (length bs < n) → take n xs ≡ bs
+    go (inl e) = ap (take n) moved ∙ take-append-le n bs ys (le_of_eq (sym e)) ∙ take_all n bs few
+    go (inr h) = ap (take n) (moved ∙ ap (λ l. bs ++ l) (end h) ∙ append-nil bs) ∙ take_all n bs few
+
+-- Nothing is left where all was written.
+pub nothing_left : (over : Bool) (xs : List (List ℕ)) → over ≡ true → flatten (cond over [] xs) ≡ []
+unfolding flatten
+nothing_left over xs h = ap (λ b. flatten (cond b [] xs)) h
+
+-- What was written of a text that was read so, whole and up to a failed write; f is what it should come to.
+pub wrote_all : (a b o p : Option (List ℕ)) (bs out : List ℕ) (n : ℕ) (f : List ℕ → List ℕ) → Consumes a b bs → length bs ≤ n → (length bs < n → IsAtEnd b) → out ≡ f bs
+    → Appends o p out → IfSome a (λ s. Appends o p (f (take n s)))
+wrote_all a b o p bs out n f moved few end e h = of_read a b bs n (λ s. Appends o p (f s)) moved few end (subst (Appends o p) e h)
+
+pub wrote_some : (a b o p : Option (List ℕ)) (bs out : List ℕ) (n : ℕ) (f : List ℕ → List ℕ) → Consumes a b bs → length bs ≤ n → (length bs < n → IsAtEnd b) → out ≡ f bs
+    → (k : ℕ) × Appends o p (take k out) → IfSome a (λ s. (k : ℕ) × Appends o p (take k (f (take n s))))
+wrote_some a b o p bs out n f moved few end e h = of_read a b bs n (λ s. (k : ℕ) × Appends o p (take k (f s))) moved few end (h.0, subst (λ l. Appends o p (take h.0 l)) e h.1)
