@@ -8,7 +8,6 @@ use Rattle.calls_act.proofs.Positions.{few-comps}
 use Rattle.calls_tick.proofs.Ticking.{tick-done, tick-took}
 use Rattle.calls_pass.proofs.Passing.{pass_fits}
 use Rattle.calls_steady.proofs.Staying.{tick-steady}
-use borrow.Author.Rules.{rules}
 use Rattle.calls_tick.proofs.tick.tick_free.Goals as goal
 
 pub pass_all-m-requires : goal.pass_all-m-requires

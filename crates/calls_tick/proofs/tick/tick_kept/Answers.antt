@@ -1,7 +1,6 @@
 -- `tick_kept` meets its contract: question 13, by the laws of the tick on a table (Ticking).
 use native.Mathlib.Omega.{arith}
 use Rattle.calls_tick.proofs.Ticking.{tick-full, tick-done, tick-took}
-use borrow.Author.Rules.{rules}
 use Rattle.calls_tick.proofs.tick.tick_kept.Goals as goal
 
 pub pass_all-k-requires : goal.pass_all-k-requires

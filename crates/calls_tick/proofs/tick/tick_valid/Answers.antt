@@ -4,7 +4,6 @@ use mathlib.Core.Path.{refl, sym, ◌∙◌}
 use Prim.Native.Nat.{◌<◌}
 use Rattle.table.specs.Words.{locs_in}
 use Rattle.calls_tick.proofs.Ticking.{tick-out, tick-forced}
-use borrow.Author.Rules.{rules}
 use Rattle.calls_tick.proofs.tick.tick_valid.Goals as goal
 
 pub returns-then-word-l : goal.returns-then-word-l
