@@ -2,7 +2,6 @@
 -- By the tests in their order.
 use Rattle.table.proofs.ValidBool.{failed, passed}
 use Rattle.calls_same.specs.Answer.{same_answer}
-use borrow.Author.Rules.{rules}
 use Rattle.calls_same.proofs.same.Goals as goal
 
 pub returns-then-not-is_valid : goal.returns-then-not-is_valid

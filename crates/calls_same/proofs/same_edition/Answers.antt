@@ -1,5 +1,4 @@
 -- The two words are compared.
-use borrow.Author.Rules.{rules}
 use Rattle.calls_same.proofs.same_edition.Goals as goal
 
 pub returns : goal.returns

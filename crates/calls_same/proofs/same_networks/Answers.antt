@@ -4,7 +4,6 @@ use Rattle.table.specs.Meaning.{network_of}
 use Rattle.table.proofs.ValidBool.{failed, passed}
 use Rattle.terms.specs.Same.{same}
 use Rattle.table.proofs.InUse.{valid-script}
-use borrow.Author.Rules.{rules}
 use Rattle.calls_same.proofs.same_networks.Goals as goal
 
 pub returns-then-not-same_edition : goal.returns-then-not-same_edition

@@ -1,6 +1,5 @@
 -- `raised` meets its contract: the position decides.
 use borrow.Author.Tests.{eq-eqb, ne_eqb}
-use borrow.Author.Rules.{rules}
 use Rattle.calls_same.specs.Unused.{raised_to}
 use Rattle.calls_same.proofs.comps.raised.Goals as goal
 

@@ -9,7 +9,6 @@ use Rattle.table.specs.Words.{locs_at, name_at, name_size}
 use Rattle.table.specs.Meaning.{means}
 use Rattle.calls_alike.proofs.Decided.{carried, differ, shown, placed, one_answer, equal-decides}
 use Rattle.calls_same.proofs.Parted.{comp-is}
-use borrow.Author.Rules.{rules}
 use Rattle.calls_same.proofs.comps.same_comp.Goals as goal
 
 loc-is : {x y : Name} {m n : Mark} {p q : Process} → comp x m p ≡ comp y n q → x ≡ y

@@ -1,13 +1,11 @@
 -- Each component of the first uses up the first equal one of the second that is not yet used.
 -- Idea: what is left of the first, and the unused ones of the second, are the same exactly if all are.
-use Prim.Native.Nat.{◌-◌, ◌≤◌}
 use native.Mathlib.Omega.{arith}
 use mathlib.Core.Bool.{Bool, true, false, not, false≢true}
 use mathlib.Core.Path.{◌≡◌, refl, ap, sym, ◌∙◌}
 use borrow.Author.Count.{below_more}
-use Rattle.table.specs.declared.State.{State}
 use Rattle.table.proofs.InUse.{valid-script, valid-state, comp-held}
-use Rattle.calls_same.proofs.Matched.{net-length, uneven, Unequal, Used, used-more, raised-small, Left, begun, step, stuck, ended}
+use Rattle.calls_same.proofs.Matched.{net-length, uneven, Used, used-more, raised-small, Left, begun, step, stuck, ended}
 use Rattle.calls_same.proofs.comps.same_comps.Goals as goal
 use Rattle.calls_same.proofs.comps.same_comps.Goals.{then-not-used-p+else-same_comp, else-not-used-p}
 

@@ -1,14 +1,8 @@
 -- Each component of the first uses up the first equal one of the second that is not yet used.
 -- Idea: what is left of the first, and the unused ones of the second, are the same exactly if all are.
 use Prim.Native.Nat.{◌-◌, ◌≤◌}
-use native.Mathlib.Omega.{arith}
-use mathlib.Core.Bool.{Bool, true, false, not, false≢true}
-use mathlib.Core.Logic.{⊎_elim}
-use mathlib.Core.Path.{◌≡◌, refl, ap, sym, ◌∙◌}
-use borrow.Author.Count.{below_more}
-use Rattle.table.specs.declared.State.{State}
-use Rattle.table.proofs.InUse.{valid-script, valid-state, comp-held}
-use Rattle.calls_same.proofs.Matched.{net-length, uneven, Unequal, Used, used-more, raised-small, Left, begun, step, stuck, ended}
+use mathlib.Core.Path.{◌≡◌}
+use Rattle.calls_same.proofs.Matched.{Unequal, Used, Left}
 use Rattle.calls_same.proofs.comps.same_comps.Given as goal
 
 abbrev pub invariant-loop-p : goal.invariant-loop-p

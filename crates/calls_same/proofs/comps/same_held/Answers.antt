@@ -12,7 +12,6 @@ use Rattle.text_process.specs.Values.{part_seen, process_seen}
 use Rattle.text_process.proofs.Places.{comp-place}
 use Rattle.calls_alike.proofs.Decided.{never, carried, differ, shown, placed}
 use Rattle.calls_same.proofs.Parted.{marked-parted, free-parted}
-use borrow.Author.Rules.{rules}
 use Rattle.calls_same.proofs.comps.same_held.Goals as goal
 
 owned : {x : Name} {p q : Process} → ◌≡◌ {A = Mark × Process} (by x, p) (none, q) → ⊥
