@@ -1,6 +1,6 @@
 -- Marks at places, one for each component that names a place: what the contracts of `ears` and `press` cite.
 -- Serves inner contracts only.
-use Rattle.std.specs.Prelude.{ℕ, ◌+◌, ◌*◌, ◌<◌, List, Bool, true, false, cond, ◌&&◌, ◌≡◌, eqb, ltb, get_or}
+use Rattle.std.specs.Prelude.{ℕ, ◌+◌, ◌*◌, ◌<◌, List, Bool, cond, ◌&&◌, ◌≡◌, eqb, ltb, get_or}
 use Rattle.terms.specs.Rules.{some}
 use Rattle.table.specs.declared.Comp.{Comp}
 use Rattle.table.specs.declared.Head.{Head}

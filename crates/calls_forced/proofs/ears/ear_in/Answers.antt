@@ -2,11 +2,7 @@
 use mathlib.Core.Path.{sym, ap, ◌∙◌}
 use Prim.Native.Nat.{◌+◌, ◌*◌}
 use Rattle.calls_forced.specs.Marked.{ear_in}
-use borrow.Author.Rules.{rules}
 use Rattle.calls_forced.proofs.ears.ear_in.Goals as goal
-
-pub enum_told-1 : goal.enum_told-1
-enum_told-1 c = search rules
 
 pub returns-in-In : goal.returns-in-In
 unfolding ear_in

@@ -4,7 +4,6 @@ use borrow.Author.Tests.{lt-ltb, le-ltb}
 use Rattle.table.specs.Words.{head_at}
 use Rattle.calls_fire.proofs.Heads.{place-fits}
 use Rattle.calls_forced.specs.Marked.{ear_in, ear_of}
-use borrow.Author.Rules.{rules}
 use Rattle.calls_forced.proofs.ears.ear_of.Goals as goal
 
 pub returns-then-c-lt64 : goal.returns-then-c-lt64

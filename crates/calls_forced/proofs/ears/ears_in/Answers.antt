@@ -1,7 +1,7 @@
 -- `ears_in` meets its contract. The loop's invariant: the marks are those of the components looked at.
-use Prim.Native.Nat.{◌+◌, ◌-◌, ◌≤◌, ◌<◌}
+use Prim.Native.Nat.{◌+◌, ◌<◌}
 use native.Mathlib.Omega.{arith}
-use mathlib.Core.Path.{◌≡◌, refl, sym, ap, subst, ◌∙◌}
+use mathlib.Core.Path.{refl, sym, ap, subst, ◌∙◌}
 use lib.ListN.{length, take, set, length-set}
 use lib.Seq.{take_all}
 use Rattle.table.specs.declared.State.{State}

@@ -3,7 +3,6 @@ use mathlib.Core.Path.{◌∙◌}
 use Rattle.calls_forced.specs.Report.{forced_test}
 use Rattle.calls_forced.proofs.Bits.{report-is}
 use Rattle.calls_forced.proofs.Forcing.{set_is}
-use borrow.Author.Rules.{rules}
 use Rattle.calls_forced.proofs.forced.forced_valid.Goals as goal
 
 pub returns : goal.returns

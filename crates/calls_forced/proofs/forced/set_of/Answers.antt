@@ -1,7 +1,6 @@
 -- `set_of` meets its contract. The loop's invariant: x is the set of the l lowest bits.
 use native.Mathlib.Omega.{arith}
 use mathlib.Core.Path.{◌≡◌, ap, ◌∙◌}
-use Prim.Native.Nat.{◌≤◌, ◌-◌}
 use borrow.Author.Tests.{eq-eqb, ne_eqb}
 use Rattle.calls_forced.specs.Marked.{is_marked}
 use Rattle.calls_forced.specs.Report.{mask}

@@ -1,12 +1,8 @@
 -- `set_of` meets its contract. The loop's invariant: x is the set of the l lowest bits.
-use native.Mathlib.Omega.{arith}
-use mathlib.Core.Path.{◌≡◌, ap, ◌∙◌}
-use mathlib.Core.Logic.{⊎_elim}
+use mathlib.Core.Path.{◌≡◌}
 use Prim.Native.Nat.{◌≤◌, ◌-◌}
-use borrow.Author.Tests.{eq-eqb, ne_eqb}
 use Rattle.calls_forced.specs.Marked.{is_marked}
 use Rattle.calls_forced.specs.Report.{mask}
-use Rattle.calls_forced.proofs.Bits.{mask-none, mask-with, mask-without}
 use Rattle.calls_forced.proofs.forced.set_of.Given as goal
 
 abbrev pub invariant-loop-l : goal.invariant-loop-l

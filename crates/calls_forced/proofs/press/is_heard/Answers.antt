@@ -1,7 +1,6 @@
 -- `is_heard` meets its contract; past the end nothing is heard.
 use borrow.Author.Tests.{lt-ltb, le-ltb}
 use Rattle.calls_forced.specs.Marked.{is_heard}
-use borrow.Author.Rules.{rules}
 use Rattle.calls_forced.proofs.press.is_heard.Goals as goal
 
 pub returns-then-k-lt4096 : goal.returns-then-k-lt4096

@@ -1,16 +1,9 @@
 -- `pressed_in` meets its contract. The loop's invariant: the marks are those of the components looked at.
-use Prim.Native.Nat.{◌+◌, ◌-◌, ◌≤◌, ◌<◌}
-use native.Mathlib.Omega.{arith}
-use mathlib.Core.Logic.{⊎_elim}
-use mathlib.Core.Path.{◌≡◌, refl, sym, ap, subst, ◌∙◌}
-use lib.ListN.{length, take, set, length-set}
-use lib.Seq.{take_all}
-use Rattle.table.specs.declared.State.{State}
-use Rattle.table.specs.Meaning.{comps_of, no_comp}
-use Rattle.table.proofs.InUse.{comps-length, in_use}
-use Rattle.calls_act.proofs.Positions.{few-comps, valid-parts, comp-good}
+use Prim.Native.Nat.{◌-◌, ◌≤◌}
+use mathlib.Core.Path.{◌≡◌}
+use lib.ListN.{length, take}
+use Rattle.table.specs.Meaning.{comps_of}
 use Rattle.calls_forced.specs.Marked.{Marked, press_of}
-use Rattle.calls_forced.proofs.Marking.{marked-none, marked-one, marked-past}
 use Rattle.calls_forced.proofs.press.pressed_in.Given as goal
 
 abbrev pub invariant-loop-j : goal.invariant-loop-j

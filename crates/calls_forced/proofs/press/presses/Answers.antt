@@ -1,9 +1,7 @@
 -- `presses` meets its contract: what it asks of the bitmap is whether its channel is heard at its location.
 use mathlib.Core.Path.{ap, ◌∙◌}
-use Prim.Native.Nat.{◌+◌, ◌*◌}
-use Rattle.table.specs.Fire.{sent_on, must_act}
-use Rattle.calls_forced.specs.Marked.{is_heard, presses_in}
-use borrow.Author.Rules.{rules}
+use Rattle.table.specs.Fire.{must_act}
+use Rattle.calls_forced.specs.Marked.{presses_in}
 use Rattle.calls_forced.proofs.press.presses.Goals as goal
 
 pub returns : goal.returns
