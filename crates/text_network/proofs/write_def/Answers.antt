@@ -22,30 +22,6 @@ use Rattle.text_network.proofs.write_def.Goals as goal
 few : (w : List ℕ) (d : ℕ) → (script_ok w ≡ true) × (d < defs_in w) → d < 32
 few w d h = omega (arith, h.1, (script-fine w h.0).defs)
 
--- ??? overflow-mul-t12
--- mul-t12 : tie.Need-overflow-mul-t12
--- mul-t12 c = let h = few c.before.args.w.now c.before.args.d c.before.requires in search rules
-
--- ??? overflow-add-t13
--- add-t13 : tie.Need-overflow-add-t13
--- add-t13 c = let h = few c.before.args.w.now c.before.args.d c.before.requires in search rules
-
--- ??? overflow-mul-t14
--- mul-t14 : tie.Need-overflow-mul-t14
--- mul-t14 c = let h = few c.before.args.w.now c.before.args.d c.before.requires in search rules
-
--- ??? overflow-add-t15
--- add-t15 : tie.Need-overflow-add-t15
--- add-t15 c = let h = few c.before.args.w.now c.before.args.d c.before.requires in search rules
-
--- ??? overflow-mul-t16
--- mul-t16 : tie.Need-overflow-mul-t16
--- mul-t16 c = let h = few c.before.args.w.now c.before.args.d c.before.requires in search rules
-
--- ??? overflow-add-t17
--- add-t17 : tie.Need-overflow-add-t17
--- add-t17 c = let h = few c.before.args.w.now c.before.args.d c.before.requires in search rules
-
 pub overflow_mul-o-4 : goal.overflow_mul-o-4
 overflow_mul-o-4 c = let h = few c.args.w.now c.args.d c.requires in search rules
 
