@@ -1,5 +1,4 @@
 -- A script has words for every text that passes the scan.
-use borrow.Author.Rules.{rules}
 use native.Mathlib.Omega.{arith}
 use mathlib.Core.Path.{refl}
 use Rattle.text_enter.proofs.Answering.{may-fill}

@@ -1,5 +1,4 @@
 -- The edition's refusal, that of the scan, that of the script, or the network. After a refusal of the script its rights and its edition are put back.
-use borrow.Author.Rules.{rules}
 use Prim.Native.Nat.{ℕ, ◌*◌}
 use native.Mathlib.Omega.{arith}
 use mathlib.Core.Path.{refl}

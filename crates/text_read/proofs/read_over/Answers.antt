@@ -1,5 +1,4 @@
 -- The edition's refusal, that of the scan, that of the script, or the network; after a refusal the script is zero.
-use borrow.Author.Rules.{rules}
 use native.Mathlib.Omega.{arith}
 use Rattle.table.proofs.ValidBool.{failed, passed}
 use Rattle.text_enter.proofs.Answering.{way-1, answer-no, edition-no, edition-yes}
