@@ -1,7 +1,6 @@
 -- `act_next` meets its contract: each answer of the action, then question 16 by the label's last number (Proposing).
 use native.Mathlib.Omega.{arith}
 use Rattle.calls_propose.proofs.Proposing.{next-refused, next-elsewhere, next-fired}
-use borrow.Author.Rules.{rules}
 use Rattle.calls_propose.proofs.next.act_next.Goals as goal
 
 pub returns-then-a-ne0 : goal.returns-then-a-ne0

@@ -2,7 +2,6 @@
 use native.Mathlib.Omega.{arith}
 use mathlib.Core.Path.{◌≡◌}
 use Rattle.calls_propose.proofs.Proposing.{last-refused, last_none, last-all}
-use borrow.Author.Rules.{rules}
 use Rattle.calls_propose.proofs.next.finish.Goals as goal
 
 pub returns-then-code-ne0 : goal.returns-then-code-ne0

@@ -2,7 +2,6 @@
 use native.Mathlib.Omega.{arith}
 use Rattle.table.proofs.ValidBool.{failed, passed}
 use Rattle.calls_propose.proofs.Proposing.{begin-bad, begin-out, begin-in}
-use borrow.Author.Rules.{rules}
 use Rattle.calls_propose.proofs.next.opening.Goals as goal
 
 pub returns-then-not-is_valid : goal.returns-then-not-is_valid

@@ -2,10 +2,10 @@
 use native.Mathlib.Omega.{arith}
 use mathlib.Core.Path.{◌≡◌, refl, sym, ap, subst, ◌∙◌}
 use mathlib.Core.Bool.{Bool, true, false, ◌&&◌, false≢true}
-use Prim.Native.Nat.{ℕ, ◌+◌, ◌≤◌}
+use Prim.Native.Nat.{ℕ, ◌+◌}
 use mathlib.Core.List.{List}
 use lib.Dec.{eqb, ltb}
-use lib.ListN.{length, get_or, drop}
+use lib.ListN.{length, drop}
 use borrow.Author.Tests.{eqb-true, eqb-false, ltb-true, ltb-false}
 use Rattle.terms.proofs.Names.{and-inv}
 use Rattle.table.specs.declared.State.{State}
@@ -13,8 +13,8 @@ use Rattle.table_waits.proofs.Ledger.{others-then}
 use Rattle.calls_act.specs.Acted.{after}
 use Rattle.calls_tick.specs.Ticked.{TicksAs}
 use Rattle.calls_propose.specs.declared.Record.{Record}
-use Rattle.calls_propose.specs.Proposed.{so_far, Held, begun, ticked_last}
-use Rattle.calls_propose.proofs.Proposing.{fired_all, zero-record, one_more, all-fired, none-fired, proposal-is}
+use Rattle.calls_propose.specs.Proposed.{so_far, Held, ticked_last}
+use Rattle.calls_propose.proofs.Proposing.{fired_all, one_more, all-fired, none-fired, proposal-is}
 use Rattle.calls_propose.proofs.outward.propose.Goals as goal
 
 -- the loop is left: nothing more is fired
