@@ -17,11 +17,10 @@ use Rattle.terms.proofs.Lists.{at-within}
 use Rattle.ranks.specs.Ranked.{place, ranked, keep}
 use Rattle.ranks.proofs.Laws.{keep-ranked, length-ranked}
 use Rattle.table.specs.declared.Comp.{Comp}
-use Rattle.table.specs.Fire.{hears}
 use Rattle.calls_steady.proofs.Staying.{take_more}
 use Rattle.calls_must.specs.Heard.{hears_at}
 use Rattle.calls_must.proofs.Hearing.{hears-own}
-use Rattle.calls_wait.specs.Waits.{waits, key_of, spot_of, keys_on, hearers, Chain, Queued, keys_all, Gathered, onto, Dealt, Away, Apart}
+use Rattle.calls_wait.specs.Waits.{key_of, spot_of, keys_on, hearers, Chain, Queued, keys_all, Gathered, onto, Dealt, Away, Apart}
 use Rattle.calls_wait.proofs.Waiting.{spot-key}
 
 pub spot-fits : (x : ℕ) → spot_of x < 256

@@ -5,7 +5,6 @@ use mathlib.Core.Path.{◌≡◌, sym, ap, subst, ◌∙◌}
 use mathlib.Core.List.{List, []}
 use lib.ListN.{length, take, drop, get_or, set}
 use lib.Seq.{drop-length, length-take-le}
-use borrow.Author.Rules.{rules}
 use Rattle.calls_wait.specs.Waits.{spot_of, Apart, Dealt}
 use Rattle.calls_wait.proofs.Dealing.{dealt-none, dealt-turn}
 use Rattle.calls_wait.proofs.deal.Goals as goal
@@ -32,17 +31,11 @@ offset_bounds-keys-i c = omega (arith, c.loop-j.invariant.0, c.requires.0)
 pub bounds-keys-i : goal.bounds-keys-i
 bounds-keys-i c = omega (arith, c.loop-j.invariant.0, c.requires.0)
 
-pub wide-p-requires : goal.wide-p-requires
-wide-p-requires c = search rules
-
 pub offset_bounds-ears-p : goal.offset_bounds-ears-p
 offset_bounds-ears-p c = omega (arith, c.wide-p.ensures)
 
 pub bounds-ears-p : goal.bounds-ears-p
 bounds-ears-p c = omega (arith, c.wide-p.ensures)
-
-pub wide-h-requires : goal.wide-h-requires
-wide-h-requires c = search rules
 
 pub offset_bounds-heads-h : goal.offset_bounds-heads-h
 unfolding spot_of

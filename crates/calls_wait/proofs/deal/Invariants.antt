@@ -1,13 +1,7 @@
 -- `deal` meets its contract. The loop's invariant: the chains are those of the numbers from j on.
-use Prim.Native.Nat.{ℕ, suc, ◌+◌, ◌-◌, ◌≤◌, ◌<◌}
-use native.Mathlib.Omega.{arith}
-use mathlib.Core.Path.{◌≡◌, sym, ap, subst, ◌∙◌}
-use mathlib.Core.List.{[]}
-use lib.ListN.{take, drop, get_or, set}
-use lib.Seq.{drop-length, length-take-le}
-use borrow.Author.Rules.{rules}
-use Rattle.calls_wait.specs.Waits.{spot_of, Dealt}
-use Rattle.calls_wait.proofs.Dealing.{dealt-none, dealt-turn}
+use Prim.Native.Nat.{◌≤◌}
+use lib.ListN.{take, drop}
+use Rattle.calls_wait.specs.Waits.{Dealt}
 use Rattle.calls_wait.proofs.deal.Given as goal
 
 abbrev pub invariant-loop-j : goal.invariant-loop-j

@@ -1,6 +1,5 @@
 -- `key_of` meets its contract: the greatest rank leaves room for a position.
 use native.Mathlib.Omega.{arith}
-use borrow.Author.Rules.{rules}
 use Rattle.calls_wait.specs.Waits.{key_of}
 use Rattle.calls_wait.proofs.key_of.Goals as goal
 

@@ -2,7 +2,6 @@
 use Prim.Native.Nat.{◌≤◌}
 use native.Mathlib.Omega.{arith}
 use lib.ListN.{length}
-use borrow.Author.Rules.{rules}
 use Rattle.table.specs.declared.State.{State}
 use Rattle.table.specs.Meaning.{comps_of}
 use Rattle.table.proofs.InUse.{comps-length}
