@@ -1,6 +1,6 @@
 -- The step on a valid table stands for the step of the rules, with questions 15, 18 and 13.
 -- By the law of the sweep (Sweeps) and that of its waits (Tallying), that of the tick's pass, and that a step never meets question 12.
-use Prim.Native.Nat.{ℕ, suc, ◌+◌, ◌-◌, ◌<◌, ◌≤◌, min}
+use Prim.Native.Nat.{ℕ, suc, ◌+◌, ◌<◌, ◌≤◌, min}
 use native.Mathlib.Omega.{arith}
 use native.Mathlib.Numerals.{add-one}
 use mathlib.Core.List.{List, [], ◌∷◌, ◌++◌, map, append_assoc}

@@ -1,10 +1,8 @@
 -- `put_records` meets its contract. The loop's invariant: the records written stand in front of what was there.
-use native.Mathlib.Omega.{arith}
-use mathlib.Core.Path.{◌≡◌, refl, ap, ◌∙◌}
+use mathlib.Core.Path.{◌≡◌}
 use mathlib.Core.List.{◌++◌}
 use Prim.Native.Nat.{◌≤◌, ◌-◌}
-use lib.ListN.{length, take, drop, length-set}
-use Rattle.calls_step.proofs.Stepping.{put-more}
+use lib.ListN.{length, take, drop}
 use Rattle.calls_step.proofs.step.put_records.Given as goal
 
 abbrev pub invariant-loop-j : goal.invariant-loop-j

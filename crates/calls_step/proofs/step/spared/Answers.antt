@@ -2,7 +2,6 @@
 use native.Mathlib.Omega.{arith}
 use mathlib.Core.Bool.{false≢true}
 use Rattle.calls_act.proofs.Positions.{few-comps}
-use borrow.Author.Rules.{rules}
 use Rattle.calls_step.proofs.step.spared.Goals as goal
 
 pub returns-then-size-n : goal.returns-then-size-n

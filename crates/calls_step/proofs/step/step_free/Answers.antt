@@ -9,7 +9,6 @@ use Rattle.table_waits.proofs.Ledger.{counted-length}
 use Rattle.calls_act.proofs.Positions.{few-comps}
 use Rattle.calls_pass.proofs.Passing.{pass_fits}
 use Rattle.calls_step.proofs.Stepping.{fits-now, sent-few, told-good, step-steady, step-done, step-took, written}
-use borrow.Author.Rules.{rules}
 use Rattle.calls_step.proofs.step.step_free.Goals as goal
 
 pub count_messages-requires : goal.count_messages-requires

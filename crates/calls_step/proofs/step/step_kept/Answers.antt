@@ -9,7 +9,6 @@ use Rattle.table.proofs.InUse.{valid-ledger}
 use Rattle.table_waits.proofs.Ledger.{counted-length}
 use Rattle.calls_act.proofs.Positions.{few-comps}
 use Rattle.calls_step.proofs.Stepping.{step_small, step-uncounted, fits-now, sent-few, count-now, told-good, step-full, step-done, step-took}
-use borrow.Author.Rules.{rules}
 use Rattle.calls_step.proofs.step.step_kept.Goals as goal
 
 pub sweep-s-requires : goal.sweep-s-requires

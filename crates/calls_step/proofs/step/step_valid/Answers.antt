@@ -5,7 +5,6 @@ use Prim.Native.Nat.{◌<◌}
 use lib.ListN.{length}
 use Rattle.table.specs.Words.{locs_in}
 use Rattle.calls_step.proofs.Stepping.{step-out}
-use borrow.Author.Rules.{rules}
 use Rattle.calls_step.proofs.step.step_valid.Goals as goal
 
 pub returns-then-word-l : goal.returns-then-word-l
