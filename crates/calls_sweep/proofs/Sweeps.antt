@@ -1,13 +1,13 @@
 -- The sweep on a valid table stands for the sweep of the rules: the same actions, and components that stand for the rules' ones.
 -- By induction on the positions; at each the choice is the same, whatever number says that there is none.
-use Prim.Native.Nat.{ℕ, zero, suc, ◌+◌, ◌<◌}
+use Prim.Native.Nat.{ℕ, zero, suc, ◌<◌}
 use mathlib.Core.List.{List, ◌++◌, map}
 use mathlib.Core.Bool.{Bool, true, false, cond, ◌&&◌}
 use mathlib.Core.Path.{◌≡◌, refl, sym, ap, subst, ◌∙◌, fun_ext}
 use lib.Dec.{ltb}
 use lib.ListN.{length, length-map}
 use Rattle.terms.specs.Same.{every}
-use Rattle.terms.specs.Rules.{Answer, Action, ◌>>=◌, ok, at, fire, ready, due_go}
+use Rattle.terms.specs.Rules.{Answer, Action, ◌>>=◌, ok, at, fire, due_go}
 use Rattle.terms.specs.Rules.Answer.{refused, accepted}
 use Rattle.terms.specs.Rules.Kind.{calls, moves}
 use Rattle.terms.specs.Rules.Firing.{alone}

@@ -1,7 +1,6 @@
 -- `kind_by` meets its contract: what must act has its own kind.
 use mathlib.Core.Path.{sym, ◌∙◌}
 use Rattle.calls_sweep.specs.Visit.{kind_by}
-use borrow.Author.Rules.{rules}
 use Rattle.calls_sweep.proofs.sweep.kind_by.Goals as goal
 
 pub returns-then-must_act : goal.returns-then-must_act

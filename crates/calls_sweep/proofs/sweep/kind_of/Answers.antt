@@ -1,7 +1,6 @@
 -- `kind_of` meets its contract: in each arm the head is known.
 use mathlib.Core.Path.{sym, ap}
 use Rattle.calls_sweep.specs.Visit.{kind_of}
-use borrow.Author.Rules.{rules}
 use Rattle.calls_sweep.proofs.sweep.kind_of.Goals as goal
 
 pub returns-in-Stop : goal.returns-in-Stop

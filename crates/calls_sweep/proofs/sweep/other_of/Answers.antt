@@ -1,7 +1,6 @@
 -- `other_of` meets its contract.
 use mathlib.Core.Path.{◌∙◌}
 use Rattle.calls_sweep.proofs.Queues.{other-some}
-use borrow.Author.Rules.{rules}
 use Rattle.calls_sweep.proofs.sweep.other_of.Goals as goal
 
 pub returns : goal.returns

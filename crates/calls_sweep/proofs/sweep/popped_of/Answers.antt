@@ -1,6 +1,5 @@
 -- `popped_of` meets its contract.
 use Rattle.calls_sweep.proofs.Queues.{popped-some}
-use borrow.Author.Rules.{rules}
 use Rattle.calls_sweep.proofs.sweep.popped_of.Goals as goal
 
 pub returns : goal.returns

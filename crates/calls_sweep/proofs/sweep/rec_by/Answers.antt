@@ -1,6 +1,5 @@
 -- `rec_by` meets its contract: kind 3 has two positions.
 use borrow.Author.Tests.{eq-eqb, ne_eqb}
-use borrow.Author.Rules.{rules}
 use Rattle.calls_sweep.proofs.sweep.rec_by.Goals as goal
 
 pub returns-then-k-eq3 : goal.returns-then-k-eq3

@@ -1,7 +1,6 @@
 -- `sends_by` meets its contract: who lacks the right has no channel.
 use mathlib.Core.Path.{sym, ◌∙◌}
 use Rattle.calls_sweep.specs.Visit.{sends_by}
-use borrow.Author.Rules.{rules}
 use Rattle.calls_sweep.proofs.sweep.sends_by.Goals as goal
 
 pub returns-then-right_in : goal.returns-then-right_in

@@ -1,7 +1,6 @@
 -- `sent_with` meets its contract: the kind decides.
 use native.Mathlib.Omega.{arith}
 use borrow.Author.Tests.{eq-eqb, ne_eqb}
-use borrow.Author.Rules.{rules}
 use Rattle.calls_sweep.proofs.sweep.sent_with.Goals as goal
 
 pub returns-then-k-eq3 : goal.returns-then-k-eq3

@@ -1,18 +1,11 @@
 -- `sweep` meets its contract. First loop: the chains are those of the components from the position on (Queues).
 -- Second loop: the records written and the sweep over the positions left are the whole sweep (Going).
-use Prim.Native.Nat.{ℕ, ◌-◌, ◌≤◌, ◌<◌}
 use native.Mathlib.Omega.{arith}
-use mathlib.Core.Bool.{true}
-use mathlib.Core.Path.{◌≡◌, sym, ◌∙◌}
-use lib.ListN.{get_or}
-use borrow.Author.Rules.{rules}
+use mathlib.Core.Path.{sym, ◌∙◌}
 use Rattle.table.specs.declared.State.{State}
-use Rattle.table.specs.Meaning.{comp_in}
-use Rattle.table.specs.Valid.{script_ok, comp_ok}
 use Rattle.table.proofs.Tests.{comp-fine}
 use Rattle.calls_act.proofs.Positions.{few-comps, valid-parts}
-use Rattle.calls_sweep.specs.Visit.{sends_at, other_of}
-use Rattle.calls_sweep.proofs.Going.{Going, Adding, going-begin, going-fires, going-idle, going_end, adding-begin, adding-turn, adding-idle, adding-end, good-at, channel-fits, other_fits}
+use Rattle.calls_sweep.proofs.Going.{going-begin, going-fires, going-idle, going_end, adding-begin, adding-turn, adding-idle, adding-end, good-at, channel-fits, other_fits}
 use Rattle.calls_sweep.proofs.sweep.sweep.Goals as goal
 
 pub loop-p-init : goal.loop-p-init
@@ -55,12 +48,11 @@ comp_at-e-requires c =
     omega (arith, z, other_fits c.args.w.now ((valid-parts c.args.w.now (record { c = c.args.c.now; n = c.args.n }) c.requires.0).0) _ _ _ _ _ _ _ _ _ (few-comps c.args.w.now (record { c = c.args.c.now; n = c.args.n }) c.requires.0) c.loop-p.invariant.0 c.loop-p-test.true, (few-comps c.args.w.now (record { c = c.args.c.now; n = c.args.n }) c.requires.0))
 
 pub perform-v-requires : goal.perform-v-requires
-perform-v-requires c =
-    (
-      ((valid-parts c.args.w.now (record { c = c.args.c.now; n = c.args.n }) c.requires.0).0),
-      rw c.comp_at-d.ensures (good-at c.args.w.now ((valid-parts c.args.w.now (record { c = c.args.c.now; n = c.args.n }) c.requires.0).0) _ _ _ _ _ _ _ _ _ (few-comps c.args.w.now (record { c = c.args.c.now; n = c.args.n }) c.requires.0) c.loop-p.invariant.0 c.loop-p-test.true _ (c.loop-p-test.true)),
-      rw (c.comp_at-e.ensures, c.other_of-q.ensures, c.wide-s.ensures, c.sends_at.ensures, c.comp_at-d.ensures) (good-at c.args.w.now ((valid-parts c.args.w.now (record { c = c.args.c.now; n = c.args.n }) c.requires.0).0) _ _ _ _ _ _ _ _ _ (few-comps c.args.w.now (record { c = c.args.c.now; n = c.args.n }) c.requires.0) c.loop-p.invariant.0 c.loop-p-test.true _ (other_fits c.args.w.now ((valid-parts c.args.w.now (record { c = c.args.c.now; n = c.args.n }) c.requires.0).0) _ _ _ _ _ _ _ _ _ (few-comps c.args.w.now (record { c = c.args.c.now; n = c.args.n }) c.requires.0) c.loop-p.invariant.0 c.loop-p-test.true)),
-    )
+perform-v-requires c = (
+  ((valid-parts c.args.w.now (record { c = c.args.c.now; n = c.args.n }) c.requires.0).0),
+  rw c.comp_at-d.ensures (good-at c.args.w.now ((valid-parts c.args.w.now (record { c = c.args.c.now; n = c.args.n }) c.requires.0).0) _ _ _ _ _ _ _ _ _ (few-comps c.args.w.now (record { c = c.args.c.now; n = c.args.n }) c.requires.0) c.loop-p.invariant.0 c.loop-p-test.true _ (c.loop-p-test.true)),
+  rw (c.comp_at-e.ensures, c.other_of-q.ensures, c.wide-s.ensures, c.sends_at.ensures, c.comp_at-d.ensures) (good-at c.args.w.now ((valid-parts c.args.w.now (record { c = c.args.c.now; n = c.args.n }) c.requires.0).0) _ _ _ _ _ _ _ _ _ (few-comps c.args.w.now (record { c = c.args.c.now; n = c.args.n }) c.requires.0) c.loop-p.invariant.0 c.loop-p-test.true _ (other_fits c.args.w.now ((valid-parts c.args.w.now (record { c = c.args.c.now; n = c.args.n }) c.requires.0).0) _ _ _ _ _ _ _ _ _ (few-comps c.args.w.now (record { c = c.args.c.now; n = c.args.n }) c.requires.0) c.loop-p.invariant.0 c.loop-p-test.true)),
+)
 
 pub put_comp-requires : goal.put_comp-requires
 put_comp-requires c = omega (arith, (few-comps c.args.w.now (record { c = c.args.c.now; n = c.args.n }) c.requires.0), c.loop-p-test.true)

@@ -1,7 +1,6 @@
 -- `waited_with` meets its contract: the kind decides.
 use native.Mathlib.Omega.{arith}
 use borrow.Author.Tests.{eq-eqb, ne_eqb}
-use borrow.Author.Rules.{rules}
 use Rattle.calls_sweep.proofs.sweep.waited_with.Goals as goal
 
 pub overflow_add-result : goal.overflow_add-result
