@@ -4,12 +4,11 @@ use Prim.Native.Nat.{ℕ, zero, suc, ◌+◌, ◌*◌, ◌≤◌}
 use native.Mathlib.Omega.{arith}
 use mathlib.Core.List.{List, [], ◌∷◌, flat_map}
 use mathlib.Core.Bool.{Bool, true, false, cond}
-use mathlib.Core.Path.{◌≡◌, ap, sym, subst, ◌∙◌}
+use mathlib.Core.Path.{◌≡◌, subst}
 use lib.Dec.{eqb}
-use lib.ListN.{length, take, length-map, length-append}
-use lib.Seq.{take_at}
+use lib.ListN.{length, length-map, length-append}
 use borrow.Author.Tests.{leb-true}
-use Rattle.terms.specs.Names.{Name, bytes}
+use Rattle.terms.specs.Names.{Name}
 use Rattle.terms.specs.Terms.{Component, Context}
 use Rattle.terms.specs.Terms.Label.{called, moved, sent}
 use Rattle.terms.specs.Rules.{Answer, Action, Acted, at, act}
@@ -25,8 +24,6 @@ use Rattle.table.proofs.Names.{short-enough}
 use Rattle.table.proofs.Fires.{map_a, acted_of}
 use Rattle.table.proofs.Granted.{act-means}
 use Rattle.calls_act.proofs.Positions.{valid-parts}
-use Rattle.text_letters.specs.Put.{Wrote}
-use Rattle.text_letters.proofs.Puts.{after-room, over-whole}
 use Rattle.run_line.specs.Line.{label_text, spaced, line_text, step_labels}
 use Rattle.run_line.specs.Records.{label_by}
 use Rattle.run_line.proofs.Labels.{step-before}

@@ -3,7 +3,6 @@
 use Rattle.calls_act.specs.Acted.{action_allowed}
 use Rattle.text_letters.proofs.Puts.{then, same}
 use Rattle.run_line.proofs.Lines.{action-text}
-use borrow.Author.Rules.{rules}
 use Rattle.run_line.proofs.put_action.Goals as goal
 
 pub returns : goal.returns

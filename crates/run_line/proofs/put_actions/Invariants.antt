@@ -1,15 +1,13 @@
 -- The labels, one record after the other.
 -- Idea: what is left to put is the labels of the records from the number on.
 use Prim.Native.Nat.{◌-◌, ◌≤◌}
-use native.Mathlib.Omega.{arith}
-use mathlib.Core.List.{[], flat_map}
-use mathlib.Core.Path.{◌≡◌, refl}
-use lib.ListN.{length, get_or, take}
-use Rattle.text_letters.proofs.Puts.{Left, begun, step, done, left_as}
+use mathlib.Core.List.{flat_map}
+use mathlib.Core.Path.{◌≡◌}
+use lib.ListN.{length, take}
+use Rattle.text_letters.proofs.Puts.{Left}
 use Rattle.run_line.specs.Line.{spaced}
 use Rattle.run_line.specs.Records.{label_in}
-use Rattle.run_line.proofs.Lines.{rest, rest-next, rest_end, fires-at}
-use borrow.Author.Rules.{rules}
+use Rattle.run_line.proofs.Lines.{rest}
 use Rattle.run_line.proofs.put_actions.Given as goal
 
 abbrev pub invariant-loop-j : goal.invariant-loop-j

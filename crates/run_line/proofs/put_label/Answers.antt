@@ -2,7 +2,6 @@
 -- By what a label in numbers stands for.
 use Rattle.text_letters.proofs.Puts.{same}
 use Rattle.run_line.proofs.Lines.{label-call, label-move, label-sent}
-use borrow.Author.Rules.{rules}
 use Rattle.run_line.proofs.put_label.Goals as goal
 
 pub returns-then-x-eq1 : goal.returns-then-x-eq1

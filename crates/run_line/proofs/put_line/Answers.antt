@@ -6,7 +6,6 @@ use Rattle.table.specs.Words.{locs_at, name_at, loc_name, name_size}
 use Rattle.text_letters.proofs.Puts.{then, same}
 use Rattle.run_line.specs.Line.{spaced, line_text}
 use Rattle.run_line.proofs.Lines.{held-labels, held-fire}
-use borrow.Author.Rules.{rules}
 use Rattle.run_line.proofs.put_line.Goals as goal
 
 pub put_actions-b-requires : goal.put_actions-b-requires

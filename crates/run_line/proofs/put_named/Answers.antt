@@ -4,7 +4,6 @@ use Prim.Native.Nat.{◌+◌, ◌*◌}
 use mathlib.Core.Path.{ap}
 use Rattle.table.specs.Words.{locs_at, name_at, loc_name, name_size}
 use Rattle.text_letters.proofs.Puts.{then, same}
-use borrow.Author.Rules.{rules}
 use Rattle.run_line.proofs.put_named.Goals as goal
 
 pub returns : goal.returns
