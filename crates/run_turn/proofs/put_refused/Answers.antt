@@ -1,5 +1,4 @@
 -- Three runs of bytes.
-use borrow.Author.Rules.{rules}
 use Rattle.text_letters.proofs.Puts.{then}
 use Rattle.run_turn.specs.Turn.{refused_text}
 use Rattle.run_turn.proofs.put_refused.Goals as goal

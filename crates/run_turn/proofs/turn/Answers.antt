@@ -1,6 +1,5 @@
 -- The step is refused, or its line is written.
 use native.Mathlib.Omega.{arith}
-use borrow.Author.Rules.{rules}
 use Rattle.run_line.proofs.Lines.{step-holds}
 use Rattle.run_line.proofs.Fits.{few}
 use Rattle.run_turn.proofs.Turning.{as-answer, turn_stopped, turn-went}
