@@ -19,10 +19,9 @@ use Rattle.text.proofs.Gives.{under-gives, known-edition}
 use Rattle.table.specs.declared.State.{State}
 use Rattle.table.specs.Words.{edition_in}
 use Rattle.table.specs.Meaning.{network_of}
-use Rattle.table.specs.Valid.{valid}
 use Rattle.text_answer.specs.declared.Settings.{Settings}
 use Rattle.text_answer.specs.declared.Reading.{Reading}
-use Rattle.text_answer.specs.Answer.{Took, ReadsAnswer, ReadsAs}
+use Rattle.text_answer.specs.Answer.{ReadsAnswer, ReadsAs}
 use Rattle.text_read.proofs.Numbers.{AmongAll, among-all}
 use Rattle.text_write.specs.Answer.{write_answer}
 use Rattle.text_back.proofs.RoundTrip.{written-again, written-valid}
