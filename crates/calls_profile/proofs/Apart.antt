@@ -1,7 +1,6 @@
 -- No role is taken twice: one more component at the end of a list, and the first components of one.
 -- By induction on the list: whether one comes again does not depend on which of the two stands first.
 use Prim.Native.Nat.{ℕ, ◌+◌, ◌<◌}
-use native.Mathlib.Omega.{arith}
 use mathlib.Core.List.{List, [], ◌∷◌, ◌++◌}
 use mathlib.Core.Bool.{Bool, true, false, cond, ◌&&◌, ◌||◌, not, false≢true, and-true, and_assoc, or-false}
 use mathlib.Core.Path.{◌≡◌, refl, sym, ap, ◌∙◌}

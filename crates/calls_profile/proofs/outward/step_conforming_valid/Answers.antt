@@ -3,7 +3,6 @@ use mathlib.Core.Path.{refl}
 use lib.ListN.{length}
 use borrow.Author.Tests.{not-true, not-false}
 use Rattle.calls_profile.proofs.Answering.{test-refused, test-answered}
-use borrow.Author.Rules.{rules}
 use Rattle.calls_profile.proofs.outward.step_conforming_valid.Goals as goal
 
 pub returns-then-t-ne0 : goal.returns-then-t-ne0

@@ -1,12 +1,10 @@
 -- `test_valid` meets its contract: question 8, then the test by numbers.
 use native.Mathlib.Omega.{arith}
-use mathlib.Core.Path.{sym, ap, ◌∙◌}
 use borrow.Author.Tests.{lt-ltb, le-ltb}
 use Prim.Native.Nat.{◌<◌, ◌≤◌}
 use Rattle.table.specs.Words.{locs_in}
 use Rattle.calls_profile.specs.Profiled.{conforms_in, test_rule}
 use Rattle.calls_profile.proofs.Conforming.{conforms-means}
-use borrow.Author.Rules.{rules}
 use Rattle.calls_profile.proofs.outward.test_valid.Goals as goal
 
 pub returns-then-word-l : goal.returns-then-word-l

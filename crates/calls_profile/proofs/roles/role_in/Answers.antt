@@ -3,7 +3,6 @@ use Prim.Native.Nat.{◌+◌}
 use mathlib.Core.Path.{sym, ap, ◌∙◌}
 use Rattle.table.specs.Split.{due_at}
 use Rattle.calls_profile.specs.Roles.{receivers, role_in}
-use borrow.Author.Rules.{rules}
 use Rattle.calls_profile.proofs.roles.role_in.Goals as goal
 
 pub returns-then-is_due : goal.returns-then-is_due

@@ -3,7 +3,6 @@ use mathlib.Core.Path.{sym, ap, ◌∙◌}
 use Rattle.table.specs.Words.{head_at}
 use Rattle.calls_profile.specs.Roles.{role_in, role_of}
 use Rattle.calls_fire.proofs.Heads.{place-fits}
-use borrow.Author.Rules.{rules}
 use Rattle.calls_profile.proofs.roles.role_of.Goals as goal
 
 pub head_at-h-requires : goal.head_at-h-requires

@@ -1,9 +1,9 @@
 -- `conforms_at` meets its contract. The loop's invariant: the roles of the components looked at are noted, and none was taken twice.
-use Prim.Native.Nat.{◌+◌, ◌-◌, ◌≤◌, ◌<◌}
+use Prim.Native.Nat.{◌+◌, ◌<◌}
 use native.Mathlib.Omega.{arith}
-use mathlib.Core.Bool.{Bool, true, false}
+use mathlib.Core.Bool.{true}
 use mathlib.Core.Path.{◌≡◌, refl, sym, ap, subst, ◌∙◌}
-use lib.ListN.{length, get_or, take, set, length-set}
+use lib.ListN.{length, take, set, length-set}
 use lib.Seq.{take_all}
 use Rattle.table.specs.declared.State.{State}
 use Rattle.table.specs.Meaning.{comps_of, no_comp}

@@ -1,20 +1,11 @@
 -- `conforms_at` meets its contract. The loop's invariant: the roles of the components looked at are noted, and none was taken twice.
-use Prim.Native.Nat.{◌+◌, ◌-◌, ◌≤◌, ◌<◌}
-use native.Mathlib.Omega.{arith}
-use mathlib.Core.Bool.{Bool, true, false}
-use mathlib.Core.Logic.{⊎_elim}
-use mathlib.Core.Path.{◌≡◌, refl, sym, ap, subst, ◌∙◌}
-use lib.ListN.{length, get_or, take, set, length-set}
-use lib.Seq.{take_all}
-use Rattle.table.specs.declared.State.{State}
-use Rattle.table.specs.Meaning.{comps_of, no_comp}
-use Rattle.table.proofs.ValidBool.{failed, passed}
-use Rattle.table.proofs.InUse.{comps-length, in_use}
-use Rattle.calls_act.proofs.Positions.{few-comps, valid-parts, comp-good}
+use Prim.Native.Nat.{◌-◌, ◌≤◌}
+use mathlib.Core.Bool.{true}
+use mathlib.Core.Path.{◌≡◌}
+use lib.ListN.{length, take}
+use Rattle.table.specs.Meaning.{comps_of}
 use Rattle.calls_forced.specs.Marked.{Marked}
-use Rattle.calls_forced.proofs.Marking.{marked-none, marked-one, marked-past}
-use Rattle.calls_profile.specs.Roles.{no_role, role_of, apart, is_free}
-use Rattle.calls_profile.proofs.Apart.{next-apart, apart-fails}
+use Rattle.calls_profile.specs.Roles.{no_role, role_of, apart}
 use Rattle.calls_profile.proofs.test.conforms_at.Given as goal
 
 abbrev pub invariant-loop-j : goal.invariant-loop-j

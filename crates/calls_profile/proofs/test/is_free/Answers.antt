@@ -1,7 +1,6 @@
 -- `is_free` meets its contract: by the two cases of the role.
 use borrow.Author.Tests.{lt-ltb, le-ltb}
 use Rattle.calls_profile.specs.Roles.{comes, is_free}
-use borrow.Author.Rules.{rules}
 use Rattle.calls_profile.proofs.test.is_free.Goals as goal
 
 pub returns-then-k-lt-NO_ROLE : goal.returns-then-k-lt-NO_ROLE
