@@ -1,16 +1,9 @@
 -- The loop's invariant: what was printed stands in front of what is left, l locations of the round being done. A round is counted
 -- as 64 steps, and what a step prints as 13,329 bytes.
-use Prim.Native.Nat.{◌+◌, ◌*◌, ◌-◌, ◌≤◌, ◌<◌}
 use native.Mathlib.Omega.{arith}
-use mathlib.Core.Bool.{true}
-use mathlib.Core.Path.{◌≡◌, refl, ◌∙◌}
-use lib.ListN.{length}
+use mathlib.Core.Path.{refl, ◌∙◌}
 use borrow.Author.Rules.{rules}
-use Rattle.table.specs.Meaning.{context_of, counted_of}
-use Rattle.table.specs.Valid.{valid}
-use Rattle.text_build.specs.Rows.{locs_of}
-use Rattle.run_print.specs.Print.{four, playing}
-use Rattle.run_print.proofs.Playing.{locs-some, locs-few, Playing, play-first, play-stopped, play-on, play-next, play-end}
+use Rattle.run_print.proofs.Playing.{locs-some, locs-few, play-first, play-stopped, play-on, play-next, play-end}
 use Rattle.run_turn.proofs.Fits.{turn-ends}
 use Rattle.run_print.proofs.Fits.{ending-ends}
 use Rattle.run_print.proofs.play.Goals as goal

@@ -1,6 +1,5 @@
 -- The text is refused, or its network plays.
 use native.Mathlib.Omega.{arith}
-use borrow.Author.Rules.{rules}
 use Rattle.text_letters.proofs.Puts.{same}
 use Rattle.run_print.proofs.Playing.{as-given, whole-refused, whole-number, whole-good, whole-printed}
 use Rattle.run_turn.proofs.Fits.{refused-ends}

@@ -1,7 +1,6 @@
 -- A part of a slice is as long as was asked.
 use mathlib.Core.Path.{sym}
 use lib.Seq.{length-take-le}
-use borrow.Author.Rules.{rules}
 use Rattle.run_print.proofs.put_first.Goals as goal
 
 pub slice_bounds-put_all-end : goal.slice_bounds-put_all-end

@@ -1,6 +1,5 @@
 -- There were no messages, or the mean is written as a number.
 -- By the answer of `mean_of` (Means).
-use borrow.Author.Rules.{rules}
 use Rattle.text_letters.proofs.Puts.{same, then}
 use Rattle.run_print.proofs.Means.{line-none, line-some, in-range}
 use Rattle.run_print.proofs.put_mean.Goals as goal
