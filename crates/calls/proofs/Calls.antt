@@ -21,7 +21,6 @@ use Rattle.calls_tick.specs.Ticked.{tick_answer, refusal, TicksAs}
 use Rattle.calls_tick.specs.Ticked as T
 use Rattle.table.proofs.Fires.{map-append}
 use Rattle.terms.specs.Runs.{Fed}
-use Rattle.calls_step.specs.Stepped.{left}
 use Rattle.calls.specs.Run.Given.{action, tick}
 use Rattle.calls.specs.Run.{Given, answer_to, DoesAs, feeds, given_by, Run, RunsAs}
 use Rattle.calls.proofs.Demand3.{mixed-calls}

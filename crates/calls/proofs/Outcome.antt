@@ -7,7 +7,7 @@ use mathlib.Core.Path.{◌≡◌, refl, sym, ap, ◌∙◌}
 use lib.Dec.{ltb}
 use lib.ListN.{length}
 use Rattle.terms.specs.Names.{Name}
-use Rattle.terms.specs.Terms.{Component, Context, Label}
+use Rattle.terms.specs.Terms.{Component, Context}
 use Rattle.terms.specs.Rules.{Action}
 use Rattle.terms.specs.Rules.Answer.{accepted}
 use Rattle.terms.specs.Step.{Done, act_at, act_all, whole_step}

@@ -1,10 +1,10 @@
 -- An example for a publisher: document 02, R-6. Pages are read in a vault and at a scanner. The vault may leave for the desk alone and the desk for the vault, so
 -- that no chain of leave rights leads from the vault to the public index, and no page from the vault ever stands there, whatever calls are given. The proof of
 -- `Embargoed` is `embargoed` in proofs/Embargo; the other examples are settled by computation.
-use Rattle.std.specs.Prelude.{ℕ, List, [], ◌∷◌, ◌++◌, Bool, true, false, cond, ◌||◌, ◌≡◌, refl, replicate}
+use Rattle.std.specs.Prelude.{ℕ, List, [], ◌∷◌, ◌++◌, Bool, true, false, ◌||◌, ◌≡◌, refl, replicate}
 use Rattle.terms.specs.Names.{Name, same_name, bytes}
 use Rattle.terms.specs.Terms.{Component, Network, Context}
-use Rattle.terms.specs.Rules.{Answer, Action, ◌>>=◌, act, at, forced}
+use Rattle.terms.specs.Rules.{Answer, ◌>>=◌, act, at}
 use Rattle.terms.specs.Rules.Answer.{refused, accepted}
 use Rattle.terms.specs.Rules.Kind.{moves}
 use Rattle.terms.specs.Rules.Action.{single}

@@ -2,7 +2,7 @@
 -- content are given one after another from what it returned, actions, ticks, steps and proposals at all locations mixed: a component stands only where its
 -- ancestor was read or where a chain of leave rights leads from there. Ancestors and chains are those of Descent of the crate terms. The proofs are `leave-chain`,
 -- `embargo`, `kept-inside`, `as_before` and `not-looked-at` in proofs/Leaving.
-use Rattle.std.specs.Prelude.{ℕ, List, Bool, true, ◌≡◌, length}
+use Rattle.std.specs.Prelude.{ℕ, List, Bool, ◌≡◌, length}
 use Rattle.terms.specs.Names.{Name}
 use Rattle.terms.specs.Terms.{Component, Network, context_in, all_rights}
 use Rattle.terms.specs.Clock.{edition_of}

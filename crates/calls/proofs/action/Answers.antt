@@ -1,7 +1,6 @@
 -- `action` meets its contract: question 17, then the action on a valid table.
 use mathlib.Core.Path.{refl, sym, ◌∙◌}
 use Rattle.calls_act.specs.Acted.{action_answer}
-use borrow.Author.Rules.{rules}
 use Rattle.calls.proofs.action.Goals as goal
 
 pub act_valid-requires : goal.act_valid-requires

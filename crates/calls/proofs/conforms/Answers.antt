@@ -1,7 +1,6 @@
 -- `conforms` meets its contract: question 17, then the test on a valid table.
 use mathlib.Core.Path.{sym, ◌∙◌}
 use Rattle.calls_profile.specs.Profiled.{test_answer}
-use borrow.Author.Rules.{rules}
 use Rattle.calls.proofs.conforms.Goals as goal
 
 pub test_valid-requires : goal.test_valid-requires

@@ -1,7 +1,6 @@
 -- `forced_report` meets its contract: question 17, then the report of a valid table.
 use mathlib.Core.Path.{sym, ◌∙◌}
 use Rattle.calls_forced.specs.Report.{forced_report}
-use borrow.Author.Rules.{rules}
 use Rattle.calls.proofs.forced_report.Goals as goal
 
 pub forced_valid-requires : goal.forced_valid-requires

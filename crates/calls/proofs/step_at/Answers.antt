@@ -1,7 +1,6 @@
 -- `step_at` meets its contract: question 17, then the step on a valid table.
 use mathlib.Core.Path.{refl, sym, ◌∙◌}
 use Rattle.calls_step.specs.Stepped.{step_answer}
-use borrow.Author.Rules.{rules}
 use Rattle.calls.proofs.step_at.Goals as goal
 
 pub step_valid-requires : goal.step_valid-requires

@@ -1,7 +1,6 @@
 -- `step_conforming` meets its contract: question 17, then the conforming step on a valid table.
 use mathlib.Core.Path.{refl, sym, ◌∙◌}
 use Rattle.calls_profile.specs.Profiled.{conforming_answer}
-use borrow.Author.Rules.{rules}
 use Rattle.calls.proofs.step_conforming.Goals as goal
 
 pub step_conforming_valid-requires : goal.step_conforming_valid-requires

@@ -1,7 +1,6 @@
 -- `tick_at` meets its contract: question 17, then the tick on a valid table.
 use mathlib.Core.Path.{refl, sym, ◌∙◌}
 use Rattle.calls_tick.specs.Ticked.{tick_answer}
-use borrow.Author.Rules.{rules}
 use Rattle.calls.proofs.tick_at.Goals as goal
 
 pub tick_valid-requires : goal.tick_valid-requires

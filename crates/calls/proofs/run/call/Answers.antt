@@ -7,7 +7,6 @@ use Rattle.calls_act.specs.Acted.{action_answer, action_rule}
 use Rattle.calls_tick.specs.Ticked.{tick_answer, tick_rule}
 use Rattle.calls.specs.Run.{answer_to, given_by}
 use Rattle.calls.proofs.Calls.{tick-does, act-does, refused-17}
-use borrow.Author.Rules.{rules}
 use Rattle.calls.proofs.run.call.Goals as goal
 
 pub returns-then-not-good : goal.returns-then-not-good

@@ -1,11 +1,7 @@
 -- `run` meets its contract. The loop's invariant: the calls made so far are a run, and the codes past them are as they were.
 use native.Mathlib.Omega.{arith}
-use mathlib.Core.Path.{◌≡◌, refl, sym, ◌∙◌}
-use borrow.Author.Rules.{rules}
-use Prim.Native.Nat.{◌≤◌, ◌-◌}
-use lib.ListN.{length}
-use Rattle.table.specs.Valid.{valid}
-use Rattle.calls.proofs.Calls.{Running, running-begin, running_more, running-end}
+use mathlib.Core.Path.{refl, sym, ◌∙◌}
+use Rattle.calls.proofs.Calls.{running-begin, running_more, running-end}
 use Rattle.calls.proofs.run.run.Goals as goal
 
 pub loop-j-init : goal.loop-j-init

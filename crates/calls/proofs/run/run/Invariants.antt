@@ -1,11 +1,9 @@
 -- `run` meets its contract. The loop's invariant: the calls made so far are a run, and the codes past them are as they were.
-use native.Mathlib.Omega.{arith}
-use mathlib.Core.Path.{◌≡◌, refl, sym, ◌∙◌}
-use borrow.Author.Rules.{rules}
+use mathlib.Core.Path.{◌≡◌}
 use Prim.Native.Nat.{◌≤◌, ◌-◌}
 use lib.ListN.{length}
 use Rattle.table.specs.Valid.{valid}
-use Rattle.calls.proofs.Calls.{Running, running-begin, running_more, running-end}
+use Rattle.calls.proofs.Calls.{Running}
 use Rattle.calls.proofs.run.run.Given as goal
 
 abbrev pub invariant-loop-j : goal.invariant-loop-j

@@ -2,7 +2,6 @@
 use native.Mathlib.Omega.{arith}
 use mathlib.Core.Path.{◌≡◌}
 use Rattle.calls.proofs.Demand3.{text-refused, text-ran}
-use borrow.Author.Rules.{rules}
 use Rattle.calls.proofs.run.run_text.Goals as goal
 
 pub returns-then-r-ne0 : goal.returns-then-r-ne0
