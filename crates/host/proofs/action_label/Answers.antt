@@ -2,11 +2,9 @@
 -- By the law of the label that the code gives back.
 use native.Mathlib.Omega.{arith}
 use mathlib.Core.Path.{sym, ◌∙◌}
-use borrow.Author.Tests.{not-true, not-false}
 use Rattle.host.specs.Shown.{label_answer}
 use Rattle.host.proofs.Given.{refuses, answers-as}
 use Rattle.host.proofs.Labelled.{label-refused, label-taken}
-use borrow.Author.Rules.{rules}
 use Rattle.host.proofs.action_label.Goals as goal
 
 pub returns-then-not-is_valid : goal.returns-then-not-is_valid

@@ -1,6 +1,5 @@
 -- The names of channels stand one after another.
 use Rattle.table.specs.Words.{chan_name}
-use borrow.Author.Rules.{rules}
 use Rattle.host.proofs.channel_name.Goals as goal
 
 pub returns : goal.returns

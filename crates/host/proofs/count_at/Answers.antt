@@ -2,7 +2,6 @@
 -- By the answer to question 17.
 use mathlib.Core.Path.{sym, ◌∙◌}
 use Rattle.host.specs.Shown.{count_answer}
-use borrow.Author.Rules.{rules}
 use Rattle.host.proofs.count_at.Goals as goal
 
 pub returns-then-is_valid : goal.returns-then-is_valid

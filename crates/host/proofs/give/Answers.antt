@@ -5,7 +5,6 @@ use mathlib.Core.Path.{sym}
 use lib.ListN.{take}
 use lib.Seq.{length-take-le}
 use Rattle.host.proofs.Given.{too_long, given}
-use borrow.Author.Rules.{rules}
 use Rattle.host.proofs.give.Goals as goal
 
 pub returns-then-buf-k : goal.returns-then-buf-k

@@ -3,7 +3,6 @@
 use native.Mathlib.Omega.{arith}
 use Rattle.run_line.proofs.Fits.{name-short}
 use Rattle.host.proofs.Given.{fits, handed}
-use borrow.Author.Rules.{rules}
 use Rattle.host.proofs.give_name.Goals as goal
 
 pub give-requires : goal.give-requires

@@ -1,6 +1,5 @@
 -- The names of locations stand one after another.
 use Rattle.table.specs.Words.{loc_name}
-use borrow.Author.Rules.{rules}
 use Rattle.host.proofs.location_name.Goals as goal
 
 pub returns : goal.returns

@@ -3,11 +3,10 @@
 use Prim.Native.Nat.{◌≤◌, ◌<◌}
 use native.Mathlib.Omega.{arith}
 use mathlib.Core.Path.{sym, ◌∙◌}
-use borrow.Author.Tests.{not-true, not-false, lt-ltb, le-ltb}
+use borrow.Author.Tests.{lt-ltb, le-ltb}
 use Rattle.table.specs.Words.{word}
 use Rattle.host.specs.Shown.{name_answer}
 use Rattle.host.proofs.Given.{refuses}
-use borrow.Author.Rules.{rules}
 use Rattle.host.proofs.name_at.Goals as goal
 
 pub returns-then-not-is_valid : goal.returns-then-not-is_valid

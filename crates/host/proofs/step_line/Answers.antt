@@ -2,13 +2,11 @@
 -- By the law of a line made from the step, and the law that a line has at most 13,329 bytes.
 use native.Mathlib.Omega.{arith}
 use mathlib.Core.Path.{sym, ◌∙◌}
-use borrow.Author.Tests.{not-true, not-false}
 use Rattle.run_line.proofs.Lines.{step-holds}
 use Rattle.run_line.proofs.Fits.{line-short}
 use Rattle.host.specs.Shown.{line_answer}
 use Rattle.host.proofs.Given.{fits, handed, refuses, answers-as}
 use Rattle.host.proofs.Lined.{asked-first, line_refused, line_taken}
-use borrow.Author.Rules.{rules}
 use Rattle.host.proofs.step_line.Goals as goal
 
 pub returns-then-not-is_valid : goal.returns-then-not-is_valid
