@@ -2,7 +2,6 @@
 -- By the law of a text that is never refused: it is shorter than where the count stops.
 use native.Mathlib.Omega.{arith}
 use Rattle.host.proofs.Shows.{shows}
-use borrow.Author.Rules.{rules}
 use Rattle.timo.proofs.timo_printout.Goals as goal
 
 pub returns : goal.returns
