@@ -4,7 +4,7 @@
 
 ghost use Rattle.std.specs.Prelude.{◌≤◌, length};
 
-use std::io::Write;
+use std::io::{Read, Write};
 
 // The place of the next `#` from a on, or the end.
 fn mark(s: &[u8], a: usize) -> usize
@@ -31,10 +31,27 @@ fn one<W: Write>(to: &mut W, text: &[u8]) {
     run_emit::emit(to, b"#\n", 2);
 }
 
+// What comes up to the end, up to a read that fails, or until the buffer is full: how many bytes.
+fn read_full<R: Read>(from: &mut R, buf: &mut [u8]) -> usize
+    ensures { result ≤ length buf.new }
+{
+    let mut n: usize = 0;
+    while n < buf.len() {
+        let k = match from.read(&mut buf[n..]) {
+            Ok(k) => k,
+            Err(_) => 0,
+        };
+        if k == 0 {
+            return n;
+        }
+        n += k;
+    }
+    n
+}
+
 fn main(rt: HostRuntime) {
     let mut text = [0u8; 65536];
-    let r = run_emit::read_input(&mut rt.stdin(), &mut text);
-    let n = r.len;
+    let n = read_full(&mut rt.stdin(), &mut text);
     all(&mut rt.stdout(), &text[..n]);
 }
 

@@ -1,6 +1,5 @@
 -- The text is refused, or its network is the first.
 use mathlib.Core.Path.{refl}
-use borrow.Author.Rules.{rules}
 use Rattle.run_print.proofs.Playing.{as-given}
 use Rattle.run_pieces.proofs.Pieces.{begins}
 use Rattle.run_pieces.proofs.begin.Goals as goal

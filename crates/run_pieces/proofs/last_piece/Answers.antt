@@ -1,6 +1,5 @@
 -- After the last step: the mean, or the network, which is refused or written.
 use native.Mathlib.Omega.{arith}
-use borrow.Author.Rules.{rules}
 use Rattle.table.proofs.InUse.{valid-ledger}
 use Rattle.run_pieces.proofs.Pieces.{piece-mean, piece-unwritten, piece-written}
 use Rattle.run_pieces.proofs.last_piece.Goals as goal

@@ -1,7 +1,6 @@
 -- The network is refused, or written.
 use native.Mathlib.Omega.{arith}
 use mathlib.Core.Path.{◌∙◌}
-use borrow.Author.Rules.{rules}
 use Rattle.run_pieces.proofs.Pieces.{front-refused, front-written}
 use Rattle.run_pieces.proofs.put_ending.Goals as goal
 
