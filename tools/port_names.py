@@ -1,7 +1,7 @@
 #!/usr/bin/env python3
 """Brings the names of definitions and lemmas to one spelling: words in snake case, types in camel case, a dash between the parts of a lemma's name.
 
-usage: python3 tools/port_names.py        at the top, once, on what /opt/rattle/port/port.py leaves; tools/port_names.tsv has the names
+usage: python3 tools/port_names.py        at the top, once, on what port.py of the toolchain leaves; tools/port_names.tsv has the names
 
 It changes specs/, proofs/, clauses, edits and the pages that cite a name; functions, fields and parameters of src/, C names and strings keep theirs.
 """
