@@ -1,23 +1,13 @@
 -- Each component of the first uses up the first equal one of the second that is not yet used.
 -- Idea: what is left of the first, and the unused ones of the second, are the same exactly if all are.
 use native.Mathlib.Omega.{arith}
-use mathlib.Core.Bool.{Bool, true, false, not, false≢true}
-use mathlib.Core.Path.{◌≡◌, refl, ap, sym, ◌∙◌}
+use mathlib.Core.Bool.{false≢true}
+use mathlib.Core.Path.{refl, sym, ◌∙◌}
 use borrow.Author.Count.{below_more}
 use Rattle.table.proofs.InUse.{valid-script, valid-state, comp-held}
 use Rattle.calls_same.proofs.Matched.{net-length, uneven, Used, used-more, raised-small, Left, begun, step, stuck, ended}
 use Rattle.calls_same.proofs.comps.same_comps.Goals as goal
 use Rattle.calls_same.proofs.comps.same_comps.Goals.{then-not-used-p+else-same_comp, else-not-used-p}
-
-free : {b : Bool} → not b ≡ true → b ≡ false
-free {b} e = go b e
-  where
-    go : (c : Bool) → not c ≡ true → c ≡ false
-    go true e = absurd (false≢true e)
-    go false e = refl
-
-taken : {b : Bool} → b ≡ false → not b ≡ false → ⊥
-taken e n = false≢true (sym n ∙ ap not e)
 
 pub returns-then-n-m : goal.returns-then-n-m
 returns-then-n-m c =
