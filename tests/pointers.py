@@ -42,7 +42,7 @@ def files():
     yield "README.md"
     for top in ("crates", "reference", "compare", "examples", "include", "tests", "docs"):
         for at, folders, names in os.walk(os.path.join(TOP, top)):
-            folders[:] = sorted(f for f in folders if f != "target")
+            folders[:] = sorted(f for f in folders if f not in ("target", "out"))
             for name in sorted(names):
                 path = os.path.relpath(os.path.join(at, name), TOP)
                 if name.endswith((".antt", ".rt", ".rs", ".md", ".sh", ".h", ".c", ".cpp")) and path != "docs/ENGINE.md":
