@@ -16,3 +16,4 @@ pub mod InUse
 pub mod Stores
 pub mod Rows
 pub mod ValidDefs
+pub mod Ranges

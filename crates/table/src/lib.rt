@@ -29,6 +29,7 @@
 //   proofs/ValidLists   what a loop over a list has shown
 //   proofs/Rows         names and scopes as the words of rows have them
 //   proofs/ValidDefs    the parameters of a definition
+//   proofs/Ranges       the library's words for tests over a range of numbers
 #![tactic(auto)]
 
 pub mod comps;

@@ -16,3 +16,5 @@ pub mod Rights
 pub mod Descent
 pub mod Numbered
 pub mod Substitution
+pub mod Library
+pub mod Refusals

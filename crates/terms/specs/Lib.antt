@@ -10,4 +10,5 @@ pub mod Same
 pub mod Characters
 pub mod Letters
 pub mod Clock
+pub mod Refusals
 pub mod Examples

@@ -9,7 +9,7 @@ use borrow.Author.Tests.{eq-eqb, leb-false}
 use lib.Dec.{eqb, leb}
 use lib.ListN.{length, take, drop, get_or}
 use Rattle.terms.specs.Names.{Name, bytes, same_name}
-use Rattle.terms.specs.declared.Made.TheVariants.{Valid, TooLarge}
+use Rattle.std.specs.Prelude.{Some, None}
 use Rattle.terms.specs.Clock.{made_of}
 use Rattle.text.specs.Tokens.{Token, lex, digits, number}
 use Rattle.text.specs.Tokens.Token.{word, sign}
@@ -109,27 +109,27 @@ timer-ticks (exactly n) us w f g e r k =
 timer-ticks forever us w f g e r k = let i : w ≡ bytes "inf" = cc in absurd (false≢true (sym e ∙ ap (λ x. same_name x (bytes "inf")) i))
 
 -- the timer's constructor takes the number of a timer of a text, and keeps it
-made-is : (n : ℕ) (x : CodeTimer) → made_of n ≡ Valid x → x.raw ≡ n
+made-is : (n : ℕ) (x : CodeTimer) → made_of n ≡ Some x → x.raw ≡ n
 unfolding made_of
 made-is n x e = go (leb n 1_000_000) e
   where
-    go : (b : Bool) → cond b (Valid (record { raw = n })) TooLarge ≡ Valid x → x.raw ≡ n
+    go : (b : Bool) → cond b (Some (record { raw = n })) None ≡ Some x → x.raw ≡ n
     go true e = let f : record { raw = n } ≡ x = cc in sym (ap (λ y. y.raw) f)
     go false e = let z : ◌≡◌ {A = ℕ} 0 1 = cc in absurd (omega arith)
 
-made-not : (n : ℕ) → made_of n ≡ TooLarge → 1_000_000 < n
+made-not : (n : ℕ) → made_of n ≡ None → 1_000_000 < n
 unfolding made_of
 made-not n e = go (leb n 1_000_000) refl e
   where
-    go : (b : Bool) → leb n 1_000_000 ≡ b → cond b (Valid (record { raw = n })) TooLarge ≡ TooLarge → 1_000_000 < n
+    go : (b : Bool) → leb n 1_000_000 ≡ b → cond b (Some (record { raw = n })) None ≡ None → 1_000_000 < n
     go true f e = let z : ◌≡◌ {A = ℕ} 0 1 = cc in absurd (omega arith)
     go false f e = leb-false n 1_000_000 f
 
 module _ (t : Span) (us : List Token) (w : Name) (f : WellTimer (timer_of t)) (g : word w ∷ us ≡ timer_t t us) (e : same_name w (bytes "inf") ≡ false) (n : ℕ) (k : number w ≤ 1_000_000 → n ≡ number w) where
-  pub timer-made : (x : CodeTimer) → made_of n ≡ Valid x → x.raw ≡ timer_word (timer_of t)
+  pub timer-made : (x : CodeTimer) → made_of n ≡ Some x → x.raw ≡ timer_word (timer_of t)
   timer-made x m = timer-ticks t us w f g e x.raw (λ h. made-is n x m ∙ k h)
 
-  pub timer-large : made_of n ≡ TooLarge → 0 ≡ timer_word (timer_of t)
+  pub timer-large : made_of n ≡ None → 0 ≡ timer_word (timer_of t)
   unfolding timer_word same_name
   timer-large m = go t f g
     where

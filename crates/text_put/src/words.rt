@@ -61,8 +61,8 @@ fn timer_of(w: &[u8]) -> u32
         return terms::Timer::INF.raw;
     }
     match terms::Timer::new(text_words::number_of(w)) {
-        terms::Made::Valid(t) => t.raw,
-        terms::Made::TooLarge => 0,
+        Some(t) => t.raw,
+        None => 0,
     }
 }
 
