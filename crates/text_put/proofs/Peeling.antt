@@ -9,7 +9,7 @@ use borrow.Author.Tests.{eq-eqb, leb-false}
 use lib.Dec.{eqb, leb}
 use lib.ListN.{length, take, drop, get_or}
 use Rattle.terms.specs.Names.{Name, bytes, same_name}
-use Rattle.std.specs.Prelude.{Some, None}
+use Rattle.std.specs.Prelude.{Option, Some, None}
 use Rattle.terms.specs.Clock.{made_of}
 use Rattle.text.specs.Tokens.{Token, lex, digits, number}
 use Rattle.text.specs.Tokens.Token.{word, sign}
@@ -121,7 +121,7 @@ made-not : (n : ℕ) → made_of n ≡ None → 1_000_000 < n
 unfolding made_of
 made-not n e = go (leb n 1_000_000) refl e
   where
-    go : (b : Bool) → leb n 1_000_000 ≡ b → cond b (Some (record { raw = n })) None ≡ None → 1_000_000 < n
+    go : (b : Bool) → leb n 1_000_000 ≡ b → cond {A = Option CodeTimer} b (Some (record { raw = n })) None ≡ None → 1_000_000 < n
     go true f e = let z : ◌≡◌ {A = ℕ} 0 1 = cc in absurd (omega arith)
     go false f e = leb-false n 1_000_000 f
 
