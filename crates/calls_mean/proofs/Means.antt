@@ -4,15 +4,14 @@ use Prim.Native.Nat.{ℕ, zero, suc, ◌*◌, ◌/◌, ◌%◌, ◌≤◌, ◌<�
 use native.Mathlib.Omega.{arith}
 use native.Mathlib.Nat.{mod-lt, div-lt_iff_lt-mul}
 use mathlib.Core.Path.{◌≡◌, refl}
-use Rattle.terms.specs.Rules.Answer.{accepted}
 use Rattle.waits.specs.Mean.{mean_of}
-use Rattle.calls_mean.specs.Averaged.{averaged}
+use Rattle.waits.specs.Mean.Mean.{none, over}
 
-pub mean-none : (t n : ℕ) → n ≡ 0 → averaged (accepted (mean_of t n)) ≡ record { code = 0; count = 0; quotient = 0; remainder = 0 }
+pub mean-none : (t n : ℕ) → n ≡ 0 → none ≡ mean_of t n
 unfolding mean_of
 mean-none t n e = rw e
 
-pub mean-some : (t n : ℕ) → (n ≡ 0 → ⊥) → averaged (accepted (mean_of t n)) ≡ record { code = 0; count = n; quotient = t / n; remainder = t % n }
+pub mean-some : (t n : ℕ) → (n ≡ 0 → ⊥) → over (t / n) (t % n) n ≡ mean_of t n
 unfolding mean_of
 mean-some t zero h = absurd (h refl)
 mean-some t (suc n) h = refl

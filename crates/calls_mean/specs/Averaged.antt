@@ -1,5 +1,5 @@
 -- What the call `mean` answers: document 02, R-1. Question 17, then the mean wait of the senders of all messages.
-use Rattle.std.specs.Prelude.{ℕ, List}
+use Rattle.std.specs.Prelude.{ℕ, List, Option, Some, None}
 use Rattle.terms.specs.Rules.{Answer}
 use Rattle.terms.specs.Rules.Answer.{refused, accepted}
 use Rattle.waits.specs.Waits.{Tally}
@@ -10,6 +10,7 @@ use Rattle.table.specs.Meaning.{tally_of}
 use Rattle.table.specs.Valid.{valid}
 use Rattle.calls_act.specs.Acted.{asked}
 use Rattle.calls_mean.specs.declared.Averaged.{Averaged}
+use Rattle.calls_mean.specs.declared.MeanWait.{MeanWait}
 
 -- the mean of what is kept beside components
 abbrev pub mean_in : Tally → Mean
@@ -23,3 +24,8 @@ abbrev pub averaged : Answer Mean → Averaged
 averaged (refused n) = record { code = n; count = 0; quotient = 0; remainder = 0 }
 averaged (accepted none) = record { code = 0; count = 0; quotient = 0; remainder = 0 }
 averaged (accepted (over q r n)) = record { code = 0; count = n; quotient = q; remainder = r }
+
+-- what the code's mean stands for
+abbrev pub mean_by : Option MeanWait → Mean
+mean_by None = none
+mean_by (Some m) = over m.quotient m.remainder m.count
