@@ -1,10 +1,14 @@
--- Eight stores, one after the other, of the elements of a list of eight, by writing the list out; and a row that is written in three runs.
-use Prim.Native.Nat.{ℕ, suc, ◌+◌, ◌*◌}
+-- A run of words copied over a part of a list is a run of stores; and a row that is written in three runs.
+use Prim.Native.Nat.{ℕ, ◌+◌, ◌*◌, ◌≤◌}
 use native.Mathlib.Omega.{arith}
 use mathlib.Core.List.{List, [], ◌∷◌, ◌++◌}
-use mathlib.Core.Path.{◌≡◌, ap, ◌∙◌}
-use lib.ListN.{length, get_or, set}
+use mathlib.Core.Path.{◌≡◌, ap, sym, ◌∙◌}
+use borrow.Rule.Slice.PartMut.{put_mid}
+use lib.ListN.{length, drop, take}
 use lib.Seq.{sets}
+use Rattle.std.proofs.Common.{append_assoc}
+use Rattle.std.proofs.lemmas.List.{drop-drop}
+use Rattle.std.proofs.lemmas.List.Edits.{sets-eq}
 use Rattle.table.specs.declared.Key.{Key}
 use Rattle.text_build.specs.declared.Scope.{Scope}
 use Rattle.text_build.specs.Tables.{key_words}
@@ -12,26 +16,9 @@ use Rattle.text_build.specs.Put.{row_words}
 use Rattle.text_build.proofs.Writes.{sets-append}
 use Rattle.table.specs.Words.{row_size, parts_at, kind_field}
 
-pub eight-stores : (l : List ℕ) (o : ℕ) (xs : List ℕ) → length xs ≡ 8
-    → set (set (set (set (set (set (set (set l o (get_or xs 0 0)) (o + 1) (get_or xs 1 0)) (o + 2) (get_or xs 2 0)) (o + 3) (get_or xs 3 0)) (o + 4) (get_or xs 4 0)) (o + 5) (get_or xs 5 0)) (o + 6) (get_or xs 6 0)) (o + 7) (get_or xs 7 0) ≡ sets l o xs
-eight-stores l o [] q = absurd (omega arith)
-eight-stores l o (a ∷ []) q = absurd (omega arith)
-eight-stores l o (a ∷ b ∷ []) q = absurd (omega arith)
-eight-stores l o (a ∷ b ∷ c ∷ []) q = absurd (omega arith)
-eight-stores l o (a ∷ b ∷ c ∷ d ∷ []) q = absurd (omega arith)
-eight-stores l o (a ∷ b ∷ c ∷ d ∷ e ∷ []) q = absurd (omega arith)
-eight-stores l o (a ∷ b ∷ c ∷ d ∷ e ∷ f ∷ []) q = absurd (omega arith)
-eight-stores l o (a ∷ b ∷ c ∷ d ∷ e ∷ f ∷ g ∷ []) q = absurd (omega arith)
-eight-stores l o (a ∷ b ∷ c ∷ d ∷ e ∷ f ∷ g ∷ h ∷ []) q =
-    let e₁ : o + 1 ≡ suc o = omega arith in
-    let e₂ : o + 2 ≡ suc (suc o) = omega arith in
-    let e₃ : o + 3 ≡ suc (suc (suc o)) = omega arith in
-    let e₄ : o + 4 ≡ suc (suc (suc (suc o))) = omega arith in
-    let e₅ : o + 5 ≡ suc (suc (suc (suc (suc o)))) = omega arith in
-    let e₆ : o + 6 ≡ suc (suc (suc (suc (suc (suc o))))) = omega arith in
-    let e₇ : o + 7 ≡ suc (suc (suc (suc (suc (suc (suc o)))))) = omega arith in
-    rw (e₁, e₂, e₃, e₄, e₅, e₆, e₇)
-eight-stores l o (a ∷ b ∷ c ∷ d ∷ e ∷ f ∷ g ∷ h ∷ x ∷ xs) q = absurd (omega arith)
+-- the k words from o on, written over by ys
+pub put_mid-sets : (l : List ℕ) (o k : ℕ) (ys zs : List ℕ) → ys ≡ zs → k ≡ length zs → o + length zs ≤ length l → put_mid o k l ys ≡ sets l o zs
+put_mid-sets l o k ys zs e n h = rw (e, n, drop-drop) (sym (sets-eq zs l o h ∙ append_assoc (take o l) zs (drop (o + length zs) l)))
 
 -- a row written in three runs
 pub row-stores : (l : List ℕ) (i k c t v p : ℕ) (sc : Scope) (x : Key) → length sc.at ≡ 8

@@ -1,12 +1,7 @@
 -- A word of the text as a name: four words of four bytes, the first letter lowest, zeros after the last.
 -- Serves inner contracts only.
-use Rattle.std.specs.Prelude.{ℕ, ◌+◌, ◌*◌, ◌<◌, List, ◌≡◌, get_or}
+use Rattle.std.specs.Prelude.{ℕ, ◌+◌, ◌*◌, List, get_or}
 use Rattle.table.specs.declared.Key.{Key}
-
--- r is the byte at i, or 0 past the end
-pub record Byte (s : List ℕ) (i r : ℕ) : Type 0 where
-  pub same : r ≡ get_or s i 0
-  pub small : r < 256
 
 unfoldable pub quad_of : List ℕ → ℕ → ℕ
 quad_of s o = get_or s o 0 + 256 * get_or s (o + 1) 0 + 65_536 * get_or s (o + 2) 0 + 16_777_216 * get_or s (o + 3) 0

@@ -13,10 +13,10 @@
 // proofs/Into         names entered in order, each where it is not there yet
 // proofs/Passes       they pass the local tests of question 17
 // proofs/Kept         they go on standing while other rows and names are written
-// proofs/Finding      looking a name up, name by name
+// proofs/Finding      looking a name up among the numbers of a range
 // proofs/Tables       the ways of `number` to its answer
 // proofs/Writes       words after a run of stores
-// proofs/Stores       eight stores
+// proofs/Stores       a run of words copied over others
 // proofs/Enlist       a name looked up or added: its table afterwards
 // proofs/Grows        what the writes keep of the tables
 // proofs/RowWords     the words of a row after a write
@@ -28,12 +28,12 @@
 // proofs/Built        so a process that was put is what its place means
 #![tactic(auto)]
 
-ghost use Rattle.std.specs.Prelude.{[], ◌∷◌, ◌≡◌, ◌+◌, ◌*◌, ◌≤◌, ◌<◌, length};
+ghost use Rattle.std.specs.Prelude.{[], ◌∷◌, ◌≡◌, ◌+◌, ◌*◌, ◌≤◌, ◌<◌, position, get_or};
 ghost use Rattle.std.proofs.lemmas.List.Edits.{sets};
+ghost use Rattle.terms.specs.Names.{same_name};
 ghost use Rattle.table.specs.Meaning.{list_from};
-ghost use Rattle.table.specs.Valid.{index};
 ghost use Rattle.table.specs.Tests.{key_name, row_name};
-ghost use Rattle.text_build.specs.Keys.{Byte, quad_of, key_of};
+ghost use Rattle.text_build.specs.Keys.{quad_of, key_of};
 ghost use Rattle.text_build.specs.Put.{row_words, set_second, linked};
 ghost use Rattle.text_build.specs.Tables.{key_words, held_in, Enlisted};
 ghost use Rattle.table.specs.Words.{row_size, last_name, parts_at, kind_field};
@@ -42,13 +42,10 @@ use table::{LOW_FIELD, NAME_SIZE, NEXT_FIELD, PARTS, ROW_SIZE, SECOND_FIELD, Scr
 
 // ---- names ----
 // The byte at i; 0 past the end.
-fn byte_in(w: &[u8], i: usize) -> u32
-    ensures { Byte w.now i result }
+fn byte_in(w: &[u8], i: usize) -> u8
+    ensures { result ≡ get_or w.now i 0 }
 {
-    if i < w.len() {
-        return w[i] as u32;
-    }
-    0
+    w.get(i).copied().unwrap_or(0)
 }
 
 // The four bytes from o on in a word, the first lowest.
@@ -56,11 +53,12 @@ fn quad(w: &[u8], o: usize) -> u32
     requires { o ≤ 12 }
     ensures { result ≡ quad_of w.now o }
 {
-    let a = byte_in(w, o);
-    let b = byte_in(w, o + 1);
-    let c = byte_in(w, o + 2);
-    let d = byte_in(w, o + 3);
-    a + 256 * b + 65536 * c + 16777216 * d
+    u32::from_le_bytes([
+        byte_in(w, o),
+        byte_in(w, o + 1),
+        byte_in(w, o + 2),
+        byte_in(w, o + 3),
+    ])
 }
 
 // A word of the text as a name: proofs/Letters says that its letters are the word's.
@@ -89,10 +87,7 @@ pub fn put_key(w: &mut Script, o: usize, k: table::Key)
     requires { o < last_name }
     ensures { w.new ≡ sets w.old o (key_words k) }
 {
-    w[o] = k.a;
-    w[o + 1] = k.b;
-    w[o + 2] = k.c;
-    w[o + 3] = k.d;
+    w[o..o + NAME_SIZE].copy_from_slice(&[k.a, k.b, k.c, k.d]);
 }
 
 // How many names a table holds, by the word that counts them: at most 64.
@@ -100,26 +95,15 @@ pub fn held_in(w: &Script, at: usize) -> usize
     requires { at < 4 }
     ensures { result ≡ held_in w.now at }
 {
-    let n = table::words::wide(w[at]);
-    if n < 64 {
-        return n;
-    }
-    64
+    table::words::wide(w[at]).min(64)
 }
 
-// The number of the name k among the first n from the word o on, d words apart; n if it is none of them.
-pub fn find(w: &Script, o: usize, d: usize, n: usize, k: table::Key) -> usize
+// The number of the name k among the first n from the word o on, d words apart.
+pub fn find(w: &Script, o: usize, d: usize, n: usize, k: table::Key) -> Option<usize>
     requires { (o < 2000) × (d ≤ row_size) × (n ≤ 64) }
-    ensures { result ≡ index (list_from 0 n (row_name w.now o d)) (key_name k) }
+    ensures { result ≡ position (λ x. same_name x (key_name k)) (list_from 0 n (row_name w.now o d)) }
 {
-    let mut j = 0;
-    while j < n {
-        if table::words::is_named(w, o + j * d, k) {
-            return j;
-        }
-        j += 1;
-    }
-    n
+    (0..n).position(|j| table::words::is_named(w, o + j * d, k))
 }
 
 // The number of the name k in the table from the word o on, which the word `at` counts; entered behind the last if it is not there.
@@ -129,8 +113,7 @@ pub fn number(w: &mut Script, o: usize, at: usize, k: table::Key) -> usize
     ensures { Enlisted w.old w.new o at k result }
 {
     let n = held_in(w, at);
-    let j = find(w, o, 4, n, k);
-    if j < n {
+    if let Some(j) = find(w, o, NAME_SIZE, n, k) {
         return j;
     }
     if n < 64 {
@@ -143,51 +126,6 @@ pub fn number(w: &mut Script, o: usize, at: usize, k: table::Key) -> usize
 }
 
 // ---- rows ----
-// The first nine words of a row; the place of Q, the next part and the least place are to come.
-fn put_front(w: &mut Script, o: usize, k: u32, c: u32, t: u32, v: u32, p: u32, n: u32)
-    requires { o < 99583 }
-    ensures { w.new ≡ sets w.old o (k ∷ c ∷ t ∷ v ∷ p ∷ 0 ∷ 0 ∷ 0 ∷ n ∷ []) }
-{
-    w[o] = k;
-    w[o + 1] = c;
-    w[o + 2] = t;
-    w[o + 3] = v;
-    w[o + 4] = p;
-    w[o + 5] = 0;
-    w[o + 6] = 0;
-    w[o + 7] = 0;
-    w[o + 8] = n;
-}
-
-// Eight words: where the names in scope stand.
-fn put_eight(w: &mut Script, o: usize, xs: &[u32])
-    requires { (o < 99584) × (length xs.now ≡ 8) }
-    ensures { w.new ≡ sets w.old o xs.now }
-{
-    w[o] = xs[0];
-    w[o + 1] = xs[1];
-    w[o + 2] = xs[2];
-    w[o + 3] = xs[3];
-    w[o + 4] = xs[4];
-    w[o + 5] = xs[5];
-    w[o + 6] = xs[6];
-    w[o + 7] = xs[7];
-}
-
-// The last seven words of a row: arguments or a bound name, and three that are not used.
-fn put_tail(w: &mut Script, o: usize, x: table::Key)
-    requires { o < 99586 }
-    ensures { w.new ≡ sets w.old o (x.a ∷ x.b ∷ x.c ∷ x.d ∷ 0 ∷ 0 ∷ 0 ∷ []) }
-{
-    w[o] = x.a;
-    w[o + 1] = x.b;
-    w[o + 2] = x.c;
-    w[o + 3] = x.d;
-    w[o + 4] = 0;
-    w[o + 5] = 0;
-    w[o + 6] = 0;
-}
-
 // The row of a part at i up to its links: kind, name, timer, value, place of P, scope, arguments or a bound name.
 pub fn put_row(
     w: &mut Script,
@@ -204,11 +142,9 @@ pub fn put_row(
     ensures { w.new ≡ sets w.old (parts_at + i * row_size + kind_field) (row_words k c t v p sc (key_words x)) }
 {
     let o = PARTS + i * ROW_SIZE;
-    let n = sc.n as u32;
-    let at = sc.at;
-    put_front(w, o, k, c, t, v, p, n);
-    put_eight(w, o + 9, &at);
-    put_tail(w, o + 17, x);
+    w[o..o + 9].copy_from_slice(&[k, c, t, v, p, 0, 0, 0, sc.n as u32]);
+    w[o + 9..o + 17].copy_from_slice(&sc.at);
+    w[o + 17..o + 24].copy_from_slice(&[x.a, x.b, x.c, x.d, 0, 0, 0]);
 }
 
 // The place of Q in the row at i.

@@ -160,7 +160,7 @@ fn open_call(s: &[u8], at: usize, w: &mut Script, i: usize, sc: Scope, x: Key) -
     ensures { (y : ListAt s.now at) (d : Name) → CallIs s.now w.old w.new i sc x result d y.what y.left }
 {
     let n = text_build::held_in(w, 3);
-    let d = text_build::find(w, IDENTIFIERS, ROW_SIZE, n, x);
+    let d = text_build::find(w, IDENTIFIERS, ROW_SIZE, n, x).unwrap_or(n);
     let g = args(s, at, w, sc);
     let k = g.first;
     put_row(w, i, 4, d as u32, 0, g.n, 0, sc, k);

@@ -1,13 +1,8 @@
--- The four words of a name, one store after the other.
-use Prim.Native.Nat.{suc, ◌+◌}
+-- The four words of a name, copied over those that stood there.
 use native.Mathlib.Omega.{arith}
-use mathlib.Core.Path.{◌≡◌}
+use Rattle.text_build.specs.Tables.{key_words}
+use Rattle.text_build.proofs.Stores.{put_mid-sets}
 use Rattle.text_build.proofs.put_key.Goals as goal
 
 pub returns : goal.returns
-returns c =
-    let o = c.args.o in
-    let e₁ : o + 1 ≡ suc o = omega arith in
-    let e₂ : o + 2 ≡ suc (suc o) = omega arith in
-    let e₃ : o + 3 ≡ suc (suc (suc o)) = omega arith in
-    rw (e₁, e₂, e₃)
+returns c = put_mid-sets _ _ _ _ (key_words c.args.k) c.copy_from_slice.ensures.after (omega arith) (omega arith)

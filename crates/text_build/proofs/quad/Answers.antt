@@ -1,7 +1,8 @@
--- Four bytes in a word: no sum wraps, since each byte is below 256.
+-- Four bytes of a word, the first lowest.
+use borrow.Author.Rules.{rules}
 use Rattle.text_build.specs.Keys.{quad_of}
 use Rattle.text_build.proofs.quad.Goals as goal
 
 pub returns : goal.returns
 unfolding quad_of
-returns c = rw (c.byte_in-a.ensures.same, c.byte_in-b.ensures.same, c.byte_in-c.ensures.same, c.byte_in-d.ensures.same)
+returns c = search rules
