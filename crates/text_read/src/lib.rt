@@ -71,9 +71,8 @@ pub fn read(text: &[u8], given: Settings, w: &mut Script) -> Reading
         return refuse(21);
     }
     let c = text_scan::scan(text);
-    let q = limits(c);
-    if q != 0 {
-        return refuse(q);
+    if let Err(q) = limits(c) {
+        return refuse(q.number());
     }
     let mut out = [[0; 2]; 256];
     let mut kept = [0u32; RIGHTS_WORDS];
@@ -99,10 +98,9 @@ pub fn read_over(text: &[u8], given: Settings, w: &mut Script) -> Reading
         return refuse(21);
     }
     let c = text_scan::scan(text);
-    let q = limits(c);
-    if q != 0 {
+    if let Err(q) = limits(c) {
         wipe(w);
-        return refuse(q);
+        return refuse(q.number());
     }
     let mut out = [[0; 2]; 256];
     put_settings(w, given);

@@ -13,6 +13,7 @@
 #![tactic(auto)]
 
 ghost use Rattle.std.specs.Prelude.{◌≡◌, ◌<◌, drop};
+ghost use Rattle.terms.specs.Refusals.{code_of};
 ghost use Rattle.text.specs.Tokens.{lex};
 ghost use Rattle.text.specs.Grammar.{the, net_next};
 ghost use Rattle.text_words.specs.Bytes.{ended, mapped, IsSign};
@@ -22,6 +23,8 @@ ghost use Rattle.text_scan.specs.Totals.{capped_t};
 ghost use Rattle.text_scan.specs.Counting.{body_counts, def_counts, located_counts, many_counts, network_counts, text_counts};
 ghost use Rattle.text_scan.specs.Answers.{totaled, plus_totals, unread_scan, scan_of};
 ghost use Rattle.text_scan.specs.Limits.{limits};
+
+use terms::refusal::Refusal;
 
 // Where definitions and located processes end, or 0, with their numbers: each stops one past its limit.
 #[derive(Clone, Copy)]
@@ -260,30 +263,21 @@ pub fn scan(text: &[u8]) -> Scanned
     }
 }
 
-// Questions 1 to 3, and 4 as far as the scan knows it: 0, or the number of the first that is answered by no.
-pub fn limits(c: Scanned) -> u32
-    ensures { result ≡ limits c }
+// Questions 1 to 3, and 4 as far as the scan knows it.
+pub fn limits(c: Scanned) -> Result<(), Refusal>
+    ensures { code_of result ≡ limits c }
 {
     if !c.short {
-        return 1;
+        return Err(Refusal::TooLong);
     }
     if !c.form {
-        return 2;
+        return Err(Refusal::NotOfForm);
     }
     if 32 < c.nesting {
-        return 3;
+        return Err(Refusal::TooDeep);
     }
-    if 32 < c.definitions {
-        return 4;
+    if 32 < c.definitions || 4 < c.parameters || 4096 < c.parts || 256 < c.components {
+        return Err(Refusal::TooMany);
     }
-    if 4 < c.parameters {
-        return 4;
-    }
-    if 4096 < c.parts {
-        return 4;
-    }
-    if 256 < c.components {
-        return 4;
-    }
-    0
+    Ok(())
 }
