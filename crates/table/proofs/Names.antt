@@ -3,13 +3,13 @@
 use Prim.Native.Nat.{ℕ, ◌/◌, ◌%◌, ◌≤◌, ◌<◌}
 use native.Mathlib.Omega.{arith}
 use mathlib.Core.List.{List, [], ◌∷◌}
-use mathlib.Core.Bool.{Bool, true, false, cond}
+use mathlib.Core.Bool.{Bool, true, false, cond, ◌&&◌, false≢true}
 use mathlib.Core.Path.{◌≡◌, refl, ap, sym, ◌∙◌}
 use lib.Dec.{eqb, leb}
 use lib.ListN.{length, get_or, drop}
 use borrow.Author.Tests.{eq-eqb, ne_eqb, eqb-true, eqb-false, le-leb}
 use Rattle.terms.specs.Names.{Name, same_name}
-use Rattle.terms.proofs.Names.{eqb-eq, name-eq}
+use Rattle.terms.proofs.Names.{eqb-eq, name-eq, name-refl, and-inv}
 use Rattle.table.specs.declared.Key.{Key}
 use Rattle.table.specs.Words.{four_bytes, is_zero, strip, letters}
 use Rattle.table.specs.Tests.{key_name}
@@ -103,6 +103,26 @@ keys-differ x y h k n = go (same_name (key_name x) (key_name y)) refl
     go : (t : Bool) → same_name (key_name x) (key_name y) ≡ t → t ≡ false
     go true e = absurd (n (key-injective x y h k (name-eq (key_name x) (key_name y) e)))
     go false e = refl
+
+-- the test of the four words is that of the letters
+pub keys-same : (x y : Key) → Words x → Words y → (eqb x.a y.a && (eqb x.b y.b && (eqb x.c y.c && eqb x.d y.d))) ≡ same_name (key_name x) (key_name y)
+keys-same x y h k = go (eqb x.a y.a && (eqb x.b y.b && (eqb x.c y.c && eqb x.d y.d))) refl
+  where
+    all : x.a ≡ y.a → x.b ≡ y.b → x.c ≡ y.c → x.d ≡ y.d → x ≡ y
+    all p q r s = λ i. record { a = p i; b = q i; c = r i; d = s i }
+
+    go : (t : Bool) → (eqb x.a y.a && (eqb x.b y.b && (eqb x.c y.c && eqb x.d y.d))) ≡ t → t ≡ same_name (key_name x) (key_name y)
+    go true e =
+        let p = and-inv (eqb x.a y.a) _ e in
+        let q = and-inv (eqb x.b y.b) _ p.1 in
+        let r = and-inv (eqb x.c y.c) _ q.1 in
+        let s : x ≡ y = all (eqb-true x.a y.a p.0) (eqb-true x.b y.b q.0) (eqb-true x.c y.c r.0) (eqb-true x.d y.d r.1) in
+        sym (ap (λ z. same_name (key_name z) (key_name y)) s ∙ name-refl (key_name y))
+    go false e =
+        sym
+        (keys-differ x y h k
+        (λ s. false≢true
+          (sym e ∙ rw (eq-eqb x.a y.a (ap (λ z. z.a) s), eq-eqb x.b y.b (ap (λ z. z.b) s), eq-eqb x.c y.c (ap (λ z. z.c) s), eq-eqb x.d y.d (ap (λ z. z.d) s)) refl)))
 
 -- the first words alone tell two names apart
 letters-first : (a b c d a₁ b₁ c₁ d₁ : ℕ) → a < 4_294_967_296 → a₁ < 4_294_967_296 → letters a b c d ≡ letters a₁ b₁ c₁ d₁ → a ≡ a₁

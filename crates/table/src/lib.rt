@@ -163,7 +163,7 @@ pub struct State {
 }
 
 // A name: four words of four bytes, the first letter lowest, zeros after the last.
-#[derive(Clone, Copy)]
+#[derive(Clone, Copy, PartialEq, Eq)]
 pub struct Key {
     pub a: u32,
     pub b: u32,

@@ -5,7 +5,7 @@ ghost use Rattle.table.specs.Words.{row_size, parts_at, head_at, arg_at, next_at
 ghost use Rattle.table.specs.Tests.{key_name};
 
 use super::{
-    ARG_FIELD, BODIES, DEFINITIONS, FIRST_FIELD, Head, KIND_FIELD, Key, LOW_FIELD, NAME_FIELD,
+    ARG_FIELD, BODIES, DEFINITIONS, FIRST_FIELD, Head, KIND_FIELD, Key, LAST_NAME, LOW_FIELD, NAME_FIELD,
     NEXT_FIELD, PARTS, ROW_SIZE, SECOND_FIELD, Script, TIMER_FIELD, VALUE_FIELD,
 };
 
@@ -20,17 +20,7 @@ pub fn wide(x: u32) -> usize
 pub fn word(w: &Script, i: usize) -> u32
     ensures { result ≡ get_or w.now i 0 }
 {
-    word_in(w, i)
-}
-
-// The same of any words: of a slice the length is known where the code asks for it.
-fn word_in(s: &[u32], i: usize) -> u32
-    ensures { result ≡ get_or s.now i 0 }
-{
-    if i < s.len() {
-        return s[i];
-    }
-    0
+    w.get(i).copied().unwrap_or(0)
 }
 
 // Field k of the part at i.
@@ -45,8 +35,7 @@ pub fn head_at(w: &Script, i: usize) -> Head
     requires { i < 4096 }
     ensures { result ≡ head_at w.now i }
 {
-    let k = field(w, i, KIND_FIELD);
-    match k {
+    match field(w, i, KIND_FIELD) {
         1 => Head::Go(
             field(w, i, TIMER_FIELD),
             field(w, i, VALUE_FIELD),
@@ -111,34 +100,27 @@ pub fn body_of(w: &Script, d: usize) -> u32
 pub fn key_at(w: &Script, o: usize) -> Key
     ensures { key_name result ≡ name_at w.now o }
 {
-    if o < 99589 {
-        return Key {
+    if o < wide(LAST_NAME) {
+        Key {
             a: w[o],
             b: w[o + 1],
             c: w[o + 2],
             d: w[o + 3],
-        };
+        }
+    } else {
+        key_end(w, o)
     }
-    key_end(w, o)
 }
 
 // The same where the name runs past the end, which is read as zeros.
-fn key_end(s: &[u32], o: usize) -> Key
-    ensures { key_name result ≡ name_at s.now o }
+fn key_end(w: &Script, o: usize) -> Key
+    ensures { key_name result ≡ name_at w.now o }
 {
-    if s.len() <= o {
-        return Key {
-            a: 0,
-            b: 0,
-            c: 0,
-            d: 0,
-        };
-    }
     Key {
-        a: word_in(s, o),
-        b: word_in(s, o + 1),
-        c: word_in(s, o + 2),
-        d: word_in(s, o + 3),
+        a: word(w, o),
+        b: word(w, o.saturating_add(1)),
+        c: word(w, o.saturating_add(2)),
+        d: word(w, o.saturating_add(3)),
     }
 }
 
@@ -146,38 +128,19 @@ fn key_end(s: &[u32], o: usize) -> Key
 pub fn same_key(x: Key, y: Key) -> bool
     ensures { result ≡ same_name (key_name x) (key_name y) }
 {
-    if x.a != y.a {
-        return false;
-    }
-    if x.b != y.b {
-        return false;
-    }
-    if x.c != y.c {
-        return false;
-    }
-    if x.d != y.d {
-        return false;
-    }
-    true
+    x == y
 }
 
 // Is x the name at o? Most names differ in their first word.
 pub fn is_named(w: &Script, o: usize, x: Key) -> bool
     ensures { result ≡ same_name (name_at w.now o) (key_name x) }
 {
-    let a = word(w, o);
-    if a != x.a {
-        return false;
-    }
-    let y = key_at(w, o);
-    same_key(y, x)
+    word(w, o) == x.a && same_key(key_at(w, o), x)
 }
 
 // Do o1 and o2 have the same name?
 pub fn same_name(w: &Script, o1: usize, o2: usize) -> bool
     ensures { result ≡ same_name (name_at w.now o1) (name_at w.now o2) }
 {
-    let x = key_at(w, o1);
-    let y = key_at(w, o2);
-    same_key(x, y)
+    same_key(key_at(w, o1), key_at(w, o2))
 }

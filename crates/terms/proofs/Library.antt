@@ -1,5 +1,4 @@
 -- The library's words for tests of lists: those of the rules are the same, so that what it says of `all`, `any` and `==` can be used.
-use Prim.Native.Nat.{ℕ}
 use mathlib.Core.List.{List, [], ◌∷◌}
 use mathlib.Core.Bool.{Bool, ◌&&◌, ◌||◌}
 use mathlib.Core.Path.{◌≡◌, refl, ap}

@@ -1,6 +1,6 @@
 -- A refusal has a number that is not 0; so an answer is accepted exactly if its code is 0.
 use native.Mathlib.Omega.{arith}
-use Rattle.std.specs.Prelude.{ℕ, ◌≡◌, Result, Ok, Err}
+use Rattle.std.specs.Prelude.{◌≡◌, Result, Ok, Err}
 use Rattle.terms.specs.Refusals.{number_of, code_of}
 use Rattle.terms.specs.declared.refusal.Refusal.{Refusal}
 use Rattle.terms.specs.declared.refusal.Refusal.TheVariants.{TooLong, NotOfForm, TooDeep, TooMany, DefinedTwice, NotDefined, NotBound, OutOfRange, Marked, WrongForm, Apart, Forced, TableFull, MarkedText, BufferShort, Elsewhere, NotValid, MessagesFull, NoRight, NoEdition, NotConforming}

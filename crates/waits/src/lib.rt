@@ -26,9 +26,10 @@ pub fn longer(n: u32) -> u32
     ensures { result ≡ W.longer n }
 {
     if n < LONGEST {
-        return n + 1;
+        n + 1
+    } else {
+        n
     }
-    n
 }
 
 // A quotient with the remainder r over n, to the nearest whole tick, a half going to the even one. The remainder is compared with what it lacks of n,
@@ -39,10 +40,10 @@ pub fn rounded(q: u32, r: u32, n: u32) -> u32
 {
     let rest = n - r;
     if r < rest {
-        return q;
+        q
+    } else if rest < r {
+        q + 1
+    } else {
+        q + q % 2
     }
-    if rest < r {
-        return q + 1;
-    }
-    q + q % 2
 }

@@ -1,12 +1,17 @@
--- `is_edition` meets its contract: the number is 1, or it is left to compare it with 2.
-use borrow.Author.Tests.{eq-eqb, ne_eqb}
+-- `is_edition` meets its contract: the match decides both tests.
+use native.Mathlib.Omega.{arith}
+use Rattle.std.proofs.lemmas.Bool.Decides.{nat_tests}
 use Rattle.terms.specs.Clock.{is_edition}
 use Rattle.terms.proofs.is_edition.Goals as goal
 
-pub returns-then-n-eq1 : goal.returns-then-n-eq1
+pub returns-in-1 : goal.returns-in-1
 unfolding is_edition
-returns-then-n-eq1 c = rw (eq-eqb _ _ c.if-n-eq1.true)
+returns-in-1 c = grind (arith, nat_tests)
 
-pub returns : goal.returns
+pub returns-in_default : goal.returns-in_default
 unfolding is_edition
-returns c = rw (ne_eqb _ _ c.if-n-eq1.false)
+returns-in_default c = grind (arith, nat_tests)
+
+pub returns-in_default-2 : goal.returns-in_default-2
+unfolding is_edition
+returns-in_default-2 c = grind (arith, nat_tests)

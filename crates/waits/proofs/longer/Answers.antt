@@ -10,6 +10,6 @@ pub returns-then-n-lt-LONGEST : goal.returns-then-n-lt-LONGEST
 unfolding longer
 returns-then-n-lt-LONGEST c = let n = c.args.n in rw (lt-ltb n 1_000_000 (omega arith)) (add-one n)
 
-pub returns : goal.returns
+pub returns-else-n-lt-LONGEST : goal.returns-else-n-lt-LONGEST
 unfolding longer
-returns c = let n = c.args.n in rw (le-ltb n 1_000_000 (omega arith))
+returns-else-n-lt-LONGEST c = let n = c.args.n in rw (le-ltb n 1_000_000 (omega arith))

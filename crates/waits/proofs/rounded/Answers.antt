@@ -19,8 +19,8 @@ returns-then-rest-r c =
     let a = c.args in
     rw (le-ltb (a.r + a.r) a.n (omega arith)) (rw (lt-ltb a.n (a.r + a.r) (omega arith)) (add-one a.q))
 
-pub returns : goal.returns
+pub returns-else-rest-r : goal.returns-else-rest-r
 unfolding rounded
-returns c =
+returns-else-rest-r c =
     let a = c.args in
     rw (le-ltb (a.r + a.r) a.n (omega arith)) (rw (le-ltb a.n (a.r + a.r) (omega arith)) (omega arith))

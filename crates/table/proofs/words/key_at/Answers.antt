@@ -4,6 +4,6 @@ use mathlib.Core.Path.{refl}
 use Rattle.table.specs.Words.{name_at}
 use Rattle.table.proofs.words.key_at.Goals as goal
 
-pub returns-then-o-lt99589 : goal.returns-then-o-lt99589
+pub returns-then-o-wide : goal.returns-then-o-wide
 unfolding name_at
-returns-then-o-lt99589 c = refl
+returns-then-o-wide c = refl

@@ -3,4 +3,4 @@
 use Rattle.table.proofs.words.same_name.Goals as goal
 
 pub returns : goal.returns
-returns c = rw (c.same_key.ensures, c.key_at-y.ensures, c.key_at-x.ensures)
+returns c = rw (c.same_key.ensures, c.key_at.ensures, c.key_at-2.ensures)
