@@ -122,7 +122,7 @@ keys-same x y h k = go (eqb x.a y.a && (eqb x.b y.b && (eqb x.c y.c && eqb x.d y
         sym
         (keys-differ x y h k
         (λ s. false≢true
-          (sym e ∙ rw (eq-eqb x.a y.a (ap (λ z. z.a) s), eq-eqb x.b y.b (ap (λ z. z.b) s), eq-eqb x.c y.c (ap (λ z. z.c) s), eq-eqb x.d y.d (ap (λ z. z.d) s)) refl)))
+        (sym e ∙ rw (eq-eqb x.a y.a (ap (λ z. z.a) s), eq-eqb x.b y.b (ap (λ z. z.b) s), eq-eqb x.c y.c (ap (λ z. z.c) s), eq-eqb x.d y.d (ap (λ z. z.d) s)) refl)))
 
 -- the first words alone tell two names apart
 letters-first : (a b c d a₁ b₁ c₁ d₁ : ℕ) → a < 4_294_967_296 → a₁ < 4_294_967_296 → letters a b c d ≡ letters a₁ b₁ c₁ d₁ → a ≡ a₁

@@ -6,9 +6,14 @@ use mathlib.Core.Bool.{Bool, true, false}
 use mathlib.Core.List.{List, [], ◌∷◌, ◌++◌}
 use mathlib.Core.Path.{◌≡◌, refl, ap, ap₂, sym, ◌∙◌}
 use lib.Dec.{ltb}
-use lib.ListN.{length, get_or, set, drop, length-set}
+use lib.ListN.{length, get_or, set, take, drop, length-set}
 use borrow.Author.Tests.{ltb-true, ltb-false}
 use lib.Seq.{sets, get_or-set_same, get_or-set_other}
+use borrow.Rule.Slice.PartMut.{put_mid}
+use Rattle.std.specs.List.{between}
+use Rattle.std.proofs.lemmas.List.{drop-drop}
+use Rattle.std.proofs.Common.{append_assoc}
+use Rattle.std.proofs.lemmas.List.Edits.{get_or-between, length-between, sets-eq}
 use Rattle.terms.specs.Rules as R
 use Rattle.table.specs.declared.Comp.{Comp}
 use Rattle.table.specs.declared.State.{State}
@@ -35,23 +40,49 @@ sets-in (a ∷ vs) l i (suc k) h b =
     let e : i + suc k ≡ suc i + k = omega arith in
     rw e (sets-in vs (set l i a) (suc i) k (omega arith) (rw (length-set l i a) (omega arith)))
 
--- thirteen stores, one after the other
-pub thirteen-stores : (l : List ℕ) (o a b c d e f g h i j k m n : ℕ)
-    → set (set (set (set (set (set (set (set (set (set (set (set (set l o a) (o + 1) b) (o + 2) c) (o + 3) d) (o + 4) e) (o + 5) f) (o + 6) g) (o + 7) h) (o + 8) i) (o + 9) j) (o + 10) k) (o + 11) m) (o + 12) n ≡ sets l o (a ∷ b ∷ c ∷ d ∷ e ∷ f ∷ g ∷ h ∷ i ∷ j ∷ k ∷ m ∷ n ∷ [])
-thirteen-stores l o a b c d e f g h i j k m n =
+-- ── eight words read and written at once ──
+eight-words : (v : List ℕ) → length v ≡ 8
+    → v ≡ get_or v 0 0 ∷ get_or v 1 0 ∷ get_or v 2 0 ∷ get_or v 3 0 ∷ get_or v 4 0 ∷ get_or v 5 0 ∷ get_or v 6 0 ∷ get_or v 7 0 ∷ []
+eight-words [] e = absurd (omega arith)
+eight-words (a ∷ []) e = absurd (omega arith)
+eight-words (a ∷ b ∷ []) e = absurd (omega arith)
+eight-words (a ∷ b ∷ c ∷ []) e = absurd (omega arith)
+eight-words (a ∷ b ∷ c ∷ d ∷ []) e = absurd (omega arith)
+eight-words (a ∷ b ∷ c ∷ d ∷ f ∷ []) e = absurd (omega arith)
+eight-words (a ∷ b ∷ c ∷ d ∷ f ∷ g ∷ []) e = absurd (omega arith)
+eight-words (a ∷ b ∷ c ∷ d ∷ f ∷ g ∷ h ∷ []) e = absurd (omega arith)
+eight-words (a ∷ b ∷ c ∷ d ∷ f ∷ g ∷ h ∷ i ∷ []) e = refl
+eight-words (a ∷ b ∷ c ∷ d ∷ f ∷ g ∷ h ∷ i ∷ j ∷ v) e = absurd (omega arith)
+
+-- the eight words behind the first four of o
+pub eight_read : (l v : List ℕ) (o : ℕ) → length v ≡ 8 → v ≡ between (o + 4) (o + 12) l
+    → v ≡ get_or l (o + 4) 0 ∷ get_or l (o + 5) 0 ∷ get_or l (o + 6) 0 ∷ get_or l (o + 7) 0 ∷ get_or l (o + 8) 0 ∷ get_or l (o + 9) 0 ∷ get_or l (o + 10) 0 ∷ get_or l (o + 11) 0 ∷ []
+eight_read l v o n e =
+    eight-words v n
+    ∙ rw (at 0 (o + 4) (omega arith) (omega arith), at 1 (o + 5) (omega arith) (omega arith), at 2 (o + 6) (omega arith) (omega arith), at 3 (o + 7) (omega arith) (omega arith), at 4 (o + 8) (omega arith) (omega arith), at 5 (o + 9) (omega arith) (omega arith), at 6 (o + 10) (omega arith) (omega arith), at 7 (o + 11) (omega arith) (omega arith)) refl
+  where
+    at : (k j : ℕ) → k < 8 → o + 4 + k ≡ j → get_or v k 0 ≡ get_or l j 0
+    at k j h m = ap (λ u. get_or u k 0) e ∙ get_or-between l (o + 4) (o + 12) k 0 (omega arith) ∙ ap (λ x. get_or l x 0) m
+
+-- eight words put in the place of eight are as many stores
+put-eight : (l v : List ℕ) (a k : ℕ) → k ≡ length v → a + length v ≤ length l → put_mid a k l v ≡ sets l a v
+put-eight l v a k e h = rw (sets-eq v l a h, drop-drop k a l, e) (sym (append_assoc (take a l) v (drop (a + length v) l)))
+
+-- four stores, eight at once, and one more
+pub stores : (l v : List ℕ) (o a b c d n : ℕ) → o + 13 ≤ length l → length v ≡ length (between (o + 4) (o + 12) (set (set (set (set l o a) (o + 1) b) (o + 2) c) (o + 3) d))
+    → set (put_mid (o + 4) (o + 12 - (o + 4)) (set (set (set (set l o a) (o + 1) b) (o + 2) c) (o + 3) d) v) (o + 12) n ≡ sets l o (a ∷ b ∷ c ∷ d ∷ get_or v 0 0 ∷ get_or v 1 0 ∷ get_or v 2 0 ∷ get_or v 3 0 ∷ get_or v 4 0 ∷ get_or v 5 0 ∷ get_or v 6 0 ∷ get_or v 7 0 ∷ n ∷ [])
+stores l v o a b c d n k f =
+    let m = set (set (set (set l o a) (o + 1) b) (o + 2) c) (o + 3) d in
+    let e : length m ≡ length l = simp length-set in
+    let h : length v ≡ 8 = f ∙ length-between m (o + 4) (o + 12) (omega arith) ∙ omega arith in
     let e₁ : o + 1 ≡ suc o = omega arith in
     let e₂ : o + 2 ≡ suc (suc o) = omega arith in
     let e₃ : o + 3 ≡ suc (suc (suc o)) = omega arith in
     let e₄ : o + 4 ≡ suc (suc (suc (suc o))) = omega arith in
-    let e₅ : o + 5 ≡ suc (suc (suc (suc (suc o)))) = omega arith in
-    let e₆ : o + 6 ≡ suc (suc (suc (suc (suc (suc o))))) = omega arith in
-    let e₇ : o + 7 ≡ suc (suc (suc (suc (suc (suc (suc o)))))) = omega arith in
-    let e₈ : o + 8 ≡ suc (suc (suc (suc (suc (suc (suc (suc o))))))) = omega arith in
-    let e₉ : o + 9 ≡ suc (suc (suc (suc (suc (suc (suc (suc (suc o)))))))) = omega arith in
-    let e₁₀ : o + 10 ≡ suc (suc (suc (suc (suc (suc (suc (suc (suc (suc o))))))))) = omega arith in
-    let e₁₁ : o + 11 ≡ suc (suc (suc (suc (suc (suc (suc (suc (suc (suc (suc o)))))))))) = omega arith in
     let e₁₂ : o + 12 ≡ suc (suc (suc (suc (suc (suc (suc (suc (suc (suc (suc (suc o))))))))))) = omega arith in
-    rw (e₁, e₂, e₃, e₄, e₅, e₆, e₇, e₈, e₉, e₁₀, e₁₁, e₁₂)
+    ap (λ u. set u (o + 12) n) (put-eight m v (o + 4) (o + 12 - (o + 4)) (omega arith) (omega arith))
+    ∙ ap (λ u. set (sets m (o + 4) u) (o + 12) n) (eight-words v h)
+    ∙ rw (e₁, e₂, e₃, e₄, e₁₂) refl
 
 -- ── a component written ──
 module _ (c : List ℕ) (p : ℕ) (x : Comp) where
@@ -86,24 +117,12 @@ module _ (c : List ℕ) (p : ℕ) (x : Comp) where
     head : word after (p * comp_size) ≡ x.loc
     head = let e : p * comp_size ≡ p * comp_size + 0 = omega arith in ap (word after) e ∙ stored 0 (omega arith)
 
-    eight : (l : List ℕ) → length l ≡ 8 → (word l 0 ∷ word l 1 ∷ word l 2 ∷ word l 3 ∷ word l 4 ∷ word l 5 ∷ word l 6 ∷ word l 7 ∷ []) ≡ l
-    eight [] e = absurd (omega arith)
-    eight (a ∷ []) e = absurd (omega arith)
-    eight (a ∷ b ∷ []) e = absurd (omega arith)
-    eight (a ∷ b ∷ f ∷ []) e = absurd (omega arith)
-    eight (a ∷ b ∷ f ∷ g ∷ []) e = absurd (omega arith)
-    eight (a ∷ b ∷ f ∷ g ∷ h ∷ []) e = absurd (omega arith)
-    eight (a ∷ b ∷ f ∷ g ∷ h ∷ i ∷ []) e = absurd (omega arith)
-    eight (a ∷ b ∷ f ∷ g ∷ h ∷ i ∷ j ∷ []) e = absurd (omega arith)
-    eight (a ∷ b ∷ f ∷ g ∷ h ∷ i ∷ j ∷ k ∷ []) e = refl
-    eight (a ∷ b ∷ f ∷ g ∷ h ∷ i ∷ j ∷ k ∷ m ∷ l) e = absurd (omega arith)
-
     pub put_same : length x.vals ≡ 8 → comp_in after p ≡ x
     unfolding comp_in
     put_same e =
         rw
         (head, stored 1 (omega arith), stored 2 (omega arith), stored 3 (omega arith), stored 4 (omega arith), stored 5 (omega arith), stored 6 (omega arith), stored 7 (omega arith), stored 8 (omega arith), stored 9 (omega arith), stored 10 (omega arith), stored 11 (omega arith), stored 12 (omega arith))
-        (ap (λ v. record { loc = x.loc; mark = x.mark; place = x.place; timer = x.timer; vals = v; wait = x.wait }) (eight x.vals e))
+        (ap (λ v. record { loc = x.loc; mark = x.mark; place = x.place; timer = x.timer; vals = v; wait = x.wait }) (sym (eight-words x.vals e)))
 
 -- ── words of no component in use ──
 pub past-put : (c : List ℕ) (k p : ℕ) (x : Comp) → p < k → PastKept k c (sets c (p * comp_size) (words_in x))

@@ -17,21 +17,14 @@ pub fn comp_at(c: &Words, i: usize) -> Comp
     ensures { result ≡ comp_in c.now i }
 {
     let o = i * COMP_SIZE;
+    let mut vals = [0; 8];
+    vals.copy_from_slice(&c[o + 4..o + 12]);
     Comp {
         loc: c[o],
         mark: c[o + 1],
         place: c[o + 2],
         timer: c[o + 3],
-        vals: [
-            c[o + 4],
-            c[o + 5],
-            c[o + 6],
-            c[o + 7],
-            c[o + 8],
-            c[o + 9],
-            c[o + 10],
-            c[o + 11],
-        ],
+        vals,
         wait: c[o + 12],
     }
 }
@@ -42,18 +35,10 @@ pub fn put_comp(c: &mut Words, i: usize, x: Comp)
     ensures { c.new ≡ sets c.old (i * comp_size) (words_in x) }
 {
     let o = i * COMP_SIZE;
-    let v = x.vals;
     c[o] = x.loc;
     c[o + 1] = x.mark;
     c[o + 2] = x.place;
     c[o + 3] = x.timer;
-    c[o + 4] = v[0];
-    c[o + 5] = v[1];
-    c[o + 6] = v[2];
-    c[o + 7] = v[3];
-    c[o + 8] = v[4];
-    c[o + 9] = v[5];
-    c[o + 10] = v[6];
-    c[o + 11] = v[7];
+    c[o + 4..o + 12].copy_from_slice(&x.vals);
     c[o + 12] = x.wait;
 }

@@ -5,8 +5,8 @@ ghost use Rattle.table.specs.Words.{row_size, parts_at, head_at, arg_at, next_at
 ghost use Rattle.table.specs.Tests.{key_name};
 
 use super::{
-    ARG_FIELD, BODIES, DEFINITIONS, FIRST_FIELD, Head, KIND_FIELD, Key, LAST_NAME, LOW_FIELD, NAME_FIELD,
-    NEXT_FIELD, PARTS, ROW_SIZE, SECOND_FIELD, Script, TIMER_FIELD, VALUE_FIELD,
+    ARG_FIELD, BODIES, DEFINITIONS, FIRST_FIELD, Head, KIND_FIELD, Key, LAST_NAME, LOW_FIELD,
+    NAME_FIELD, NEXT_FIELD, PARTS, ROW_SIZE, SECOND_FIELD, Script, TIMER_FIELD, VALUE_FIELD,
 };
 
 // A word as an index.

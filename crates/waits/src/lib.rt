@@ -25,11 +25,7 @@ pub const MOST: u32 = 1000000;
 pub fn longer(n: u32) -> u32
     ensures { result ≡ W.longer n }
 {
-    if n < LONGEST {
-        n + 1
-    } else {
-        n
-    }
+    if n < LONGEST { n + 1 } else { n }
 }
 
 // A quotient with the remainder r over n, to the nearest whole tick, a half going to the even one. The remainder is compared with what it lacks of n,

@@ -1,12 +1,13 @@
--- Thirteen words are written, one after the other.
+-- Thirteen words are written, eight of them at once.
 use Prim.Native.Nat.{◌*◌}
-use lib.ListN.{get_or}
-use Rattle.table.proofs.Stores.{thirteen-stores}
-use Rattle.table.specs.Words.{comp_size}
+use native.Mathlib.Omega.{arith}
+use mathlib.Core.Path.{ap, sym, ◌∙◌}
+use lib.ListN.{length}
+use Rattle.table.proofs.Stores.{stores}
 use Rattle.table.proofs.comps.put_comp.Goals as goal
 
 pub returns : goal.returns
 returns c =
     let a = c.args in
-    let v = a.x.vals in
-    thirteen-stores a.c.now (a.i * comp_size) a.x.loc a.x.mark a.x.place a.x.timer (get_or v 0 0) (get_or v 1 0) (get_or v 2 0) (get_or v 3 0) (get_or v 4 0) (get_or v 5 0) (get_or v 6 0) (get_or v 7 0) a.x.wait
+    let k = c.copy_from_slice in
+    rw k.ensures.after (stores a.c.now a.x.vals (a.i * 16) a.x.loc a.x.mark a.x.place a.x.timer a.x.wait (omega (arith, c.told-c)) (ap length (sym k.ensures.after) ∙ k.ensures.len))
