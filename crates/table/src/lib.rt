@@ -10,6 +10,7 @@
 //   specs/Examples  small tables, computed
 //   comps           reading and writing a component
 //   words           reading a script's words, names, heads
+//   network         a network that passes question 17, as it is lent
 //
 //   proofs/Tests        what the tests of question 17 give
 //   proofs/Places       the process at a place is its part and the process at its next
@@ -33,6 +34,7 @@
 #![tactic(auto)]
 
 pub mod comps;
+pub mod network;
 pub mod words;
 
 // How many words a script and a state have, and where in a script the names of locations and channels, the parts, and the name that the input at place 0

@@ -6,13 +6,14 @@
 //   proofs/ValidWhole  the tests of a script and of a state
 #![tactic(auto)]
 
-ghost use Rattle.std.specs.Prelude.{◌≡◌, ◌&&◌, ◌||◌, ◌+◌, ◌<◌, ◌≤◌, eqb, ltb};
+ghost use Rattle.std.specs.Prelude.{◌≡◌, ◌&&◌, ◌||◌, ◌+◌, ◌<◌, ◌≤◌, eqb, ltb, false, MatchOption};
 ghost use Rattle.terms.specs.Same.{every};
 ghost use Rattle.table.specs.Words.{parts_in, locs_in, defs_in, scope_at, params_at, arity_of};
 ghost use Rattle.table.specs.Meaning.{comp_in, comps_of};
 ghost use Rattle.table.specs.Valid.{alike, below, def_ok, script_ok, comp_ok, state_ok, valid};
 ghost use Rattle.table_valid.specs.Tests.{counts_ok, head_fine, Few, Counted};
 
+use table::network::Network;
 use table::words::{arity_of, body_of, field, wide, word};
 use table::{
     CHANNELS, COMP_SIZE, COUNT_FIELD, EDITION, FIRST_PARAM, IDENTIFIERS, LOCATIONS, NAME_SIZE,
@@ -248,4 +249,18 @@ pub fn is_valid(w: &Script, c: &Words, n: usize) -> bool
         return false;
     }
     ledger_ok(c)
+}
+
+// The network, if it passes.
+pub fn network<'a>(w: &'a Script, c: &'a Words, n: usize) -> Option<Network<'a>>
+    ensures { MatchOption result (valid w.now (record { c = c.entry.now; n = n }) ≡ false) (λ net. (net.script ≡ w.entry) × (net.words ≡ c.entry) × (net.n ≡ n)) }
+{
+    if is_valid(w, c, n) {
+        return Some(Network {
+            script: w,
+            words: c,
+            n: n,
+        });
+    }
+    None
 }
