@@ -1,11 +1,15 @@
 -- Answers whether two things are one, carried over to other things, and as the tests of components and definitions.
 -- By cases on the answer.
 use mathlib.Core.Bool.{Bool, true, false, false≢true}
-use mathlib.Core.Path.{◌≡◌, refl, ap, sym, ◌∙◌}
-use Prim.Native.Nat.{ℕ, ◌≤◌, ◌<◌}
+use mathlib.Core.Path.{◌≡◌, refl, ap, sym, subst, ◌∙◌}
+use Prim.Native.Nat.{ℕ, ◌≤◌, ◌<◌, min}
 use native.Mathlib.Omega.{arith}
-use lib.Dec.{eqb, ltb}
-use borrow.Author.Tests.{ltb-true, ltb-false, eqb-true, eq-eqb}
+use lib.Dec.{ltb}
+use borrow.Author.Tests.{ltb-true, ltb-false, lt-ltb, le-ltb}
+use lib.ListN.{length, get_or}
+use Rattle.std.specs.Bool.{MatchBool}
+use Rattle.std.specs.List.{AllWithin, HoldsAt, range_with_len}
+use Rattle.std.proofs.lemmas.List.FromFn.{length-range_with_len, get_or-range_with_len}
 use Rattle.terms.specs.Terms.Timer.{ticks, inf}
 use Rattle.terms.specs.Clock.{ticks_of}
 use Rattle.terms.proofs.Clock.{ticks-of, inf-of}
@@ -50,8 +54,28 @@ by-hang h d = carried d h.up h.down
 pub differ : {A B : Type 0} {x y : A} {s t : B} {r : Bool} → Decides r s t → r ≡ false → (x ≡ y → s ≡ t) → Decides false x y
 differ d n g = never (λ e. false≢true (sym n ∙ d.no (g e)))
 
+-- an answer by no
+pub unlike : {A : Type 0} {x y : A} {r : Bool} → Decides r x y → r ≡ false → x ≡ y → ⊥
+unlike d n e = false≢true (sym n ∙ d.no e)
+
+-- the answer by no to s and t is that to x and y
+pub fails : {A B : Type 0} {x y : A} {s t : B} {r : Bool} → Decides r s t → r ≡ false → (x ≡ y → s ≡ t) → Decides r x y
+fails d n g = told n (differ d n g)
+
 pub shown : {A : Type 0} {x y : A} {r : Bool} → Decides r x y → r ≡ true → x ≡ y
 shown d n = d.yes n
+
+-- ── an answer from each of n answers ──
+in-range : {n : ℕ} (P : ℕ → Type 0) (m : ℕ) → m < n → P (get_or (range_with_len 0 n) m 0) → P m
+in-range {n} P m l h = let e : get_or (range_with_len 0 n) m 0 ≡ m = omega (arith, get_or-range_with_len 0 n m 0 l) in subst P e h
+
+pub all-decides : {A B : Type 0} {x y : A} {r : Bool} (f g : ℕ → B) (n : ℕ)
+    → MatchBool r (AllWithin (λ m. f m ≡ g m) (range_with_len 0 n) 0 (length (range_with_len 0 n))) ((k : ℕ) × (k < length (range_with_len 0 n)) × HoldsAt (λ m. f m ≡ g m → ⊥) (range_with_len 0 n) k)
+    → (((m : ℕ) → m < n → f m ≡ g m) → x ≡ y) → (x ≡ y → (m : ℕ) → m < n → f m ≡ g m) → Decides r x y
+all-decides {r = true} f g n h up down = always (up (λ m l. in-range (λ z. f z ≡ g z) m l (h m 0 (omega arith) (omega (arith, length-range_with_len 0 n)))))
+all-decides {r = false} f g n h up down =
+    let l : h.0 < n = omega (arith, h.1, length-range_with_len 0 n) in
+    never (λ e. in-range (λ z. f z ≡ g z → ⊥) h.0 l (h.2 0) (down e h.0 l))
 
 -- ── two answers to one question ──
 pub one_answer : {A : Type 0} {x y : A} {r s : Bool} → Decides r x y → Decides s x y → r ≡ s
@@ -75,16 +99,18 @@ defs-decide x y = record { yes = def-eq x y; no = λ e. rw e (def-refl y) }
 ticks-inf : (n : ℕ) → ticks n ≡ inf → ⊥
 ticks-inf n e = let z : ◌≡◌ {A = ℕ} 0 1 = cc in omega arith
 
-pub inf-decides : (t u : ℕ) → 1_000_000 < t → Decides (ltb 1_000_000 u) (ticks_of t) (ticks_of u)
-inf-decides t u h = go (ltb 1_000_000 u) refl
+-- two timers of different numbers are one if both are inf
+pub infs-decide : (t u : ℕ) → (t ≡ u → ⊥) → Decides (ltb 1_000_000 (min t u)) (ticks_of t) (ticks_of u)
+infs-decide t u h = go (ltb 1_000_000 t) (ltb 1_000_000 u) refl refl
   where
-    go : (b : Bool) → ltb 1_000_000 u ≡ b → Decides b (ticks_of t) (ticks_of u)
-    go true q = always (inf-of t h ∙ sym (inf-of u (ltb-true 1_000_000 u q)))
-    go false q = never (λ e. ticks-inf u (sym (ticks-of u (ltb-false 1_000_000 u q)) ∙ sym e ∙ inf-of t h))
-
-pub ticks-decide : (t u : ℕ) → t ≤ 1_000_000 → Decides (eqb t u) (ticks_of t) (ticks_of u)
-ticks-decide t u h = record { yes = λ e. ap ticks_of (eqb-true t u e); no = λ e. eq-eqb t u (go (ltb 1_000_000 u) refl e) }
-  where
-    go : (b : Bool) → ltb 1_000_000 u ≡ b → ticks_of t ≡ ticks_of u → t ≡ u
-    go true q e = absurd (ticks-inf t (sym (ticks-of t h) ∙ e ∙ inf-of u (ltb-true 1_000_000 u q)))
-    go false q e = let m : ticks t ≡ ticks u = sym (ticks-of t h) ∙ e ∙ ticks-of u (ltb-false 1_000_000 u q) in cc
+    go : (a b : Bool) → ltb 1_000_000 t ≡ a → ltb 1_000_000 u ≡ b → Decides (ltb 1_000_000 (min t u)) (ticks_of t) (ticks_of u)
+    go true true p q = let m : 1_000_000 < min t u = omega (arith, ltb-true 1_000_000 t p, ltb-true 1_000_000 u q) in rw (lt-ltb _ _ m) (always (inf-of t (ltb-true 1_000_000 t p) ∙ sym (inf-of u (ltb-true 1_000_000 u q))))
+    go true false p q =
+        let m : min t u ≤ 1_000_000 = omega (arith, ltb-false 1_000_000 u q) in
+        rw (le-ltb _ _ m) (never (λ e. ticks-inf u (sym (ticks-of u (ltb-false 1_000_000 u q)) ∙ sym e ∙ inf-of t (ltb-true 1_000_000 t p))))
+    go false true p q =
+        let m : min t u ≤ 1_000_000 = omega (arith, ltb-false 1_000_000 t p) in
+        rw (le-ltb _ _ m) (never (λ e. ticks-inf t (sym (ticks-of t (ltb-false 1_000_000 t p)) ∙ e ∙ inf-of u (ltb-true 1_000_000 u q))))
+    go false false p q =
+        let m : min t u ≤ 1_000_000 = omega (arith, ltb-false 1_000_000 t p) in
+        rw (le-ltb _ _ m) (never (λ e. let n : ticks t ≡ ticks u = sym (ticks-of t (ltb-false 1_000_000 t p)) ∙ e ∙ ticks-of u (ltb-false 1_000_000 u q) in h (cc)))

@@ -9,7 +9,7 @@
 // proofs/Decided      answers whether two things are one, carried over to other things
 // proofs/Fronts       the first elements of two lists: arguments, parameters
 // proofs/Pieces       the part at a place in its pieces, under the values of slots
-// proofs/Definitions  definitions of two tables, from a number on
+// proofs/Definitions  what a definition of a table is made of
 #![tactic(auto)]
 
 pub mod defs;

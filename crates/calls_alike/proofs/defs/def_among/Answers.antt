@@ -1,44 +1,31 @@
 -- One of the definitions is the same.
--- Idea: what is left to look at is the definitions from the number on.
-use Prim.Native.Nat.{◌-◌}
+use Prim.Native.Nat.{◌<◌}
 use native.Mathlib.Omega.{arith}
-use mathlib.Core.Path.{◌≡◌, ap, sym, ◌∙◌}
+use mathlib.Core.Path.{◌≡◌, refl, ap, sym, ◌∙◌}
+use borrow.Author.Rules.{rules}
+use borrow.Author.Tests.{tests}
+use Rattle.std.proofs.lemmas.Iterator.{YieldsList-from_range, serves_from_Range}
+use Rattle.std.proofs.lemmas.Iterator.Search.{any_from_yields_List}
 use Rattle.terms.specs.Rules.{some}
 use Rattle.terms.specs.Same.{same_def}
 use Rattle.table.specs.Words.{defs_in}
 use Rattle.table.specs.Meaning.{list_from, def_of, defs_of}
-use Rattle.table.proofs.Tests.{script-fine}
-use Rattle.calls_alike.proofs.Definitions.{from_next, from_end, some-here, some-later, some-none}
+use Rattle.table.proofs.Ranges.{some-range}
 use Rattle.calls_alike.proofs.defs.def_among.Goals as goal
 
-pub loop-e-init : goal.loop-e-init
-unfolding defs_of
-loop-e-init c =
-    let k = c.args in
-    let n = c.wide-n.ensures ∙ c.word.ensures in
-    let q : c.wide-n.result - 0 ≡ defs_in k.v.now = omega (arith, n) in
-    (n, omega arith, ap (λ m. some (same_def (def_of k.w.now k.d)) (list_from 0 m (def_of k.v.now))) q)
-
-pub same_def-requires : goal.same_def-requires
-same_def-requires c = (c.requires.0, c.requires.1, c.requires.2, omega (arith, c.loop-e-test.true, c.loop-e.invariant.0))
-
-pub returns-then-same_def : goal.returns-then-same_def
-returns-then-same_def c =
-    let k = c.args in
-    sym (some-here (same_def (def_of k.w.now k.d)) (from_next (def_of k.v.now) c.loop-e.e _ c.loop-e-test.true) (sym c.same_def.ensures ∙ c.if-same_def.true)) ∙ c.loop-e.invariant.2
-
-pub overflow_add-e : goal.overflow_add-e
-overflow_add-e c = omega (arith, c.loop-e-test.true, c.loop-e.invariant.0, (script-fine c.args.v.now c.requires.2).defs)
-
-pub loop-e-smaller : goal.loop-e-smaller
-loop-e-smaller c = omega (arith, c.loop-e-test.true)
-
-pub loop-e-preserved : goal.loop-e-preserved
-loop-e-preserved c =
-    let k = c.args in
-    (c.loop-e.invariant.0, omega (arith, c.loop-e-test.true), sym (some-later (same_def (def_of k.w.now k.d)) (from_next (def_of k.v.now) c.loop-e.e _ c.loop-e-test.true) (sym c.same_def.ensures ∙ c.if-same_def.false)) ∙ c.loop-e.invariant.2)
+pub any-requires-clause-callable : goal.any-requires-clause-callable
+any-requires-clause-callable c =
+    let n : c.wide.result ≡ defs_in c.args.v.now = c.wide.ensures ∙ c.word.ensures in
+    let r = c.requires in
+    serves_from_Range (λ x q r. search rules) (λ x b h. let f : x < defs_in c.args.v.now = omega (arith, n) in search (rules, r, f))
 
 pub returns : goal.returns
+unfolding defs_of
 returns c =
     let k = c.args in
-    sym (some-none (same_def (def_of k.w.now k.d)) (from_end (def_of k.v.now) c.loop-e.e _ c.loop-e-test.false)) ∙ c.loop-e.invariant.2
+    let n = c.wide.result in
+    let t = same_def (def_of k.w.now k.d) in
+    let e : n ≡ defs_in k.v.now = c.wide.ensures ∙ c.word.ensures in
+    any_from_yields_List (λ x. t (def_of k.v.now x)) _ _ _ c.any.ensures.ran (YieldsList-from_range 0 n n refl (omega arith)) (λ x b q h. search (rules, tests))
+    ∙ sym (some-range t 0 n (def_of k.v.now))
+    ∙ ap (λ m. some t (list_from 0 m (def_of k.v.now))) e

@@ -1,59 +1,34 @@
 -- As many arguments, each the same.
--- Idea: those before the position are the same.
+use Prim.Native.Nat.{ℕ, ◌<◌}
 use native.Mathlib.Omega.{arith}
-use borrow.Author.Count.{below_more}
+use mathlib.Core.Path.{◌≡◌, refl}
+use borrow.Author.Rules.{rules}
+use borrow.Author.Tests.{tests}
+use Rattle.std.proofs.lemmas.Iterator.{YieldsList-from_range, serves_from_Range, cases_from_all}
+use Rattle.table.specs.Words.{arg_at}
 use Rattle.text_process.specs.Values.{value_seen}
-use Rattle.text_process.proofs.Heads.{place-small}
-use Rattle.calls_alike.proofs.Decided.{always, differ, shown, placed}
+use Rattle.calls_alike.proofs.Decided.{all-decides, shown, unlike}
 use Rattle.calls_alike.proofs.Fronts.{arg-ok, args-same, args-at}
 use Rattle.calls_alike.proofs.parts.same_args.Goals as goal
 
-pub loop-k-init : goal.loop-k-init
-loop-k-init c = (omega arith, λ m h. absurd (omega arith))
-
-pub overflow_add-k : goal.overflow_add-k
-overflow_add-k c = omega (arith, c.requires.n_bound.0)
-
-pub field-requires : goal.field-requires
-field-requires c = (place-small c.requires.places.0, omega (arith, c.requires.n_bound.0))
-
-pub overflow_add-k-in-loop-k : goal.overflow_add-k-in-loop-k
-overflow_add-k-in-loop-k c = omega (arith, c.requires.n_bound.0, c.loop-k-test.true)
-
-pub field-requires-in-loop-k : goal.field-requires-in-loop-k
-field-requires-in-loop-k c = (place-small c.requires.places.1, omega (arith, c.requires.n_bound.0, c.loop-k-test.true))
-
-pub same_value-requires : goal.same_value-requires
-same_value-requires c =
+pub all-requires-clause-callable : goal.all-requires-clause-callable
+all-requires-clause-callable c =
     let k = c.args in
-    let l = c.loop-k.k in
-    record {
-      places = c.requires.places;
-      a_value = (
-        rw c.field.ensures (arg-ok k.w.now k.i k.n l c.requires.n_bound.0 c.requires.n_bound.1 c.loop-k-test.true),
-        rw c.field-in-loop-k.ensures (arg-ok k.v.now k.j k.n l c.requires.n_bound.0 c.requires.n_bound.2 c.loop-k-test.true),
-      );
-    }
-
-pub returns-then-not-same_value : goal.returns-then-not-same_value
-returns-then-not-same_value c =
-    let k = c.args in
-    differ (placed (value_seen k.w.now k.i k.vals.now) (value_seen k.v.now k.j k.vals2.now) c.field.ensures c.field-in-loop-k.ensures c.same_value.ensures) c.if-not-same_value.true
-    (λ e. args-at k.w.now k.i k.vals.now k.v.now k.j k.vals2.now k.n c.requires.n_bound.0 e c.loop-k.k c.loop-k-test.true)
-
-pub overflow_add-k-in-loop-k-2 : goal.overflow_add-k-in-loop-k-2
-overflow_add-k-in-loop-k-2 c = omega (arith, c.requires.n_bound.0, c.loop-k-test.true)
-
-pub loop-k-smaller : goal.loop-k-smaller
-loop-k-smaller c = omega (arith, c.loop-k-test.true)
-
-pub loop-k-preserved : goal.loop-k-preserved
-loop-k-preserved c =
-    let k = c.args in
-    let d = placed (value_seen k.w.now k.i k.vals.now) (value_seen k.v.now k.j k.vals2.now) c.field.ensures c.field-in-loop-k.ensures c.same_value.ensures in
-    (omega (arith, c.loop-k-test.true), below_more _ c.loop-k.k c.loop-k.invariant.1 (shown d c.if-not-same_value.false))
+    let n = c.requires.n_bound in
+    serves_from_Range (λ x q r. search rules)
+    (λ x b e.
+    let f : x < 4 = omega (arith, n.0) in
+    let p = c.requires.places in
+    let s = arg-ok k.w.now.table.now k.i k.n x n.0 n.1 e in
+    let t = arg-ok k.v.now.table.now k.j k.n x n.0 n.2 e in
+    search (rules, f, p, s, t))
 
 pub returns : goal.returns
 returns c =
     let k = c.args in
-    always (args-same k.w.now k.i k.vals.now k.v.now k.j k.vals2.now k.n c.requires.n_bound.0 (λ m h. c.loop-k.invariant.1 m (omega (arith, c.loop-k.invariant.0, c.loop-k-test.false))))
+    let f = λ (m : ℕ). value_seen k.w.now.table.now k.i k.w.now.vals (arg_at k.w.now.table.now k.i m) in
+    let g = λ (m : ℕ). value_seen k.v.now.table.now k.j k.v.now.vals (arg_at k.v.now.table.now k.j m) in
+    all-decides f g k.n
+    (cases_from_all _ _ _ (λ m. f m ≡ g m) (λ m. f m ≡ g m → ⊥) c.all.ensures.ran (YieldsList-from_range 0 k.n k.n refl (omega arith)) (λ x q e. search (rules, tests, shown)) (λ x q e. search (rules, tests, unlike)))
+    (args-same k.w.now.table.now k.i k.w.now.vals k.v.now.table.now k.j k.v.now.vals k.n c.requires.n_bound.0)
+    (args-at k.w.now.table.now k.i k.w.now.vals k.v.now.table.now k.j k.v.now.vals k.n c.requires.n_bound.0)

@@ -9,4 +9,4 @@ use Rattle.calls_alike.proofs.parts.same_name.Goals as goal
 pub returns : goal.returns
 returns c =
     let k = c.args in
-    flipped (told (c.is_named.ensures ∙ ap (same_name (name_at k.v.now k.p)) c.key_at-x.ensures) (names-decide (name_at k.v.now k.p) (name_at k.w.now k.o)))
+    flipped (told (c.is_named.ensures ∙ ap (same_name (name_at k.v.now k.p)) c.key_at.ensures) (names-decide (name_at k.v.now k.p) (name_at k.w.now k.o)))

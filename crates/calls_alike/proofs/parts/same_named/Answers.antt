@@ -1,15 +1,16 @@
 -- Two locations by their names, or two variables by theirs.
 -- By cases on which each is.
 use native.Mathlib.Omega.{arith}
-use Prim.Native.Nat.{ℕ, ◌<◌, ◌≤◌, ◌-◌, ◌+◌, ◌*◌}
-use mathlib.Core.List.{List}
-use mathlib.Core.Path.{◌≡◌, ap, sym, ◌∙◌}
-use borrow.Author.Tests.{lt-ltb, le-ltb}
+use Prim.Native.Nat.{ℕ}
+use mathlib.Core.Bool.{Bool, true, false, cond, beq}
+use mathlib.Core.Path.{◌≡◌, ap, sym}
+use lib.Dec.{ltb}
 use Rattle.terms.specs.Names.{Name}
+use Rattle.terms.specs.Terms.{Value}
 use Rattle.terms.specs.Terms.Value.{loc, var}
-use Rattle.table.specs.Words.{locs_at, name_at, loc_name, field, name_size, slot_field}
+use Rattle.calls_alike.specs.Decides.{Decides}
 use Rattle.calls_alike.specs.Pieces.{named}
-use Rattle.calls_alike.proofs.Decided.{never, carried, placed}
+use Rattle.calls_alike.proofs.Decided.{never, carried}
 use Rattle.calls_alike.proofs.parts.same_named.Goals as goal
 
 apart : {x y : Name} → loc x ≡ var y → ⊥
@@ -21,38 +22,24 @@ loc-is e = cc
 var-is : {x y : Name} → var x ≡ var y → x ≡ y
 var-is e = cc
 
-location : (w : List ℕ) (i a : ℕ) → a < 64 → named w i a ≡ loc (name_at w (locs_at + a * name_size))
-unfolding named loc_name
-location w i a h = rw (lt-ltb a 64 h)
+abbrev value : Bool → Name → Value
+value b x = cond b (loc x) (var x)
 
-variable : (w : List ℕ) (i a : ℕ) → 64 ≤ a → named w i a ≡ var (name_at w (field w i (slot_field + (a - 64))))
+one_sort : (a b : Bool) (x y : Name) (r : Bool) → beq a b ≡ true → Decides r x y → Decides r (value a x) (value b y)
+one_sort true true x y r h d = carried d (λ e. ap loc e) loc-is
+one_sort false false x y r h d = carried d (λ e. ap var e) var-is
+one_sort true false x y r h d = let z : false ≡ true = h in cc
+one_sort false true x y r h d = let z : false ≡ true = h in cc
+
+two_sorts : (a b : Bool) (x x' y y' : Name) → beq a b ≡ false → Decides false (cond a (loc x) (var x')) (cond b (loc y) (var y'))
+two_sorts true false x x' y y' h = never (λ e. apart e)
+two_sorts false true x x' y y' h = never (λ e. apart (sym e))
+two_sorts true true x x' y y' h = let z : true ≡ false = h in cc
+two_sorts false false x x' y y' h = let z : true ≡ false = h in cc
+
+pub returns-then-a-b : goal.returns-then-a-b
+returns-then-a-b c = rw (c.name_place.ensures, c.name_place-then-a-b.ensures) (one_sort _ _ _ _ _ c.if-a-b.true c.same_name.ensures)
+
+pub returns-else-a-b : goal.returns-else-a-b
 unfolding named
-variable w i a h = rw (le-ltb a 64 h)
-
-pub returns-then-n-ge64 : goal.returns-then-n-ge64
-returns-then-n-ge64 c =
-    let k = c.args in
-    never (λ e. apart (sym (location k.w.now k.i k.a (omega (arith, c.wide-m.ensures, c.if-m-lt64.true))) ∙ e ∙ variable k.v.now k.j k.b (omega (arith, c.wide-n.ensures, c.if-n-ge64.true))))
-
-pub returns-then-m-lt64 : goal.returns-then-m-lt64
-returns-then-m-lt64 c =
-    let k = c.args in
-    let p = location k.w.now k.i k.a (omega (arith, c.wide-m.ensures, c.if-m-lt64.true)) in
-    let q = location k.v.now k.j k.b (omega (arith, c.wide-n.ensures, c.if-n-ge64.false)) in
-    carried (placed (λ n. name_at k.w.now (locs_at + n * name_size)) (λ n. name_at k.v.now (locs_at + n * name_size)) c.wide-m.ensures c.wide-n.ensures c.same_name.ensures)
-    (λ e. p ∙ ap loc e ∙ sym q) (λ e. loc-is (sym p ∙ e ∙ q))
-
-pub returns-then-n-lt64 : goal.returns-then-n-lt64
-returns-then-n-lt64 c =
-    let k = c.args in
-    never (λ e. apart (sym (location k.v.now k.j k.b (omega (arith, c.wide-n.ensures, c.if-n-lt64.true))) ∙ sym e ∙ variable k.w.now k.i k.a (omega (arith, c.wide-m.ensures, c.if-m-lt64.false))))
-
-pub returns : goal.returns
-returns c =
-    let k = c.args in
-    let p = variable k.w.now k.i k.a (omega (arith, c.wide-m.ensures, c.if-m-lt64.false)) in
-    let q = variable k.v.now k.j k.b (omega (arith, c.wide-n.ensures, c.if-n-lt64.false)) in
-    let m = c.wide-o.ensures ∙ c.word.ensures ∙ ap (λ n. field k.w.now k.i (slot_field + (n - 64))) c.wide-m.ensures in
-    let n = c.wide-p.ensures ∙ c.word-2.ensures ∙ ap (λ n. field k.v.now k.j (slot_field + (n - 64))) c.wide-n.ensures in
-    carried (placed (name_at k.w.now) (name_at k.v.now) m n c.same_name-2.ensures)
-    (λ e. p ∙ ap var e ∙ sym q) (λ e. var-is (sym p ∙ e ∙ q))
+returns-else-a-b c = rw c.if-a-b.false (two_sorts (ltb c.args.a 64) (ltb c.args.b 64) _ _ _ _ c.if-a-b.false)

@@ -19,7 +19,7 @@ same_named-requires c = (place-small c.requires.places.0, place-small c.requires
 pub returns : goal.returns
 returns c =
     let k = c.args in
-    let p = value-is k.w.now k.i k.vals.now c.requires.places.0.slots k.a c.requires.a_value.0 in
-    let q = value-is k.v.now k.j k.vals2.now c.requires.places.1.slots k.b c.requires.a_value.1 in
-    carried (placed (named k.w.now k.i) (named k.v.now k.j) c.resolve-x.ensures c.resolve-y.ensures c.same_named.ensures)
+    let p = value-is k.w.now.table.now k.i k.w.now.vals c.requires.places.0.slots k.a c.requires.a_value.0 in
+    let q = value-is k.v.now.table.now k.j k.v.now.vals c.requires.places.1.slots k.b c.requires.a_value.1 in
+    carried (placed (named k.w.now.table.now k.i) (named k.v.now.table.now k.j) c.resolve-x.ensures c.resolve-y.ensures c.same_named.ensures)
     (λ e. sym p ∙ e ∙ q) (λ e. p ∙ e ∙ sym q)
