@@ -3,12 +3,12 @@
 use Prim.Native.Nat.{ℕ, zero, suc, ◌+◌, ◌-◌, ◌≤◌, ◌<◌}
 use native.Mathlib.Omega.{arith}
 use mathlib.Core.List.{List, [], ◌∷◌, map}
-use mathlib.Core.Bool.{Bool, true, false, cond, false≢true}
+use mathlib.Core.Bool.{Bool, true, false, cond, not, ◌&&◌, false≢true}
 use mathlib.Core.Path.{◌≡◌, refl, ap, sym, ◌∙◌}
 use lib.ListN.{length, get_or, set, drop, replicate, length-map, length-set, drop_of_length-le}
-use lib.Dec.{eqb}
+use lib.Dec.{eqb, ltb}
 use lib.Seq.{get_or-set_same, get_or-set_other}
-use borrow.Author.Tests.{eqb-true, eqb-false}
+use borrow.Author.Tests.{eqb-true, eqb-false, ltb-true, ltb-false}
 use Rattle.terms.specs.Terms.{Component}
 use Rattle.terms.specs.Rules.{some}
 use Rattle.terms.specs.Same.{equal, without, reordered}
@@ -18,7 +18,7 @@ use Rattle.table.specs.declared.Comp.{Comp}
 use Rattle.table.specs.declared.State.{State}
 use Rattle.table.specs.Meaning.{comp_in, means, comps_of, net_of, no_comp}
 use Rattle.table.proofs.InUse.{comps-length, in_use, comp-at}
-use Rattle.calls_same.specs.Unused.{unused, raised_to}
+use Rattle.calls_same.specs.Unused.{unused, is_match, raised_to}
 
 -- ── how many ──
 reordered-long : (cs es : List Component) → reordered cs es ≡ true → length cs ≡ length es
@@ -133,6 +133,26 @@ net-length w st = length-map (comps_of st) (means w) ∙ comps-length st
 -- the unused ones before the position n are not equal to c
 abbrev pub Unequal : List ℕ → Comp → List ℕ → State → List Bool → ℕ → Type 0
 Unequal w c v b us n = (m : ℕ) → m < n → get_or us m false ≡ false → equal (means w c) (means v (comp_in b.c m)) ≡ false
+
+-- what is_match says by yes and by no
+pub match-yes : (w : List ℕ) (c : Comp) (v : List ℕ) (b : State) (us : List Bool) (p : ℕ) → is_match w c v b.c us p ≡ true → (get_or us p false ≡ false) × (equal (means w c) (means v (comp_in b.c p)) ≡ true)
+unfolding is_match
+match-yes w c v b us p = go (get_or us p false)
+  where
+    go : (u : Bool) → (not u && equal (means w c) (means v (comp_in b.c p))) ≡ true → (u ≡ false) × (equal (means w c) (means v (comp_in b.c p)) ≡ true)
+    go true e = absurd (false≢true e)
+    go false e = (refl, e)
+
+no-match : (w : List ℕ) (c : Comp) (v : List ℕ) (b : State) (us : List Bool) (m : ℕ) → is_match w c v b.c us m ≡ false → get_or us m false ≡ false → equal (means w c) (means v (comp_in b.c m)) ≡ false
+unfolding is_match
+no-match w c v b us m q e = rw e at q
+
+pub match-no : (w : List ℕ) (c : Comp) (v : List ℕ) (b : State) (us : List Bool) (low n : ℕ) → Used us low → ((m : ℕ) → low ≤ m → m < n → is_match w c v b.c us m ≡ false) → Unequal w c v b us n
+match-no w c v b us low n u none m h e = go (ltb m low) refl
+  where
+    go : (a : Bool) → ltb m low ≡ a → equal (means w c) (means v (comp_in b.c m)) ≡ false
+    go true q = absurd (false≢true (sym e ∙ u m (ltb-true m low q)))
+    go false q = no-match w c v b us m (none m (ltb-false m low q) h) e
 
 -- what is left of the first from the position k on, and the unused ones of the second, are the same exactly if all are
 pub record Left (w v : List ℕ) (a b : State) (us : List Bool) (k : ℕ) : Type 0 where

@@ -13,6 +13,7 @@
 mod comps;
 
 ghost use Rattle.std.specs.Prelude.{◌≡◌, true, ◌&&◌, eqb};
+ghost use Rattle.terms.specs.Refusals.{answer_of};
 ghost use Rattle.terms.specs.Same.{same};
 ghost use Rattle.table.specs.Words.{edition_in};
 ghost use Rattle.table.specs.Meaning.{network_of};
@@ -24,6 +25,7 @@ use comps::same_comps;
 use table::words::word;
 use table::{EDITION, Script, Words};
 use table_valid::is_valid;
+use terms::refusal::Refusal;
 
 // What the call returns: 0 or the number of the question answered by no, and whether the networks are the same.
 #[repr(C)]
@@ -33,26 +35,27 @@ pub struct Compared {
     pub yes: bool,
 }
 
+// The answer in the call's form.
+fn answer(x: Result<bool, Refusal>) -> Compared
+    ensures { result ≡ compared (answer_of (λ y. y) x) }
+{
+    match x {
+        Ok(yes) => Compared { code: 0, yes },
+        Err(e) => Compared {
+            code: e.number(),
+            yes: false,
+        },
+    }
+}
+
 // The call `same`, on the networks of two scripts or of one script twice: 17 of both, then the comparison.
 pub fn same(w: &Script, a: &Words, n: usize, v: &Script, b: &Words, m: usize) -> Compared
     ensures { result ≡ compared (same_answer w.now (record { c = a.now; n = n }) v.now (record { c = b.now; n = m })) }
 {
-    if !is_valid(w, a, n) {
-        return Compared {
-            code: 17,
-            yes: false,
-        };
+    if !is_valid(w, a, n) || !is_valid(v, b, m) {
+        return answer(Err(Refusal::NotValid));
     }
-    if !is_valid(v, b, m) {
-        return Compared {
-            code: 17,
-            yes: false,
-        };
-    }
-    Compared {
-        code: 0,
-        yes: same_networks(w, a, n, v, b, m),
-    }
+    answer(Ok(same_networks(w, a, n, v, b, m)))
 }
 
 // The editions of two scripts.
@@ -67,14 +70,5 @@ fn same_networks(w: &Script, a: &Words, n: usize, v: &Script, b: &Words, m: usiz
     requires { (valid w.now (record { c = a.now; n = n }) ≡ true) × (valid v.now (record { c = b.now; n = m }) ≡ true) }
     ensures { result ≡ (eqb (edition_in w.now) (edition_in v.now) && same (network_of w.now (record { c = a.now; n = n })) (network_of v.now (record { c = b.now; n = m }))) }
 {
-    if !same_edition(w, v) {
-        return false;
-    }
-    if !defs_within(w, v) {
-        return false;
-    }
-    if !defs_within(v, w) {
-        return false;
-    }
-    same_comps(w, a, n, v, b, m)
+    same_edition(w, v) && defs_within(w, v) && defs_within(v, w) && same_comps(w, a, n, v, b, m)
 }

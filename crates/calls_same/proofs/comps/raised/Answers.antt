@@ -7,6 +7,6 @@ pub returns-then-p-low : goal.returns-then-p-low
 unfolding raised_to
 returns-then-p-low c = rw (eq-eqb _ _ c.if-p-low.true)
 
-pub returns : goal.returns
+pub returns-else-p-low : goal.returns-else-p-low
 unfolding raised_to
-returns c = rw (ne_eqb _ _ c.if-p-low.false)
+returns-else-p-low c = rw (ne_eqb _ _ c.if-p-low.false)
