@@ -5,29 +5,21 @@
 //   proofs/Waits   the waits that an action and a tick leave on the table are those of the rules
 #![tactic(auto)]
 
-ghost use Rattle.std.specs.Prelude.{◌≡◌, ◌+◌, ◌≤◌, ◌<◌};
+ghost use Rattle.std.specs.Prelude.{◌≡◌, ◌+◌, ◌≤◌};
 ghost use Rattle.table.specs.Meaning.{total_in, count_in};
 ghost use Rattle.table.specs.Valid.{ledger_ok};
 ghost use Rattle.table_waits.specs.Ledger.{counted};
 
 use table::words::wide;
 use table::{COUNT, TOTAL_HIGH, TOTAL_LOW, Words};
-use waits::MOST;
-
-// A word is below 2^32: of a number by value this is known.
-fn within(x: u32) -> u32
-    ensures { (result ≡ x) × (result < 4294967296) }
-{
-    x
-}
+use waits::{LONGEST, MOST};
 
 // How long the senders of all messages had waited together.
+#[tactic(auto, unfolding(table::specs::Meaning::total_in))]
 pub fn total(c: &Words) -> usize
     ensures { result ≡ total_in c.now }
 {
-    let low = wide(within(c[TOTAL_LOW]));
-    let high = wide(within(c[TOTAL_HIGH]));
-    low + high * 4294967296
+    wide(c[TOTAL_LOW]) + wide(c[TOTAL_HIGH]) * 4294967296
 }
 
 // How many messages there were.
@@ -38,17 +30,16 @@ pub fn messages(c: &Words) -> u32
 }
 
 // What question 17 asks of the total and the count.
+#[tactic(auto, using(std::proofs::lemmas::Bool::Decides::nat_tests), unfolding(table::specs::Valid::ledger_ok))]
 pub fn ledger_ok(c: &Words) -> bool
     ensures { result ≡ ledger_ok c.now }
 {
     let n = messages(c);
-    if MOST < n {
-        return false;
-    }
-    total(c) <= 1000000 * wide(n)
+    n <= MOST && total(c) <= wide(LONGEST) * wide(n)
 }
 
 // So many messages more, whose senders had waited sum ticks together.
+#[tactic(auto, unfolding(crate::specs::Ledger::counted))]
 pub fn count_messages(c: &mut Words, sent: u32, sum: usize)
     requires { (count_in c.old + sent ≤ 1000000) × (total_in c.old + sum ≤ 2000000000000) }
     ensures { c.new ≡ counted c.old sent sum }
