@@ -1,17 +1,26 @@
 -- What two writes, or two reads, move one after the other is what they move together.
-use Rattle.std.proofs.Common.{ℕ, ◌+◌, ◌-◌, ◌≤◌, List, ◌++◌, length, take, drop, slice_range, sym, ap, ◌∙◌, subst, le_refl, length-take-le}
+use Rattle.std.proofs.Common.{ℕ, ◌≡◌, ◌+◌, ◌≤◌, List, ◌++◌, length, take, drop, slice_range, sym, ap, ◌∙◌, subst, refl, le_refl, length-append, length-take-le, append_assoc, take-append-drop, arith}
 use Rattle.std.proofs.Math.Seq.{take-add}
-use Rattle.std.proofs.lemmas.List.{take-take, take-append-le, drop_at}
+use Rattle.std.proofs.lemmas.List.{take-append-le, take_at, drop_at, take_rest}
 use Rattle.std.proofs.lemmas.Slice.{take-put_mid_below}
 use Rattle.std.proofs.KnownBytes.{Appends-trans, Consumes-trans}
 use Rattle.std.specs.Io.KnownBytes.{Appends, Consumes}
 use Rattle.std.specs.declared.option.Option.{Option}
 use borrow.Rule.Slice.PartMut.{put_mid, post_of}
 
--- The first d bytes were written, and then k of those that are left up to n.
-pub written_more : (a b c : Option (List ℕ)) (xs : List ℕ) (d k n : ℕ) → k ≤ n - d → Appends a b (take d xs) → Appends b c (take k (slice_range xs d n)) → Appends a c (take (d + k) xs)
-written_more a b c xs d k n few first then' =
-    subst (Appends a c) (sym (take-add d k xs)) (Appends-trans a b c _ _ first (subst (Appends b c) (take-take k (n - d) (drop d xs) few) then'))
+-- Of what was left behind the bytes that were written, k more were.
+pub written_more : (a b c : Option (List ℕ)) (out done rest : List ℕ) (k : ℕ) → out ≡ done ++ rest → Appends a b done → Appends b c (take k rest)
+    → (x : List ℕ) × (out ≡ x ++ slice_range rest k (length rest)) × Appends a c x
+written_more a b c out done rest k e first then' = (
+  done ++ take k rest,
+  e ∙ ap (λ l. done ++ l) (sym (take-append-drop k rest)) ∙ sym (append_assoc done (take k rest) (drop k rest)) ∙ ap (λ l. (done ++ take k rest) ++ l) (sym (take_rest rest k)),
+  Appends-trans a b c _ _ first then',
+)
+
+-- What was written before a write that failed is a front of the whole.
+pub written_so_far : (a b : Option (List ℕ)) (out done rest : List ℕ) → out ≡ done ++ rest → Appends a b done → (k : ℕ) × (k ≤ length out) × Appends a b (take k out)
+written_so_far a b out done rest e h =
+    (length done, rw (e, length-append done rest) (omega arith), subst (Appends a b) (sym (ap (take (length done)) e ∙ take_at done rest (length done) refl)) h)
 
 -- The first d bytes were read, and then k more into the part behind them, which is ys now.
 pub read_more : (a b c : Option (List ℕ)) (xs ys : List ℕ) (d k room : ℕ) → d ≤ length xs → k ≤ length ys → Consumes a b (take d xs) → Consumes b c (take k ys)

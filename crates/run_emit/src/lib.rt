@@ -6,86 +6,57 @@
 //   proofs/Moved   what two reads, or two writes, move one after the other
 #![tactic(auto)]
 
-ghost use Rattle.std.specs.Prelude.{◌≡◌, ◌≤◌, ◌<◌, ℕ, length, take, true, false, MatchBool};
+ghost use Rattle.std.specs.Prelude.{◌≡◌, ◌≤◌, ◌<◌, ℕ, length, take, MatchResult, IfOk, IfErr};
 ghost use Rattle.std.specs.Io.KnownBytes.{Appends, Consumes, IsAtEnd};
 
-use std::io::{Read, Write};
+use std::io;
+use std::io::{ErrorKind, Read, Write};
 
 #[cfg(test)]
 mod tests;
 
-// What was read: whether a read failed, and the number of bytes at the front of the buffer.
-#[derive(Clone, Copy)]
-pub struct Input {
-    pub failed: bool,
-    pub len: usize,
+// A read failed. The bytes that had come before it are at the front of the buffer.
+#[derive(Clone, Copy, Debug)]
+pub struct ReadFailed {
+    pub before: usize,
 }
 
-// One read of a reader. The answer 0 bytes is its end.
-fn read_some<R: Read>(from: &mut R, buf: &mut [u8]) -> Input
-    ensures within { result.len ≤ length buf.old }
-    ensures bytes { result.failed ≡ false → Consumes (R.remaining from.old) (R.remaining from.new) (take result.len buf.new) }
-    ensures end { result.failed ≡ false → result.len ≡ 0 → 0 < length buf.old → IsAtEnd (R.remaining from.new) }
+// What a reader gives, up to its end or until the buffer is full: the number of bytes at the front of the buffer. A read that fails is not tried again.
+pub fn read_input<R: Read>(from: &mut R, buf: &mut [u8]) -> Result<usize, ReadFailed>
+    ensures within { IfOk result (λ n. n ≤ length buf.new) }
+    ensures front { IfOk result (λ n. n ≡ length (take n buf.new)) }
+    ensures bytes { IfOk result (λ n. Consumes (R.remaining from.old) (R.remaining from.new) (take n buf.new)) }
+    ensures end { IfOk result (λ n. n < length buf.new → IsAtEnd (R.remaining from.new)) }
+    ensures failed { IfErr result (λ e. (e.before < length buf.new) × Consumes (R.remaining from.old) (R.remaining from.new) (take e.before buf.new)) }
 {
-    match from.read(buf) {
-        Ok(len) => Input { failed: false, len },
-        Err(_) => Input {
-            failed: true,
-            len: 0,
-        },
-    }
-}
-
-// Standard input, up to its end or until the buffer is full. A read that fails is not tried again, and then nothing counts as read.
-pub fn read_input<R: Read>(from: &mut R, buf: &mut [u8]) -> Input
-    ensures within { result.len ≤ length buf.new }
-    ensures front { result.len ≡ length (take result.len buf.new) }
-    ensures bytes { result.failed ≡ false → Consumes (R.remaining from.old) (R.remaining from.new) (take result.len buf.new) }
-    ensures end { result.failed ≡ false → result.len < length buf.new → IsAtEnd (R.remaining from.new) }
-    ensures nothing { result.failed ≡ true → result.len ≡ 0 }
-{
-    let mut n: usize = 0;
+    let mut n = 0;
     while n < buf.len() {
-        let p = read_some(from, &mut buf[n..]);
-        if p.failed {
-            return Input {
-                failed: true,
-                len: 0,
-            };
+        match from.read(&mut buf[n..]) {
+            Ok(0) => return Ok(n),
+            Ok(k) => n += k,
+            Err(_) => return Err(ReadFailed { before: n }),
         }
-        if p.len == 0 {
-            return Input {
-                failed: false,
-                len: n,
-            };
-        }
-        n += p.len;
     }
-    Input {
-        failed: false,
-        len: n,
-    }
+    Ok(n)
 }
 
-// The first n bytes of a buffer that has so many: whether all were written and nothing holds them back. A write that fails is not tried again; what was
-// written before it stays.
-pub fn emit<W: Write>(to: &mut W, out: &[u8], n: usize) -> bool
-    requires { n ≤ length out.now }
-    ensures { MatchBool result (Appends (W.contents to.old) (W.contents to.new) (take n out.now))
-        ((k : ℕ) × (k ≤ n) × Appends (W.contents to.old) (W.contents to.new) (take k out.now)) }
+// The bytes, whole: all were written, and nothing holds them back. A write that fails is not tried again; what was written before it stays.
+pub fn emit<W: Write>(to: &mut W, out: &[u8]) -> io::Result<()>
+    ensures { MatchResult result (λ _. Appends (W.contents to.old) (W.contents to.new) out.now)
+        (λ _. (k : ℕ) × (k ≤ length out.now) × Appends (W.contents to.old) (W.contents to.new) (take k out.now)) }
 {
-    let mut done = 0;
-    while done < n {
-        match to.write(&out[done..n]) {
-            Ok(0) => return false,
-            Ok(k) => done += k,
-            Err(_) => return false,
+    let mut rest = out;
+    while !rest.is_empty() {
+        let k = to.write(rest)?;
+        if k == 0 {
+            return Err(io::Error::from(ErrorKind::WriteZero));
         }
+        rest = &rest[k..];
     }
-    to.flush().is_ok()
+    to.flush()
 }
 
 // A message to standard error. There is nowhere left to say that it could not be written.
 pub fn report<W: Write>(to: &mut W, message: &[u8]) {
-    let _ = emit(to, message, message.len());
+    let _ = emit(to, message);
 }

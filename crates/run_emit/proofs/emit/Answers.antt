@@ -1,8 +1,20 @@
-use Rattle.std.proofs.Common.{◌≤◌, ◌+◌, rules, arith}
-use Rattle.run_emit.proofs.Moved.{written_more}
+use Rattle.std.proofs.KnownBytes.{Appends-kept}
+use Rattle.std.proofs.lemmas.Result.{MatchResult-from_err}
+use Rattle.run_emit.proofs.Moved.{written_more, written_so_far}
 use Rattle.run_emit.proofs.emit.Goals as goal
 
-pub loop-done-preserved : goal.loop-done-preserved
-loop-done-preserved g c =
-    let within : c.loop-done.done + c.in-Ok.k ≤ c.args.n = search rules in
-    (within, written_more _ _ _ c.args.out.now c.loop-done.done c.in-Ok.k c.args.n (omega arith) c.loop-done.invariant.1 c.in-Ok.ensures.bytes)
+pub returns-in_err-k : goal.returns-in_err-k
+returns-in_err-k g c =
+    let (done, split, appended) = c.loop-rest.invariant in
+    MatchResult-from_err _ _ _ c.from_residual.ensures.0 (λ y. written_so_far _ _ _ done _ split (Appends-kept _ _ _ done appended c.in_err-k.ensures.bytes))
+
+pub returns-then-k-eq0 : goal.returns-then-k-eq0
+returns-then-k-eq0 g c =
+    let (done, split, appended) = c.loop-rest.invariant in
+    let (x, more, a) = written_more _ _ _ _ done _ c.in_ok-k.k split appended c.in_ok-k.ensures.bytes in
+    written_so_far _ _ _ x _ more a
+
+pub loop-rest-preserved : goal.loop-rest-preserved
+loop-rest-preserved g c =
+    let (done, split, appended) = c.loop-rest.invariant in
+    written_more _ _ _ _ done _ c.in_ok-k.k split appended c.in_ok-k.ensures.bytes

@@ -1,10 +1,10 @@
--- The loop's invariant: `done` bytes were written.
-use Rattle.std.proofs.Common.{◌-◌, ◌≤◌, take}
+-- The loop's invariant: what was written stands before what is left.
+use Rattle.std.proofs.Common.{◌≡◌, ℕ, List, ◌++◌, length}
 use Rattle.std.specs.Io.KnownBytes.{Appends}
 use Rattle.run_emit.proofs.emit.Given as goal
 
-abbrev pub invariant-loop-done : goal.invariant-loop-done
-invariant-loop-done g l = (l.done ≤ l.n) × Appends (g.W.Write.contents l.initial.to) (g.W.Write.contents l.to) (take l.done l.out)
+abbrev pub invariant-loop-rest : goal.invariant-loop-rest
+invariant-loop-rest g l = (done : List ℕ) × (l.out ≡ done ++ l.rest) × Appends (g.W.Write.contents l.initial.to) (g.W.Write.contents l.to) done
 
-abbrev pub decreases-loop-done : goal.decreases-loop-done
-decreases-loop-done g l = l.n - l.done
+abbrev pub decreases-loop-rest : goal.decreases-loop-rest
+decreases-loop-rest g l = length l.rest
