@@ -2,68 +2,36 @@
 // neither. Its input and output are the reference engine's `vectors`.
 #![tactic(auto)]
 
-ghost use Rattle.std.specs.Prelude.{◌≤◌, length};
+use run_emit::{emit, read_input};
+use std::io::Write;
 
-use std::io::{Read, Write};
-
-// The place of the next `#` from a on, or the end.
-fn mark(s: &[u8], a: usize) -> usize
-    requires { a ≤ length s.now }
-    ensures { (a ≤ result) × (result ≤ length s.now) }
-{
-    let mut i = a;
-    while i < s.len() {
-        if s[i] == b'#' {
-            return i;
-        }
-        i += 1;
-    }
-    i
-}
-
-// One text. A printout that is longer than the buffer is left out; none of the stored ones is.
+// One text. A printout that is longer than the buffer is left out; none of the stored ones is. A failed write stops none of those that follow.
 fn one<W: Write>(to: &mut W, text: &[u8]) {
     let mut out = [0u8; 65536];
     let k = run_print::printout(text, &mut out);
     if k <= out.len() {
-        run_emit::emit(to, &out, k);
+        let _ = emit(to, &out[..k]);
     }
-    run_emit::emit(to, b"#\n", 2);
+    let _ = emit(to, b"#\n");
 }
 
-// What comes up to the end, up to a read that fails, or until the buffer is full: how many bytes.
-fn read_full<R: Read>(from: &mut R, buf: &mut [u8]) -> usize
-    ensures { result ≤ length buf.new }
-{
-    let mut n: usize = 0;
-    while n < buf.len() {
-        let k = match from.read(&mut buf[n..]) {
-            Ok(k) => k,
-            Err(_) => 0,
-        };
-        if k == 0 {
-            return n;
-        }
-        n += k;
-    }
-    n
-}
-
+// What comes up to the end, up to a read that fails, or until the buffer is full.
 fn main(rt: HostRuntime) {
     let mut text = [0u8; 65536];
-    let n = read_full(&mut rt.stdin(), &mut text);
+    let n = read_input(&mut rt.stdin(), &mut text).unwrap_or_else(|e| e.before);
     all(&mut rt.stdout(), &text[..n]);
 }
 
-// All of them.
+// All of them, each up to its `#` or the end; the byte behind a `#` ends its line.
 fn all<W: Write>(to: &mut W, s: &[u8]) {
-    let mut a = 0;
-    while a < s.len() {
-        let e = mark(s, a);
-        one(to, &s[a..e]);
-        if s.len() - e < 2 {
-            return;
+    let mut rest = s;
+    while !rest.is_empty() {
+        let e = rest.iter().position(|c| *c == b'#').unwrap_or(rest.len());
+        let (text, mark) = rest.split_at(e);
+        one(to, text);
+        match mark {
+            [_, _, next @ ..] => rest = next,
+            _ => return,
         }
-        a = e + 2;
     }
 }

@@ -7,76 +7,69 @@
 // proofs/Shown   pieces written one after the other, and what was read of a text
 #![tactic(auto)]
 
-ghost use Rattle.std.specs.Prelude.{◌≡◌, ℕ, length, take, IfSome, MatchBool};
+ghost use Rattle.std.specs.Prelude.{◌≡◌, ℕ, length, take, IfSome, OnOk, IsErrOf, MatchResult};
 ghost use Rattle.std.specs.Io.KnownBytes.{Appends, Keeps};
 ghost use mathlib.Core.List.{flatten};
 ghost use Rattle.run_print.specs.Print.{printout};
 ghost use Rattle.run_pieces.specs.Pieces.{pieces_left, ProgressOk};
 
 use run_pieces::Progress;
+use std::io;
 use std::io::{Read, Write};
 use table::{SCRIPT_WORDS, Script};
 
-// How a run ended.
+// Why a run printed nothing, or not all.
 #[derive(Clone, Copy)]
-enum Ending {
-    Printed,
+enum Failure {
     NotRead,
     NotWritten,
 }
 
-// The pieces that are left, one after the other, each written before the next is made: whether all were written, and where one was not, those before it and
-// its first bytes.
-fn show<W: Write>(to: &mut W, w: &Script, start: Progress, buf: &mut [u8]) -> bool
+impl Failure {
+    // The line that says so.
+    fn message(self) -> &'static [u8] {
+        match self {
+            Failure::NotRead => b"timorun: standard input could not be read\n",
+            Failure::NotWritten => b"timorun: the printout could not be written\n",
+        }
+    }
+}
+
+// The pieces that are left, one after the other, each written before the next is made. Where one was not written, those before it and its first bytes were.
+fn show<W: Write>(to: &mut W, w: &Script, start: Progress, buf: &mut [u8]) -> io::Result<()>
     requires { ProgressOk w.now start × (length buf.old ≡ 65536) }
-    ensures { MatchBool result (Appends (W.contents to.old) (W.contents to.new) (flatten (pieces_left w.now start)))
-        ((k : ℕ) × Appends (W.contents to.old) (W.contents to.new) (take k (flatten (pieces_left w.now start)))) }
+    ensures { MatchResult result (λ _. Appends (W.contents to.old) (W.contents to.new) (flatten (pieces_left w.now start)))
+        (λ _. (k : ℕ) × Appends (W.contents to.old) (W.contents to.new) (take k (flatten (pieces_left w.now start)))) }
 {
     let mut now = start;
     while !now.over {
         let p = run_pieces::next_piece(w, now, buf);
-        if !run_emit::emit(to, buf, p.len) {
-            return false;
-        }
+        run_emit::emit(to, &buf[..p.len])?;
         now = p.next;
     }
-    true
+    Ok(())
 }
 
 // The printout of the text that a reader gives, of its first 65,536 bytes if it gives more. Where its bytes are known: a run that ends well wrote the printout
 // and nothing else, one that could not write its first bytes; one that could not read wrote nothing.
-fn run<R: Read, W: Write>(from: &mut R, to: &mut W) -> Ending
-    ensures printed { result ≡ Ending.Printed → IfSome (R.remaining from.old) (λ s.
-        Appends (W.contents to.old) (W.contents to.new) (printout (take 65536 s))) }
-    ensures not_read { result ≡ Ending.NotRead → Keeps (W.contents to.old) (W.contents to.new) }
-    ensures not_written { result ≡ Ending.NotWritten → IfSome (R.remaining from.old) (λ s.
+fn run<R: Read, W: Write>(from: &mut R, to: &mut W) -> Result<(), Failure>
+    ensures printed { OnOk result (IfSome (R.remaining from.old) (λ s.
+        Appends (W.contents to.old) (W.contents to.new) (printout (take 65536 s)))) }
+    ensures not_read { IsErrOf result Failure.NotRead → Keeps (W.contents to.old) (W.contents to.new) }
+    ensures not_written { IsErrOf result Failure.NotWritten → IfSome (R.remaining from.old) (λ s.
         (k : ℕ) × Appends (W.contents to.old) (W.contents to.new) (take k (printout (take 65536 s)))) }
 {
     let mut text = [0u8; 65536];
-    let r = run_emit::read_input(from, &mut text);
-    if r.failed {
-        return Ending::NotRead;
-    }
-    let n = r.len;
+    let Ok(n) = run_emit::read_input(from, &mut text) else {
+        return Err(Failure::NotRead);
+    };
     let mut w = [0; SCRIPT_WORDS];
     let start = run_pieces::begin(&text[..n], &mut w);
-    if show(to, &w, start, &mut text) {
-        Ending::Printed
-    } else {
-        Ending::NotWritten
-    }
+    show(to, &w, start, &mut text).map_err(|_| Failure::NotWritten)
 }
 
 fn main(rt: HostRuntime) {
-    match run(&mut rt.stdin(), &mut rt.stdout()) {
-        Ending::Printed => {}
-        Ending::NotRead => run_emit::report(
-            &mut rt.stderr(),
-            b"timorun: standard input could not be read\n",
-        ),
-        Ending::NotWritten => run_emit::report(
-            &mut rt.stderr(),
-            b"timorun: the printout could not be written\n",
-        ),
+    if let Err(failure) = run(&mut rt.stdin(), &mut rt.stdout()) {
+        run_emit::report(&mut rt.stderr(), failure.message());
     }
 }

@@ -1,21 +1,23 @@
 use Rattle.std.proofs.Common.{◌+◌, ◌++◌, length, take, rules, subst, sym, ap, ◌∙◌, append-nil}
 use Rattle.std.specs.Io.KnownBytes.{Appends}
 use Rattle.std.proofs.KnownBytes.{Appends-trans}
+use Rattle.std.proofs.lemmas.Result.{MatchResult-from_err}
 use Rattle.timorun.proofs.Shown.{piece_more, piece_cut, nothing_left}
 use Rattle.timorun.proofs.show.Goals as goal
 
-pub returns-then-not-emit : goal.returns-then-not-emit
-returns-then-not-emit g c =
+pub returns-in_err-emit : goal.returns-in_err-emit
+returns-in_err-emit g c =
     let (done, split, appended) = c.loop-now.invariant.2 in
-    let (k, few, more) = c.if-not-emit.ensures in
+    let (k, few, more) = c.in_err-emit.ensures in
     let piece = c.next_piece-p.ensures in
-    (length done + k, subst (Appends _ _) (sym (piece_cut _ done c.next_piece-p.new.buf c.next_piece-p.result.len k _ _ piece.first split few (search rules))) (Appends-trans _ _ _ _ _ appended more))
+    MatchResult-from_err _ _ _ c.from_residual.ensures.0
+    (λ y. (length done + k, subst (Appends _ _) (sym (piece_cut _ done _ k _ _ piece.first split few)) (Appends-trans _ _ _ _ _ appended more)))
 
 pub loop-now-preserved : goal.loop-now-preserved
 loop-now-preserved g c =
     let (done, split, appended) = c.loop-now.invariant.2 in
     let piece = c.next_piece-p.ensures in
-    (piece.ok, search rules, (done ++ take c.next_piece-p.result.len c.next_piece-p.new.buf, piece_more _ done _ _ _ piece.first split, Appends-trans _ _ _ _ _ appended c.if-not-emit.ensures))
+    (piece.ok, search rules, (done ++ take c.next_piece-p.result.len c.next_piece-p.new.buf, piece_more _ done _ _ _ piece.first split, Appends-trans _ _ _ _ _ appended c.in_ok-emit.ensures))
 
 pub returns : goal.returns
 returns g c =
