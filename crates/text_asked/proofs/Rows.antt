@@ -1,66 +1,63 @@
--- The tests of questions 5, 6 and 7 at one definition or part, by the words that the code reads.
--- By the head of each kind; of a definition with over four parameters the script holds four.
-use Prim.Native.Nat.{ℕ, ◌+◌, ◌*◌, ◌≤◌, ◌<◌}
+-- The tests of questions 5, 6 and 7 at one definition or part, by the head of the part that the code reads; of a definition with over four parameters the
+-- script holds four.
+use Prim.Native.Nat.{ℕ, zero, suc, ◌+◌, ◌*◌, ◌≤◌, min}
 use native.Mathlib.Omega.{arith}
 use mathlib.Core.List.{List, [], ◌∷◌}
-use mathlib.Core.Bool.{Bool, true, false, cond, ◌&&◌}
-use mathlib.Core.Path.{◌≡◌, refl, ◌∙◌}
-use lib.Dec.{eqb, ltb}
+use mathlib.Core.Bool.{Bool, true, false}
+use mathlib.Core.Logic.{◌⊎◌, inl, inr}
+use mathlib.Core.Path.{◌≡◌, refl}
+use borrow.Author.Tests.{leb-true, leb-false}
+use lib.Dec.{leb}
+use lib.ListN.{take}
 use lib.Seq.{take_all}
-use borrow.Author.Tests.{eqb-true, eqb-false, ne_eqb}
+use Rattle.std.specs.List.{list_all, range_with_len}
 use Rattle.terms.specs.Same.{every}
-use Rattle.table.specs.declared.Head.TheVariants.{Stop, Go, Out, In}
-use Rattle.table.specs.Words.{row_size, defs_in, arity_of, params_at, params_of, field, head_at, args_at, first_param, fourth_param, name_size, second_param, third_param, count_field, first_field, kind_field, name_field, second_field, timer_field, value_field}
+use Rattle.table.specs.declared.Head.{Head}
+use Rattle.table.specs.declared.Head.TheVariants.{Stop, Go, Out, In, Call}
+use Rattle.table.specs.Words.{row_size, arity_of, params_at, params_of, first_param, fourth_param, name_size, second_param, third_param}
 use Rattle.table.specs.Meaning.{list_from}
 use Rattle.table.specs.Tests.{row_name}
-use Rattle.table.proofs.WordsHead.{head-go, head-out, head-call}
+use Rattle.table.proofs.ValidDefs.{params-names}
 use Rattle.text_tree.specs.Asked.{call_held, in_scope, values_bound}
 
-module _ (w : List ℕ) (i : ℕ) where
-  -- ── 6 ──
-  pub held-call : field w i kind_field ≡ 4 → call_held w (head_at w i) ≡ (ltb (field w i name_field) (defs_in w) && eqb (field w i value_field) (arity_of w (field w i name_field)))
-  unfolding call_held
-  held-call e = rw (head-call w i e)
+-- ── 6 ──
+pub held-other : (w : List ℕ) (h : Head) → ((d n : ℕ) → h ≡ Call d n → ⊥) → call_held w h ≡ true
+unfolding call_held
+held-other w Stop n = refl
+held-other w (Go t v p) n = refl
+held-other w (Out c t v p q) n = refl
+held-other w (In c t k p q) n = refl
+held-other w (Call d m) n = absurd (n d m refl)
 
-  pub held-other : (field w i kind_field ≡ 4 → ⊥) → call_held w (head_at w i) ≡ true
-  unfolding head_at call_held
-  held-other n = rw (ne_eqb (field w i kind_field) 4 n) (go (eqb (field w i kind_field) 1) (eqb (field w i kind_field) 2) (eqb (field w i kind_field) 3))
-    where
-      go : (a b c : Bool)
-          → call_held w (cond a (Go (field w i timer_field) (field w i value_field) (field w i first_field))
-          (cond b (Out (field w i name_field) (field w i timer_field) (field w i value_field) (field w i first_field) (field w i second_field))
-          (cond c (In (field w i name_field) (field w i timer_field) (field w i value_field) (field w i first_field) (field w i second_field)) Stop))) ≡ true
-      go true b c = refl
-      go false true c = refl
-      go false false true = refl
-      go false false false = refl
+-- ── 7 ──
+-- the first m of four, as those below m and 4
+pub front-range : (t : ℕ → Bool) (g : ℕ → ℕ) (m n : ℕ) → n ≡ min m 4 → list_all (λ k. t (g k)) (range_with_len 0 n) ≡ every t (take m (g 0 ∷ g 1 ∷ g 2 ∷ g 3 ∷ []))
+unfolding every
+front-range t g m zero e = let q : m ≡ 0 = omega arith in rw q
+front-range t g m (suc zero) e = let q : m ≡ 1 = omega arith in rw q
+front-range t g m (suc (suc zero)) e = let q : m ≡ 2 = omega arith in rw q
+front-range t g m (suc (suc (suc zero))) e = let q : m ≡ 3 = omega arith in rw q
+front-range t g m (suc (suc (suc (suc zero)))) e = rw (take_all m (g 0 ∷ g 1 ∷ g 2 ∷ g 3 ∷ []) (omega arith))
+front-range t g m (suc (suc (suc (suc (suc n))))) e = absurd (omega arith)
 
-  -- ── 7: r is the answer for n names in scope and the value v, or m arguments, as they were read ──
-  pub bound-value : {r : Bool} {n v : ℕ} → r ≡ in_scope n v → n ≡ field w i count_field → v ≡ field w i value_field → 1 ≤ field w i kind_field → field w i kind_field < 3 → r ≡ values_bound w i (field w i count_field) (head_at w i)
-  unfolding values_bound
-  bound-value {r} h n v l u = h ∙ rw (n, v) (go (eqb (field w i kind_field) 1) refl)
-    where
-      go : (b : Bool) → eqb (field w i kind_field) 1 ≡ b → in_scope (field w i count_field) (field w i value_field) ≡ values_bound w i (field w i count_field) (head_at w i)
-      go true e = rw (head-go w i (eqb-true (field w i kind_field) 1 e))
-      go false e = let k = eqb-false (field w i kind_field) 1 e in rw (head-out w i (omega arith))
+pub bound-value : (w : List ℕ) (i n v : ℕ) (h : Head) → ((t : ℕ) × (p : ℕ) × (h ≡ Go t v p)) ⊎ ((c : ℕ) × (t : ℕ) × (p : ℕ) × (q : ℕ) × (h ≡ Out c t v p q))
+    → in_scope n v ≡ values_bound w i n h
+unfolding values_bound
+bound-value w i n v h (inl x) = rw x.2
+bound-value w i n v h (inr x) = rw x.4
 
-  pub bound-call : {r : Bool} {n m : ℕ} → r ≡ every (in_scope n) (args_at w i m) → n ≡ field w i count_field → m ≡ field w i value_field
-      → field w i kind_field ≡ 4
-      → r ≡ values_bound w i (field w i count_field) (head_at w i)
-  unfolding values_bound
-  bound-call h n m k = h ∙ rw (head-call w i k, n, m)
-
-  pub bound-other : (n : ℕ) → (field w i kind_field ≡ 1 → ⊥) → (field w i kind_field ≡ 2 → ⊥) → (field w i kind_field ≡ 4 → ⊥) → values_bound w i n (head_at w i) ≡ true
-  unfolding head_at values_bound
-  bound-other n p q r = rw (ne_eqb (field w i kind_field) 1 p, ne_eqb (field w i kind_field) 2 q, ne_eqb (field w i kind_field) 4 r) (go (eqb (field w i kind_field) 3))
-    where
-      go : (c : Bool) → values_bound w i n (cond c (In (field w i name_field) (field w i timer_field) (field w i value_field) (field w i first_field) (field w i second_field)) Stop) ≡ true
-      go true = refl
-      go false = refl
+pub bound-other : (w : List ℕ) (i n : ℕ) (h : Head) → ((t v p : ℕ) → h ≡ Go t v p → ⊥) → ((c t v p q : ℕ) → h ≡ Out c t v p q → ⊥) → ((d m : ℕ) → h ≡ Call d m → ⊥)
+    → values_bound w i n h ≡ true
+unfolding values_bound
+bound-other w i n Stop a b c = refl
+bound-other w i n (Go t v p) a b c = absurd (a t v p refl)
+bound-other w i n (Out d t v p q) a b c = absurd (b d t v p q refl)
+bound-other w i n (In d t k p q) a b c = refl
+bound-other w i n (Call d m) a b c = absurd (c d m refl)
 
 -- ── 5 ──
 -- four parameters, where the script says more
-pub params-four : (w : List ℕ) (d : ℕ) → 4 ≤ arity_of w d → params_of w d ≡ list_from 0 4 (row_name w (first_param + d * row_size) 4)
+params-four : (w : List ℕ) (d : ℕ) → 4 ≤ arity_of w d → params_of w d ≡ list_from 0 4 (row_name w (first_param + d * row_size) 4)
 unfolding params_of params_at row_name list_from
 params-four w d h =
     let e₀ : first_param + d * row_size + 0 * name_size ≡ first_param + d * row_size = omega arith in
@@ -68,3 +65,10 @@ params-four w d h =
     let e₂ : first_param + d * row_size + 2 * name_size ≡ third_param + d * row_size = omega arith in
     let e₃ : first_param + d * row_size + 3 * name_size ≡ fourth_param + d * row_size = omega arith in
     rw (take_all (arity_of w d) ((first_param + d * row_size) ∷ (second_param + d * row_size) ∷ (third_param + d * row_size) ∷ (fourth_param + d * row_size) ∷ []) h, e₀, e₁, e₂, e₃)
+
+pub params-min : (w : List ℕ) (d n : ℕ) → n ≡ min (arity_of w d) 4 → params_of w d ≡ list_from 0 n (row_name w (first_param + d * row_size) 4)
+params-min w d n e = go (leb 4 (arity_of w d)) refl
+  where
+    go : (b : Bool) → leb 4 (arity_of w d) ≡ b → params_of w d ≡ list_from 0 n (row_name w (first_param + d * row_size) 4)
+    go true l = let k = leb-true 4 (arity_of w d) l in let m : n ≡ 4 = omega arith in rw m (params-four w d k)
+    go false l = let k = leb-false 4 (arity_of w d) l in params-names w d n (omega arith) (omega arith)

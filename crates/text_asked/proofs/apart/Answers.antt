@@ -1,15 +1,20 @@
 -- Identifiers differ, and the parameters of each definition.
--- By the two tests' answers.
--- the identifiers stand 24 words apart
+-- The identifiers stand 24 words apart.
 use Prim.Native.Nat.{ℕ}
+use native.Mathlib.Omega.{arith}
 use mathlib.Core.List.{List}
-use mathlib.Core.Path.{◌≡◌, ap, ◌∙◌}
+use mathlib.Core.Path.{◌≡◌, refl, ap, sym, ◌∙◌}
 use mathlib.Core.Bool.{true, false}
+use borrow.Author.Rules.{rules}
+use borrow.Author.Tests.{tests}
+use Rattle.std.proofs.lemmas.Iterator.{YieldsList-from_range}
+use Rattle.std.proofs.lemmas.Iterator.Search.{all_from_yields_List}
 use Rattle.terms.specs.Letters.{distinct}
-use Rattle.table.specs.Words.{defs_in, def_name, ids_at, row_size}
+use Rattle.table.specs.Words.{defs_in, def_name, params_of, ids_at, row_size}
 use Rattle.table.specs.Meaning.{list_from}
 use Rattle.table.specs.Tests.{row_name}
-use Rattle.table.proofs.ValidBool.{failed, passed}
+use Rattle.table.specs.Valid.{below}
+use Rattle.table.proofs.Ranges.{below-range}
 use Rattle.text_build.specs.Rows.{ids_of}
 use Rattle.text_tree.specs.Asked.{apart}
 use Rattle.text_asked.proofs.apart.Goals as goal
@@ -18,18 +23,22 @@ ids-row : (w : List ℕ) (n : ℕ) → n ≡ defs_in w → distinct (list_from 0
 unfolding ids_of def_name row_name
 ids-row w n e = ap (λ m. distinct (list_from 0 m (def_name w))) e
 
-pub returns-then-not-all_apart : goal.returns-then-not-all_apart
+pub returns-then-all_apart : goal.returns-then-all_apart
 unfolding apart
-returns-then-not-all_apart c =
+returns-then-all_apart c =
     let w = c.args.w.now in
-    let n = c.wide.ensures ∙ c.word.ensures in
-    let h : distinct (ids_of w) ≡ false = failed c.if-not-all_apart.true (c.all_apart.ensures ∙ ids-row w _ n) in
-    rw h
+    let n = c.wide-n.result in
+    let e : n ≡ defs_in w = c.wide-n.ensures ∙ c.word.ensures in
+    let h : distinct (ids_of w) ≡ true = sym (c.all_apart.ensures ∙ ids-row w n e) ∙ c.if-all_apart.true in
+    rw h (all_from_yields_List (λ d. distinct (params_of w d)) _ _ _ c.all.ensures.ran (YieldsList-from_range 0 n n refl (omega arith)) (λ x b q k. search (rules, tests))
+    ∙ sym (below-range n (λ d. distinct (params_of w d)))
+    ∙ ap (λ m. below m (λ d. distinct (params_of w d))) e)
 
-pub returns : goal.returns
+pub returns-else-all_apart : goal.returns-else-all_apart
 unfolding apart
-returns c =
+returns-else-all_apart c =
     let w = c.args.w.now in
-    let n = c.wide.ensures ∙ c.word.ensures in
-    let h : distinct (ids_of w) ≡ true = passed c.if-not-all_apart.false (c.all_apart.ensures ∙ ids-row w _ n) in
-    rw h c.each_apart.ensures
+    let n = c.wide-n.result in
+    let e : n ≡ defs_in w = c.wide-n.ensures ∙ c.word.ensures in
+    let h : distinct (ids_of w) ≡ false = sym (c.all_apart.ensures ∙ ids-row w n e) ∙ c.if-all_apart.false in
+    rw h c.if-all_apart.false

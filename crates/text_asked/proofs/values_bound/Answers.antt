@@ -1,29 +1,21 @@
--- A part's kind says which of its words are values.
--- By the law of the head of each kind, with each word read.
-use native.Mathlib.Omega.{arith}
+-- The head of a part says which of its words are values.
 use mathlib.Core.Path.{sym, ◌∙◌}
-use Rattle.text_asked.proofs.Rows.{bound-value, bound-call, bound-other}
+use Rattle.table.specs.Words.{head_at}
+use Rattle.text_tree.specs.Asked.{values_bound}
+use Rattle.text_asked.proofs.Rows.{bound-value, bound-other}
 use Rattle.text_asked.proofs.values_bound.Goals as goal
 
-pub returns-in-4 : goal.returns-in-4
-returns-in-4 c =
-    let a = c.args in
-    bound-call a.w.now a.i c.args_bound.ensures c.field-n.ensures c.field-v.ensures (sym c.field-k.ensures ∙ c.in-4.is)
+pub returns-in-Call : goal.returns-in-Call
+unfolding values_bound
+returns-in-Call c = rw (sym c.head_at.ensures ∙ c.in-Call.is, ← c.field-n.ensures) c.args_bound.ensures
 
-pub returns-in-1 : goal.returns-in-1
-returns-in-1 c =
+pub returns-in-Go : goal.returns-in-Go
+returns-in-Go c =
     let a = c.args in
-    let k = c.field-k.ensures in
-    bound-value a.w.now a.i c.in_scope.ensures c.field-n.ensures c.field-v.ensures (omega (arith, k, c.in-1.if-k-lt1-own.false)) (omega (arith, k, c.in-1.if-k-lt3-own.true))
+    rw (← c.field-n.ensures, ← c.head_at.ensures) (c.in_scope.ensures ∙ bound-value a.w.now a.i _ _ c.head_at.result c.in-Go.is)
 
 pub returns-in_default : goal.returns-in_default
 returns-in_default c =
     let a = c.args in
-    let k = c.field-k.ensures in
-    sym (bound-other a.w.now a.i _ (λ e. omega (arith, k, e, c.in_default.if-k-lt1-own.true)) (λ e. omega (arith, k, e, c.in_default.if-k-lt1-own.true)) (λ e. omega (arith, k, e, c.in_default.if-k-lt1-own.true)))
-
-pub returns-in_default-2 : goal.returns-in_default-2
-returns-in_default-2 c =
-    let a = c.args in
-    let k = c.field-k.ensures in
-    sym (bound-other a.w.now a.i _ (λ e. omega (arith, k, e, c.in_default.if-k-lt3-own.false)) (λ e. omega (arith, k, e, c.in_default.if-k-lt3-own.false)) (λ e. c.in_default.in_default-own.rest.1 (k ∙ e)))
+    let e = c.head_at.ensures in
+    sym (bound-other a.w.now a.i _ (head_at a.w.now a.i) (λ t v p h. c.in_default.not-Go t v p (e ∙ h)) (λ d t v p q h. c.in_default.not-Out d t v p q (e ∙ h)) (λ d m h. c.in_default.not-Call d m (e ∙ h)))
