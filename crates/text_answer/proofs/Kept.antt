@@ -1,40 +1,37 @@
--- The first words of a list written one after the other; a script of zeros in front; and a script put back as it was.
-use Prim.Native.Nat.{ℕ, ◌+◌, ◌*◌, ◌≤◌, ◌<◌}
+-- The first words of a list are written, and the others stay: zeros in front of a script; and a script put back as it was.
+use Prim.Native.Nat.{ℕ, ◌+◌, ◌-◌, ◌*◌, ◌≤◌, ◌<◌}
 use native.Mathlib.Omega.{arith}
 use mathlib.Core.Bool.{Bool, true, false}
-use mathlib.Core.List.{List}
-use mathlib.Core.Path.{◌≡◌, refl, sym, ap, ◌∙◌}
-use lib.Dec.{eqb, ltb}
-use lib.ListN.{length, set, replicate, length-set, length-replicate, get_or-replicate}
-use lib.Seq.{get_or-set_same, ext_get_or}
-use borrow.Author.Tests.{eqb-true, eqb-false, ltb-true, ltb-false}
+use mathlib.Core.List.{List, ◌++◌}
+use mathlib.Core.Path.{◌≡◌, refl, ap, ◌∙◌}
+use lib.Dec.{ltb}
+use lib.ListN.{length, drop, length-append, length-drop, get_or-append}
+use lib.Seq.{ext_get_or, get_or-append-add}
+use Rattle.std.proofs.lemmas.List.{get_or-drop}
+use borrow.Author.Tests.{ltb-true, ltb-false}
 use Rattle.table.specs.Words.{row_size, parts_at, script_words, word}
-use Rattle.table.proofs.Stores.{set_out}
 use Rattle.text_tree.specs.Pass.{Blank}
-use Rattle.text_answer.specs.Front.{Front}
 
--- ── one word more ──
-pub front-none : (f : ℕ → ℕ) (w : List ℕ) → Front 0 f w w
-front-none f w = record { front = λ o h. absurd (omega arith); rest = λ o h. refl; size = refl }
+-- v is w with the words of f in front, m of them
+pub record Front (m : ℕ) (f : ℕ → ℕ) (w v : List ℕ) : Type 0 where
+  pub front : (o : ℕ) → o < m → word v o ≡ f o
+  pub rest : (o : ℕ) → m ≤ o → word v o ≡ word w o
+  pub size : length v ≡ length w
 
-pub front-more : (i : ℕ) (f : ℕ → ℕ) (w v : List ℕ) → i < length w → Front i f w v → Front (i + 1) f w (set v i (f i))
-front-more i f w v b p = record { front = λ o h. go o h (eqb o i) refl; rest = λ o h. set_out v i o (f i) (λ e. omega arith) ∙ p.rest o (omega arith); size = length-set v i (f i) ∙ p.size }
-  where
-    go : (o : ℕ) → o < i + 1 → (t : Bool) → eqb o i ≡ t → word (set v i (f i)) o ≡ f o
-    go o h true e =
-        let q = eqb-true o i e in
-        ap (word (set v i (f i))) q ∙ get_or-set_same v i (f i) 0 (omega (arith, p.size)) ∙ ap f (sym q)
-    go o h false e = let n = eqb-false o i e in set_out v i o (f i) n ∙ p.front o (omega arith)
-
-pub front-all : (i m : ℕ) (f : ℕ → ℕ) (w v : List ℕ) → i ≡ m → Front i f w v → Front m f w v
-front-all i m f w v e p = record { front = λ o h. p.front o (omega arith); rest = λ o h. p.rest o (omega arith); size = p.size }
+-- the words in front are written over by xs
+pub front_over : (m : ℕ) (f : ℕ → ℕ) (w xs : List ℕ) → length xs ≡ m → m ≤ length w → ((o : ℕ) → o < m → word xs o ≡ f o) → Front m f w (xs ++ drop m w)
+front_over m f w xs e b g = record {
+  front = λ o h. get_or-append xs (drop m w) 0 o (omega arith) ∙ g o h;
+  rest = λ o h.
+      let z : o ≡ length xs + (o - m) = omega arith in
+      let y : m + (o - m) ≡ o = omega arith in
+      ap (word (xs ++ drop m w)) z ∙ get_or-append-add xs (drop m w) (o - m) 0 ∙ get_or-drop m w (o - m) 0 ∙ ap (word w) y;
+  size = length-append xs (drop m w) ∙ omega (arith, length-drop m w);
+}
 
 -- ── zeros ──
 pub front-blank : (m n : ℕ) (w v : List ℕ) → length w ≡ script_words → parts_at + n * row_size ≤ m → Front m (λ o. 0) w v → Blank v n
 front-blank m n w v e b p = record { long = p.size ∙ e; none = λ o h. p.front o (omega arith) }
-
-pub front-zeros : (w v : List ℕ) → length w ≡ script_words → Front script_words (λ o. 0) w v → v ≡ replicate script_words 0
-front-zeros w v e p = ext_get_or 0 v (replicate script_words 0) (p.size ∙ e ∙ sym (length-replicate {A = ℕ} script_words 0)) (λ o h. let b : o < script_words = omega (arith, p.size) in p.front o b ∙ sym (get_or-replicate script_words o 0 0 b))
 
 -- ── put back ──
 pub back-again : (m : ℕ) (w v k₀ k x : List ℕ) → Front m (word w) k₀ k → ((o : ℕ) → m ≤ o → word v o ≡ word w o) → length v ≡ length w → Front m (word k) v x → x ≡ w

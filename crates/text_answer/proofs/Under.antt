@@ -6,8 +6,10 @@ use mathlib.Core.Bool.{Bool, true, false}
 use mathlib.Core.List.{List, [], ◌∷◌, ◌++◌, flat_map, append_assoc, append-nil}
 use mathlib.Core.Path.{◌≡◌, refl, sym, ap, ap₂, ◌∙◌}
 use lib.Dec.{eqb, ltb}
-use lib.ListN.{length, get_or, set, take, length-set, length-append, get_or-append}
-use lib.Seq.{sets, length-sets, get_or-set_same, get_or-append-add, get_or-take, ext_get_or, length-take-le, take-suc}
+use Rattle.std.specs.Int.{from_bool}
+use lib.ListN.{length, get_or, set, take, length-set, length-append, get_or-append, drop, length-drop}
+use lib.Seq.{sets, length-sets, get_or-set_same, get_or-append-add, get_or-take, ext_get_or, length-take-le}
+use Rattle.std.proofs.lemmas.List.{get_or-drop}
 use borrow.Author.Tests.{eqb-true, eqb-false, ltb-true, ltb-false}
 use Rattle.terms.specs.Names.{Name}
 use Rattle.terms.specs.Terms.{Network, context_in}
@@ -27,16 +29,13 @@ use Rattle.text_build.proofs.Writes.{sets-append}
 use Rattle.text_answer.specs.declared.Row.{Row}
 use Rattle.text_answer.specs.declared.Settings.{Settings}
 use Rattle.text_answer.specs.declared.Reading.{Reading}
-use Rattle.text_answer.specs.Front.{Front}
 use Rattle.text_answer.specs.Answer.{no_row, given, flag, flags, row_words, rights_words, under, locations_in, channels_in, Took}
 use Rattle.text_answer.proofs.Named.{Agree, by_name-agree}
 
 -- ── one right ──
-pub flag-on : (w : List ℕ) (o : ℕ) (b : Bool) → b ≡ true → set w o 1 ≡ set w o (flag b)
-flag-on w o b e = rw e
-
-pub flag_off : (w : List ℕ) (o : ℕ) (b : Bool) → b ≡ false → set w o 0 ≡ set w o (flag b)
-flag_off w o b e = rw e
+pub right_word : (b : Bool) → from_bool b ≡ flag b
+right_word true = refl
+right_word false = refl
 
 -- ── one word more, one row more ──
 pub stores-more : (f : ℕ → ℕ) (w : List ℕ) (o i : ℕ) → set (sets w o (list_from 0 i f)) (o + i) (f i) ≡ sets w o (list_from 0 (i + 1) f)
@@ -44,11 +43,6 @@ stores-more f w o i =
     let z : 0 + i ≡ i = omega arith in
     sets-append (list_from 0 i f) (f i ∷ []) w o (o + i) (ap (λ n. o + n) (list_from-length 0 i f))
     ∙ sym (ap (sets w o) (ap (λ n. list_from 0 n f) (add-one i) ∙ list_from-end 0 i f ∙ ap (λ n. list_from 0 i f ++ (f n ∷ [])) z))
-
-pub taken_more : (k w : List ℕ) (o i : ℕ) → i < length k → set (sets w o (take i k)) (o + i) (word k i) ≡ sets w o (take (i + 1) k)
-taken_more k w o i h =
-    sets-append (take i k) (word k i ∷ []) w o (o + i) (ap (λ n. o + n) (length-take-le i k (omega arith)))
-    ∙ sym (ap (sets w o) (ap (λ n. take n k) (add-one i) ∙ take-suc k i 0 h))
 
 length-flags : (bs : List Bool) → length (flags bs) ≡ 64
 unfolding flags
@@ -209,27 +203,30 @@ took-context t = rw (ap (λ n. n.defs) t.network, t.edition, t.rights)
 
 -- ── put back ──
 -- a script w got what is given, and nothing else changed; then its rights, kept aside before, and its edition were put back
-module _ (g : Settings) (w : List ℕ) (size : length w ≡ script_words) {k₀ k : List ℕ} (kept : Front (64 * rights_size) (λ o. word w (rights_at + o)) k₀ k) (room : 64 * rights_size ≤ length k) where
+module _ (g : Settings) (w : List ℕ) (size : length w ≡ script_words) (k : List ℕ) (kept : k ≡ take (64 * rights_size) (drop rights_at w)) where
   abbrev back : List ℕ
-  back = sets (under g w) rights_at (take (64 * rights_size) k)
+  back = sets (under g w) rights_at k
+
+  long : length k ≡ 64 * rights_size
+  long = ap length kept ∙ length-take-le (64 * rights_size) (drop rights_at w) (omega (arith, length-drop rights_at w, size))
 
   back_long : length back ≡ script_words
-  back_long = length-sets (under g w) rights_at (take (64 * rights_size) k) ∙ under-length g w ∙ size
+  back_long = length-sets (under g w) rights_at k ∙ under-length g w ∙ size
 
   back-word : (o : ℕ) → o < script_words → (o ≡ edition_at → ⊥) → word back o ≡ word w o
   back-word o h n = go (ltb o rights_at) refl
     where
       go : (t : Bool) → ltb o rights_at ≡ t → word back o ≡ word w o
-      go true e = let b = ltb-true o rights_at e in sets-under (take (64 * rights_size) k) (under g w) rights_at o b ∙ under-front g w o b n
+      go true e = let b = ltb-true o rights_at e in sets-under k (under g w) rights_at o b ∙ under-front g w o b n
       go false e =
           let b = ltb-false o rights_at e in
           let j : o - rights_at < 64 * rights_size = omega arith in
           let z : o ≡ rights_at + (o - rights_at) = omega arith in
-          let l = length-take-le (64 * rights_size) k room in
           ap (word back) z
-          ∙ sets-in (take (64 * rights_size) k) (under g w) rights_at (o - rights_at) (omega (arith, l)) (omega (arith, l, under-length g w, size))
-          ∙ get_or-take (64 * rights_size) k (o - rights_at) 0 j
-          ∙ kept.front (o - rights_at) j
+          ∙ sets-in k (under g w) rights_at (o - rights_at) (omega (arith, long)) (omega (arith, long, under-length g w, size))
+          ∙ ap (λ l. get_or l (o - rights_at) 0) kept
+          ∙ get_or-take (64 * rights_size) (drop rights_at w) (o - rights_at) 0 j
+          ∙ get_or-drop rights_at w (o - rights_at) 0
           ∙ ap (word w) (sym z)
 
   again : set back edition_at (word w edition_at) ≡ w
@@ -241,5 +238,5 @@ module _ (g : Settings) (w : List ℕ) (size : length w ≡ script_words) {k₀ 
           ap (word (set back edition_at (word w edition_at))) i ∙ get_or-set_same back edition_at (word w edition_at) 0 (omega (arith, back_long)) ∙ ap (word w) (sym i)
       go o h false e = let n = eqb-false o edition_at e in set_out back edition_at o (word w edition_at) n ∙ back-word o h n
 
-  pub given_back : {u v x y : List ℕ} {b : ℕ} → u ≡ under g w → v ≡ u → x ≡ sets v rights_at (take (64 * rights_size) k) → b ≡ word w edition_at → y ≡ set x edition_at b → y ≡ w
+  pub given_back : {u v x y : List ℕ} {b : ℕ} → u ≡ under g w → v ≡ u → x ≡ sets v rights_at k → b ≡ word w edition_at → y ≡ set x edition_at b → y ≡ w
   given_back p q r s t = t ∙ rw (r, q, p, s) again

@@ -1,12 +1,11 @@
-// Layer 2, reading and writing: what the call `read` answers and leaves: a refusal, or the components of the network; the lent script's first words, which
-// are kept aside, set to zero and put back; and its edition and its rights, which are given with a text.
+// Layer 2, reading and writing: what the call `read` answers and leaves: a refusal, or the components of the network; the lent script, which is set to zero
+// or put back as it was; and its edition and its rights, which are given with a text.
 //
 // specs/Answer  what the call answers
-// specs/Front   the first words of a list, written
 //
 // state  the components of the network
-// front  the first words of a script, kept aside, set to zero, put back; its edition
-// given  what is given put into a script, and the rights that stood there kept aside and put back
+// front  a script set to zero; its edition
+// given  what is given put into a script
 //
 // proofs/States  components made from their places
 // proofs/Kept    a script set to zero, and one put back
@@ -16,9 +15,11 @@
 #![tactic(auto)]
 
 ghost use Rattle.std.specs.Prelude.{◌≡◌};
+ghost use Rattle.terms.specs.Refusals.{number_of};
 ghost use Rattle.text_answer.specs.Answer.{refusal};
 
 use state::no_state;
+use terms::refusal::Refusal;
 
 pub mod front;
 pub mod given;
@@ -50,9 +51,11 @@ pub struct Reading {
 }
 
 // A refusal.
-pub fn refuse(n: u32) -> Reading
-    ensures { result ≡ refusal n }
+pub fn refuse(e: Refusal) -> Reading
+    ensures { result ≡ refusal (number_of e) }
 {
-    let st = no_state();
-    Reading { code: n, state: st }
+    Reading {
+        code: e.number(),
+        state: no_state(),
+    }
 }

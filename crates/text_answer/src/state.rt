@@ -1,5 +1,5 @@
 // The components of the network that was read.
-ghost use Rattle.std.specs.Prelude.{◌≤◌, [], ◌∷◌, ◌≡◌, length, take, replicate};
+ghost use Rattle.std.specs.Prelude.{◌≤◌, [], ◌∷◌, ◌≡◌, length, replicate};
 ghost use Rattle.text_tree.specs.Asked.{comp_of};
 ghost use Rattle.text_answer.specs.Answer.{StateIs};
 ghost use Rattle.table.specs.Words.{state_words};
@@ -33,24 +33,21 @@ pub fn no_state() -> State
     }
 }
 
-// The components at the first n places, as an accepted answer.
-pub fn accept(w: &Script, out: &[[u32; 2]], n: usize) -> Reading
-    requires { (n ≤ 256) × (n ≤ length out.now) }
-    ensures { (result.code ≡ 0) × StateIs w.now (take n out.now) result.state }
+// The components at these places, as an accepted answer.
+pub fn accept(w: &Script, places: &[[u32; 2]]) -> Reading
+    requires { length places.now ≤ 256 }
+    ensures { (result.code ≡ 0) × StateIs w.now places.now result.state }
 {
     let mut r = Reading {
         code: 0,
         state: State {
             c: [0; STATE_WORDS],
-            n: n,
+            n: places.len(),
         },
     };
-    let mut j = 0;
-    while j < n {
-        let y = out[j];
-        let x = comp_of(w, y[0], y[1]);
-        put_comp(&mut r.state.c, j, x);
-        j += 1;
+    for j in 0..places.len() {
+        let [l, i] = places[j];
+        put_comp(&mut r.state.c, j, comp_of(w, l, i));
     }
     r
 }

@@ -1,6 +1,9 @@
--- `clear` of all words.
-use Rattle.text_answer.proofs.Kept.{front-zeros}
+-- A script has that many words.
+use borrow.Author.Rules.{rules}
+use mathlib.Core.Path.{ap, ◌∙◌}
+use lib.ListN.{replicate}
+use Prim.Native.Nat.{ℕ}
 use Rattle.text_answer.proofs.front.wipe.Goals as goal
 
 pub returns : goal.returns
-returns c = front-zeros _ _ c.script_sized.ensures c.clear.ensures
+returns c = c.fill.ensures.after (λ y h. search rules) ∙ ap (λ n. replicate {A = ℕ} n 0) c.told-w

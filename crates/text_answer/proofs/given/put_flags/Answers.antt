@@ -7,38 +7,23 @@ use lib.ListN.{get_or, set}
 use lib.Seq.{sets}
 use Rattle.table.specs.Meaning.{list_from}
 use Rattle.text_answer.specs.Answer.{flag, flags}
-use Rattle.text_answer.proofs.Under.{stores-more}
+use Rattle.text_answer.proofs.Under.{right_word, stores-more}
 use Rattle.text_answer.proofs.given.put_flags.Goals as goal
 
 pub loop-c-init : goal.loop-c-init
 unfolding list_from
-loop-c-init c = (omega arith, refl)
-
-pub overflow_add-o : goal.overflow_add-o
-overflow_add-o c = omega arith
-
-pub bounds-row-c : goal.bounds-row-c
-bounds-row-c c = omega arith
-
-pub put_flag-requires : goal.put_flag-requires
-put_flag-requires c = omega arith
-
-pub overflow_add-c : goal.overflow_add-c
-overflow_add-c c = omega arith
-
-pub loop-c-smaller : goal.loop-c-smaller
-loop-c-smaller c = omega arith
+loop-c-init c = refl
 
 pub loop-c-preserved : goal.loop-c-preserved
 loop-c-preserved c =
     let a = c.args in
     let l = c.loop-c in
-    (omega arith, c.put_flag.ensures ∙ ap (λ x. set x (a.o + l.c) (flag (get_or a.row l.c false))) l.invariant.1 ∙ stores-more (λ k. flag (get_or a.row k false)) a.w.now a.o l.c)
+    rw (c.from.ensures, right_word (get_or a.row.now l.c false)) (ap (λ x. set x (a.o + l.c) (flag (get_or a.row.now l.c false))) l.invariant ∙ stores-more (λ k. flag (get_or a.row.now k false)) a.w.now a.o l.c)
 
 pub returns : goal.returns
 unfolding flags
 returns c =
     let a = c.args in
     let l = c.loop-c in
-    let e : l.c ≡ 64 = omega (arith, l.invariant.0) in
-    l.invariant.1 ∙ ap (λ n. sets a.w.now a.o (list_from 0 n (λ k. flag (get_or a.row k false)))) e
+    let e : l.c ≡ 64 = omega (arith, l.auto.c-end, c.loop-c-test.false) in
+    l.invariant ∙ ap (λ n. sets a.w.now a.o (list_from 0 n (λ k. flag (get_or a.row.now k false)))) e

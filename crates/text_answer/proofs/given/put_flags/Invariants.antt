@@ -1,5 +1,4 @@
 -- `put_flags` meets its contract: a right, one after the other. The loop's invariant: the first c are written (Under).
-use Prim.Native.Nat.{◌-◌, ◌≤◌}
 use mathlib.Core.Bool.{false}
 use mathlib.Core.Path.{◌≡◌}
 use lib.ListN.{get_or}
@@ -9,7 +8,4 @@ use Rattle.text_answer.specs.Answer.{flag}
 use Rattle.text_answer.proofs.given.put_flags.Given as goal
 
 abbrev pub invariant-loop-c : goal.invariant-loop-c
-invariant-loop-c l = (l.c ≤ 64) × (l.w ≡ sets l.initial.w l.o (list_from 0 l.c (λ k. flag (get_or l.row k false))))
-
-abbrev pub decreases-loop-c : goal.decreases-loop-c
-decreases-loop-c l = 64 - l.c
+invariant-loop-c l = l.w ≡ sets l.initial.w l.o (list_from 0 l.c (λ k. flag (get_or l.row k false)))

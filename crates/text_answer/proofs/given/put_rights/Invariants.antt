@@ -1,5 +1,4 @@
 -- `put_rights` meets its contract: a row, one after the other. The loop's invariant: the first l are written (Under).
-use Prim.Native.Nat.{◌-◌, ◌≤◌}
 use mathlib.Core.List.{flat_map}
 use mathlib.Core.Path.{◌≡◌}
 use lib.ListN.{get_or}
@@ -10,7 +9,4 @@ use Rattle.text_answer.specs.Answer.{no_row, row_words}
 use Rattle.text_answer.proofs.given.put_rights.Given as goal
 
 abbrev pub invariant-loop-l : goal.invariant-loop-l
-invariant-loop-l l = (l.l ≤ 64) × (l.w ≡ sets l.initial.w rights_at (flat_map row_words (list_from 0 l.l (λ k. get_or l.rights k no_row))))
-
-abbrev pub decreases-loop-l : goal.decreases-loop-l
-decreases-loop-l l = 64 - l.l
+invariant-loop-l l = l.w ≡ sets l.initial.w rights_at (flat_map row_words (list_from 0 l.l (λ k. get_or l.rights k no_row)))
