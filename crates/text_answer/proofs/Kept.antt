@@ -5,8 +5,8 @@ use mathlib.Core.Bool.{Bool, true, false}
 use mathlib.Core.List.{List, ◌++◌}
 use mathlib.Core.Path.{◌≡◌, refl, ap, ◌∙◌}
 use lib.Dec.{ltb}
-use lib.ListN.{length, drop, length-append, length-drop, get_or-append}
-use lib.Seq.{ext_get_or, get_or-append-add}
+use lib.ListN.{length, take, drop, replicate, length-replicate, get_or-replicate, length-append, length-drop, get_or-append}
+use lib.Seq.{length-take-le, get_or-take, ext_get_or, get_or-append-add}
 use Rattle.std.proofs.lemmas.List.{get_or-drop}
 use borrow.Author.Tests.{ltb-true, ltb-false}
 use Rattle.table.specs.Words.{row_size, parts_at, script_words, word}
@@ -28,6 +28,16 @@ front_over m f w xs e b g = record {
       ap (word (xs ++ drop m w)) z ∙ get_or-append-add xs (drop m w) (o - m) 0 ∙ get_or-drop m w (o - m) 0 ∙ ap (word w) y;
   size = length-append xs (drop m w) ∙ omega (arith, length-drop m w);
 }
+
+-- by zeros, and by the first words of another list
+pub front_zeros : (m : ℕ) (w xs : List ℕ) → xs ≡ replicate (length (take m w)) 0 → m ≤ length w → Front m (λ o. 0) w (xs ++ drop m w)
+front_zeros m w xs e b =
+    let l = length-take-le m w b in
+    front_over m (λ o. 0) w xs (ap length e ∙ length-replicate {A = ℕ} (length (take m w)) 0 ∙ l) b (λ o h. ap (λ x. word x o) e ∙ get_or-replicate (length (take m w)) o 0 0 (omega (arith, l)))
+
+pub front_copy : (m : ℕ) (u w xs : List ℕ) → xs ≡ take m u → m ≤ length u → m ≤ length w → Front m (word u) w (xs ++ drop m w)
+front_copy m u w xs e a b =
+    front_over m (word u) w xs (ap length e ∙ length-take-le m u a) b (λ o h. ap (λ x. word x o) e ∙ get_or-take m u o 0 h)
 
 -- ── zeros ──
 pub front-blank : (m n : ℕ) (w v : List ℕ) → length w ≡ script_words → parts_at + n * row_size ≤ m → Front m (λ o. 0) w v → Blank v n

@@ -8,6 +8,11 @@ use mathlib.Core.Path.{◌≡◌, refl, sym, ap, ◌∙◌}
 use borrow.Author.Tests.{leb-true, eqb-true}
 use lib.Dec.{leb}
 use lib.ListN.{length, take, set, replicate}
+use Rattle.std.specs.Prelude.{Result, Ok, Err}
+use Rattle.std.specs.Result.{is_err}
+use Rattle.terms.specs.declared.refusal.Refusal.{Refusal}
+use Rattle.terms.specs.Refusals.{number_of}
+use Rattle.terms.proofs.Refusals.{number-some}
 use Rattle.terms.specs.Rules.{Answer, ◌>>=◌}
 use Rattle.terms.specs.Rules.Answer.{refused, accepted}
 use Rattle.terms.specs.Same.{every}
@@ -47,7 +52,6 @@ use Rattle.text_tree.proofs.AskedApart.{apart-is}
 use Rattle.text_tree.proofs.AskedCalls.{calls_is}
 use Rattle.text_tree.proofs.AskedBound.{bound-is}
 use Rattle.text_tree.proofs.AskedKnown.{known}
-use Rattle.text_enter.specs.declared.Entry.{Entry}
 use Rattle.text_answer.specs.declared.Settings.{Settings}
 use Rattle.text_answer.specs.declared.Reading.{Reading}
 use Rattle.text_fill.specs.Ready.{Ready, tree_in, bodies_by, Filled, defined as defined_by}
@@ -56,9 +60,8 @@ use Rattle.text_answer.specs.Answer.{StateIs, refusal, locations_in, channels_in
 use Rattle.text_enter.specs.Entered.{Answered, Entered}
 use Rattle.text_fill.proofs.Spreading.{spread-all}
 use Rattle.text_fill.proofs.Quiet.{Quiet, quiet_then, bodies-quiet, brackets-quiet, bodies-same}
-use Rattle.text_answer.specs.Front.{Front}
 use Rattle.text_fill.proofs.Beyond.{Beyond, filled-beyond}
-use Rattle.text_answer.proofs.Kept.{front-blank}
+use Rattle.text_answer.proofs.Kept.{Front, front-blank}
 use Rattle.text_answer.proofs.States.{tally-new}
 use Rattle.text_answer.proofs.Under.{under-length, under-edition, names-given}
 
@@ -313,8 +316,8 @@ module _ (s : List ℕ) (c : Scanned) (e : c ≡ scan_of s) (q : ℕ) (l : q ≡
   limits-is = l ∙ ap limits e
 
   -- the scan's refusal
-  pub way-1 : (q ≡ 0 → ⊥) → (h : Settings) (u w v : List ℕ) (r : Reading) → r ≡ refusal q → v ≡ u → ReadsAnswer s h (read s) u w v r
-  way-1 n h u w v r g k = refused-is (limits (scan_of s)) h u w v r (limited s (λ z. n (limits-is ∙ z))) (g ∙ ap refusal limits-is) k
+  pub way-1 : (d : Refusal) → q ≡ number_of d → (h : Settings) (u w v : List ℕ) (r : Reading) → r ≡ refusal (number_of d) → v ≡ u → ReadsAnswer s h (read s) u w v r
+  way-1 d n h u w v r g k = refused-is (limits (scan_of s)) h u w v r (limited s (λ z. number-some d (sym n ∙ limits-is ∙ z))) (g ∙ ap refusal (sym n ∙ limits-is)) k
 
   module _ (z : q ≡ 0) where
     pub pass : Passing s
@@ -368,18 +371,31 @@ module _ (s : List ℕ) (c : Scanned) (e : c ≡ scan_of s) (q : ℕ) (l : q ≡
         asked_is = f ∙ ap asked now-script
 
         module _ (wide : length out ≡ 256) (fewest : m ≤ parts_at + c.parts * row_size) where
-          -- the script's refusal, or the network
-          pub entered : Entered s c.parts w v after (record { code = a; n = n })
-          entered = record {
+          -- the script's refusal
+          pub entered-no : (d : Refusal) → a ≡ number_of d → Entered s c.parts w v after (Err d)
+          entered-no d k = record {
             answer = record {
-              few = places-few pass.ready blank parts-now defs-now (h pass.ready) wide;
-              no = λ x. asked-no pass w₀ blank (λ y. x (asked_is ∙ y)) ∙ ap refused (sym asked_is);
-              yes = λ y g w₁ i known-one u q z k.
-                  let p = state-is pass.ready blank parts-now defs-now (h pass.ready) wide q.state k in
+              few = λ i y. absurd cc;
+              no = λ b y. asked-no pass w₀ blank (λ z. number-some d (sym k ∙ asked_is ∙ z)) ∙ ap refused (sym asked_is ∙ k ∙ ap number_of cc);
+              yes = λ i y. absurd cc;
+            };
+            rest = rest-now fewest;
+            size = long-now;
+          }
+
+          -- or the network
+          pub entered-yes : a ≡ 0 → Entered s c.parts w v after (Ok n)
+          entered-yes y = record {
+            answer = record {
+              few = λ i k. let e : n ≡ i = cc in rw (← e) (places-few pass.ready blank parts-now defs-now (h pass.ready) wide);
+              no = λ b k. absurd cc;
+              yes = λ b k g w₁ i known-one u q z l.
+                  let e : b ≡ n = cc in
+                  let p = state-is pass.ready blank parts-now defs-now (h pass.ready) wide q.state (rw e at l) in
                   let behind-now : (o : ℕ) → parts_at + c.parts * row_size ≤ o → word v o ≡ word (under g w₁) o = λ o b. rest-now fewest o b ∙ ap (λ x. word x o) i in
                   let before-now : length w₁ ≡ script_words = sym (ap length i ∙ under-length g w₁) ∙ size in
                   let edition-now : edition_in v ≡ g.edition = behind-now edition_at (omega (arith, may-fill.0)) ∙ under-edition g w₁ before-now in
-                  let around : Around pass w₀ blank g w₁ q.state = record { before = before-now; size = rw now-script at (long-now ∙ size); behind = rw (parts-now, now-script) at behind-now; past = k.past; edition = rw now-script at edition-now; known-one = known-one } in
+                  let around : Around pass w₀ blank g w₁ q.state = record { before = before-now; size = rw now-script at (long-now ∙ size); behind = rw (parts-now, now-script) at behind-now; past = l.past; edition = rw now-script at edition-now; known-one = known-one } in
                   rw now-script (asked-yes pass w₀ blank (sym asked_is ∙ y) q z p.0 p.1 u g w₁ around);
             };
             rest = rest-now fewest;
@@ -387,12 +403,14 @@ module _ (s : List ℕ) (c : Scanned) (e : c ≡ scan_of s) (q : ℕ) (l : q ≡
           }
 
 -- ── after the questions ──
-pub answer-no : {s w v : List ℕ} {after : List (List ℕ)} {e : Entry} → Answered s w v after e → (e.code ≡ 0 → ⊥) → (h : Settings) (u w₀ x : List ℕ) (r : Reading) → r ≡ refusal e.code → x ≡ u → ReadsAnswer s h (read s) u w₀ x r
-answer-no a m h u w₀ x r g k = rw (a.no m) (g, k)
+pub answer-no : {s w v : List ℕ} {after : List (List ℕ)} {q : Result ℕ Refusal} → Answered s w v after q → (d : Refusal) → q ≡ Err d → (h : Settings) (u w₀ x : List ℕ) (r : Reading) → r ≡ refusal (number_of d) → x ≡ u
+    → ReadsAnswer s h (read s) u w₀ x r
+answer-no a d m h u w₀ x r g k = rw (a.no d m) (g, k)
 
 -- after a refusal the script may be another
-pub answer_back : {s w v : List ℕ} {after : List (List ℕ)} {e : Entry} → Answered s w v after e → (e.code ≡ 0 → ⊥) → (x : List ℕ) → Answered s w x after e
-answer_back a m x = record { few = a.few; no = a.no; yes = λ z. absurd (m z) }
+pub answer_back : {s w v : List ℕ} {after : List (List ℕ)} (q : Result ℕ Refusal) → Answered s w v after q → is_err q ≡ true → (x : List ℕ) → Answered s w x after q
+answer_back (Ok n) a e x = absurd cc
+answer_back (Err d) a e x = record { few = a.few; no = a.no; yes = λ n z. absurd cc }
 
 -- ── question 21 ──
 pub edition-no : (s : List ℕ) (h : Settings) → is_edition h.edition ≡ false → (u w x : List ℕ) (r : Reading) → r ≡ refusal 21 → x ≡ u → ReadsAnswer s h (read_under h.edition s) u w x r

@@ -6,61 +6,33 @@
 // proofs/Numbers  the numbers that a refusal of `read` has
 #![tactic(auto)]
 
-ghost use Rattle.std.specs.Prelude.{◌≡◌, ◌≤◌, length};
+ghost use Rattle.std.specs.Prelude.{◌≡◌};
 ghost use Rattle.text_scan.specs.Answers.{scan_of};
 ghost use Rattle.text_scan.specs.Limits.{limits};
 ghost use Rattle.text_answer.specs.Answer.{ReadsAs, ReadsOver};
 ghost use Rattle.text_enter.specs.Entered.{Tried};
 
-use table::words::word;
-use table::{EDITION, PARTS_END, Script};
+use table::{EDITION, PARTS_END, RIGHTS, Script};
 use terms::is_edition;
-use text_answer::front::{put_edition, script_sized, wipe};
-use text_answer::given::{RIGHTS_WORDS, keep_rights, put_rights_back, put_settings};
+use terms::refusal::Refusal;
+use text_answer::front::{put_edition, wipe};
+use text_answer::given::{RIGHTS_WORDS, put_settings};
 use text_answer::state::accept;
 use text_answer::{Reading, Settings, refuse};
-use text_enter::{Entry, enter, enter_kept};
-use text_scan::limits;
+use text_enter::{Places, enter, enter_kept};
+use text_scan::{Scanned, limits};
 
-// A text of the fewest parts needs the least space to keep words aside, which is set to zero first.
-fn enter_fewest(text: &[u8], c: text_scan::Scanned, w: &mut Script, out: &mut [[u32; 2]]) -> Entry
-    requires { (c ≡ scan_of text.now) × (limits c ≡ 0) × (length out.old ≡ 256) × (c.parts ≤ 32) }
+// A text that passes the scan, written into the lent script: a refusal leaves the script as it was. A text of few parts needs less space to keep words aside,
+// which is set to zero first; another may need as much as a whole script.
+fn try_enter(text: &[u8], c: Scanned, w: &mut Script, out: &mut Places) -> Result<usize, Refusal>
+    requires { (c ≡ scan_of text.now) × (limits c ≡ 0) }
     ensures { Tried text.now w.old w.new out.new result }
 {
-    let mut kept = [0u32; 2056];
-    enter_kept(text, c, w, out, &mut kept)
-}
-
-// A text of few parts needs little.
-fn enter_few(text: &[u8], c: text_scan::Scanned, w: &mut Script, out: &mut [[u32; 2]]) -> Entry
-    requires { (c ≡ scan_of text.now) × (limits c ≡ 0) × (length out.old ≡ 256) × (c.parts ≤ 128) }
-    ensures { Tried text.now w.old w.new out.new result }
-{
-    let mut kept = [0u32; 4360];
-    enter_kept(text, c, w, out, &mut kept)
-}
-
-// Another may need as much as a whole script.
-fn enter_many(text: &[u8], c: text_scan::Scanned, w: &mut Script, out: &mut [[u32; 2]]) -> Entry
-    requires { (c ≡ scan_of text.now) × (limits c ≡ 0) × (length out.old ≡ 256) }
-    ensures { Tried text.now w.old w.new out.new result }
-{
-    let mut kept = [0u32; PARTS_END];
-    enter_kept(text, c, w, out, &mut kept)
-}
-
-// A text that passes the scan, written into the lent script: a refusal leaves the script as it was.
-fn try_enter(text: &[u8], c: text_scan::Scanned, w: &mut Script, out: &mut [[u32; 2]]) -> Entry
-    requires { (c ≡ scan_of text.now) × (limits c ≡ 0) × (length out.old ≡ 256) }
-    ensures { Tried text.now w.old w.new out.new result }
-{
-    if c.parts <= 32 {
-        return enter_fewest(text, c, w, out);
+    match c.parts {
+        0..=32 => enter_kept::<2056>(text, c, w, out),
+        33..=128 => enter_kept::<4360>(text, c, w, out),
+        _ => enter_kept::<PARTS_END>(text, c, w, out),
     }
-    if c.parts <= 128 {
-        return enter_few(text, c, w, out);
-    }
-    enter_many(text, c, w, out)
 }
 
 // The call `read`: questions 21 and 1 to 7, and the network in the lent script and the answer's components.
@@ -68,25 +40,25 @@ pub fn read(text: &[u8], given: Settings, w: &mut Script) -> Reading
     ensures { ReadsAs text.now given w.old w.new result }
 {
     if !is_edition(given.edition) {
-        return refuse(21);
+        return refuse(Refusal::NoEdition);
     }
     let c = text_scan::scan(text);
-    if let Err(q) = limits(c) {
-        return refuse(q.number());
+    if let Err(e) = limits(c) {
+        return refuse(e);
     }
     let mut out = [[0; 2]; 256];
     let mut kept = [0u32; RIGHTS_WORDS];
-    script_sized(*w);
-    let before = word(w, EDITION);
-    keep_rights(w, RIGHTS_WORDS, &mut kept);
+    let before = w[EDITION];
+    kept.copy_from_slice(&w[RIGHTS..RIGHTS + RIGHTS_WORDS]);
     put_settings(w, given);
-    let e = try_enter(text, c, w, &mut out);
-    if e.code != 0 {
-        put_rights_back(&kept, RIGHTS_WORDS, w);
-        put_edition(w, before);
-        return refuse(e.code);
+    match try_enter(text, c, w, &mut out) {
+        Ok(n) => accept(w, &out[..n]),
+        Err(e) => {
+            w[RIGHTS..RIGHTS + RIGHTS_WORDS].copy_from_slice(&kept);
+            put_edition(w, before);
+            refuse(e)
+        }
     }
-    accept(w, &out, e.n)
 }
 
 // The call `read` for a caller that does not need the script's words after a refusal, which sets them all to zero: nothing is kept aside.
@@ -95,19 +67,20 @@ pub fn read_over(text: &[u8], given: Settings, w: &mut Script) -> Reading
 {
     if !is_edition(given.edition) {
         wipe(w);
-        return refuse(21);
+        return refuse(Refusal::NoEdition);
     }
     let c = text_scan::scan(text);
-    if let Err(q) = limits(c) {
+    if let Err(e) = limits(c) {
         wipe(w);
-        return refuse(q.number());
+        return refuse(e);
     }
     let mut out = [[0; 2]; 256];
     put_settings(w, given);
-    let e = enter(text, c, w, &mut out);
-    if e.code != 0 {
-        wipe(w);
-        return refuse(e.code);
+    match enter(text, c, w, &mut out) {
+        Ok(n) => accept(w, &out[..n]),
+        Err(e) => {
+            wipe(w);
+            refuse(e)
+        }
     }
-    accept(w, &out, e.n)
 }

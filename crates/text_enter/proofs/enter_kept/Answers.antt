@@ -1,20 +1,15 @@
 -- After a refusal the words in front are put back, and those behind were never written.
 use native.Mathlib.Omega.{arith}
-use mathlib.Core.Path.{refl, ◌∙◌}
-use Rattle.text_answer.proofs.Kept.{back-again}
-use Rattle.text_enter.proofs.Answering.{may-fill, answer_back}
+use mathlib.Core.Path.{sym}
+use Prim.Native.Nat.{ℕ}
+use lib.ListN.{length-replicate}
+use Rattle.text_answer.proofs.Kept.{front_copy, back-again}
+use Rattle.text_enter.proofs.Answering.{answer_back}
 use Rattle.text_enter.proofs.enter_kept.Goals as goal
 
-pub keep-requires : goal.keep-requires
-keep-requires c = (omega (arith, (may-fill _ _ c.requires.0 _ refl c.requires.1).0), omega (arith, c.requires.3))
-
-pub put_back-requires : goal.put_back-requires
-put_back-requires c =
-    (omega (arith, c.keep.ensures.size, c.requires.3), omega (arith, (may-fill _ _ c.requires.0 _ refl c.requires.1).0), c.enter-e.ensures.size ∙ c.script_sized.ensures)
-
-pub returns-then-e-ne0 : goal.returns-then-e-ne0
-returns-then-e-ne0 c =
-    record { answer = answer_back c.enter-e.ensures.answer c.if-e-ne0.true _; back = λ m. back-again _ _ _ _ _ _ c.keep.ensures c.enter-e.ensures.rest c.enter-e.ensures.size c.put_back.ensures }
-
-pub returns : goal.returns
-returns c = record { answer = c.enter-e.ensures.answer; back = λ m. absurd (m (omega (arith, c.if-e-ne0.false))) }
+pub returns-then-is_err : goal.returns-then-is_err
+returns-then-is_err g c =
+    let e = c.enter-entered.ensures in
+    let kept = front_copy _ c.args.w.now _ _ c.copy_from_slice.ensures.after (omega arith) (omega (arith, length-replicate {A = ℕ})) in
+    let back = front_copy _ _ c.enter-entered.new.w _ c.copy_from_slice-then-is_err.ensures.after (omega (arith, kept.size, length-replicate {A = ℕ})) (omega (arith, e.size)) in
+    record { answer = answer_back _ e.answer (sym c.if-is_err.ensures.value) _; back = λ d m. back-again _ _ _ _ _ _ kept e.rest e.size back }

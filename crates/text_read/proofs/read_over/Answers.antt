@@ -1,10 +1,7 @@
 -- The edition's refusal, that of the scan, that of the script, or the network; after a refusal the script is zero.
-use native.Mathlib.Omega.{arith}
-use mathlib.Core.Path.{sym, ap, ◌∙◌}
+use mathlib.Core.Path.{ap}
 use Rattle.terms.specs.Refusals.{code_of}
-use Rattle.terms.proofs.Refusals.{err-some}
 use Rattle.table.proofs.ValidBool.{failed, passed}
-use Rattle.text_answer.specs.Answer.{refusal}
 use Rattle.text_enter.proofs.Answering.{way-1, answer-no, edition-no, edition-yes}
 use Rattle.text_read.proofs.read_over.Goals as goal
 
@@ -13,15 +10,13 @@ returns-then-not-is_edition c = edition-no _ _ (failed c.if-not-is_edition.true 
 
 pub returns-in-Err : goal.returns-in-Err
 returns-in-Err c =
-    let some = err-some c.limits.result _ c.in-Err.is in
-    let number = c.number.ensures ∙ sym (ap code_of c.in-Err.is) in
-    edition-yes _ _ (passed c.if-not-is_edition.false c.is_edition.ensures) _ _ _ _ (way-1 _ _ c.scan-c.ensures _ c.limits.ensures some _ _ _ _ _ (c.refuse-in-Err.ensures ∙ ap refusal number) c.wipe-in-Err.ensures)
+    edition-yes _ _ (passed c.if-not-is_edition.false c.is_edition.ensures) _ _ _ _ (way-1 _ _ c.scan-c.ensures _ c.limits.ensures _ (ap code_of c.in-Err.is) _ _ _ _ _ c.refuse-in-Err.ensures c.wipe-in-Err.ensures)
 
-pub returns-then-e-ne0 : goal.returns-then-e-ne0
-returns-then-e-ne0 c =
-    edition-yes _ _ (passed c.if-not-is_edition.false c.is_edition.ensures) _ _ _ _ (answer-no c.enter-e.ensures.answer c.if-e-ne0.true _ _ _ _ _ c.refuse-then-e-ne0.ensures c.wipe-then-e-ne0.ensures)
-
-pub returns : goal.returns
-returns c =
+pub returns-in-Ok : goal.returns-in-Ok
+returns-in-Ok c =
     let known = passed c.if-not-is_edition.false c.is_edition.ensures in
-    edition-yes _ _ known _ _ _ _ (c.enter-e.ensures.answer.yes (omega (arith, c.if-e-ne0.false)) _ _ c.put_settings.ensures known _ _ c.accept.ensures.0 c.accept.ensures.1)
+    edition-yes _ _ known _ _ _ _ (c.enter.ensures.answer.yes _ c.in-Ok.is _ _ c.put_settings.ensures known _ _ c.accept.ensures.0 c.accept.ensures.1)
+
+pub returns-in-Err-enter : goal.returns-in-Err-enter
+returns-in-Err-enter c =
+    edition-yes _ _ (passed c.if-not-is_edition.false c.is_edition.ensures) _ _ _ _ (answer-no c.enter.ensures.answer _ c.in-Err-enter.is _ _ _ _ _ c.refuse-in-Err-enter.ensures c.wipe-in-Err-enter.ensures)
