@@ -229,6 +229,35 @@ pub reserved-word : (k : Key) → k.b ≡ 0 → k.c ≡ 0 → k.d ≡ 0
     → member (key_name k) reserved ≡ true
 reserved-word k p q r s = rw (p, q, r) (each-reserved k.a s)
 
+-- a key with another first word, or with a second one
+module _ (k : Key) (wa : k.a < 4_294_967_296) (wb : k.b < 4_294_967_296) (wc : k.c < 4_294_967_296) (wd : k.d < 4_294_967_296) where
+  unlike : ((n : ℕ) → k ≡ short n → ⊥) → member (key_name k) reserved ≡ false
+  unlike n =
+      not-reserved k (record { wa = wa; wb = wb; wc = wc; wd = wd }) (record { no_stop = n _; no-go = n _; no-in = n _; no-out = n _; no-inf = n _; no-S = n _ })
+
+  pub other-second : (k.b ≡ 0 → ⊥) → member (key_name k) reserved ≡ false
+  other-second h = unlike (λ n e. h (ap (λ x. x.b) e))
+
+  pub other-third : (k.c ≡ 0 → ⊥) → member (key_name k) reserved ≡ false
+  other-third h = unlike (λ n e. h (ap (λ x. x.c) e))
+
+  pub other-fourth : (k.d ≡ 0 → ⊥) → member (key_name k) reserved ≡ false
+  other-fourth h = unlike (λ n e. h (ap (λ x. x.d) e))
+
+  pub other_first : ((k.a ≡ 83) ⊎ ((k.a ≡ 28_265) ⊎ ((k.a ≡ 28_519) ⊎ ((k.a ≡ 6_712_937) ⊎ ((k.a ≡ 7_632_239) ⊎ (k.a ≡ 1_886_352_499))))) → ⊥)
+      → member (key_name k) reserved ≡ false
+  other_first h =
+      let f : (m : ℕ) → k ≡ short m → k.a ≡ m = λ m e. ap (λ x. x.a) e in
+      not-reserved k (record { wa = wa; wb = wb; wc = wc; wd = wd })
+      (record {
+        no-S = λ e. h (inl (f _ e));
+        no-in = λ e. h (inr (inl (f _ e)));
+        no-go = λ e. h (inr (inr (inl (f _ e))));
+        no-inf = λ e. h (inr (inr (inr (inl (f _ e)))));
+        no-out = λ e. h (inr (inr (inr (inr (inl (f _ e))))));
+        no_stop = λ e. h (inr (inr (inr (inr (inr (f _ e))))));
+      })
+
 -- ── the whole form ──
 pub no-mark : (s : Sort) → first_of s other ≡ false
 no-mark Location = refl
@@ -271,3 +300,11 @@ starts a e z = false≢true (subst (λ n. is_alnum (n % 256) ≡ true) z e)
 
 pub solid-after : (a : ℕ) → a < 4_294_967_296 → is_alnum (a % 256) ≡ true → solid a ≡ solid (a / 256)
 solid-after a h e = solid-turn a h (starts a e) ∙ rw e
+
+pub ruleset whole_form = (name-is, first-alnum)
+
+pub ruleset letters_form = (solid-1, solid-2, solid-3, solid-4, solid-after)
+
+pub ruleset word_form = (full-low, full-high)
+
+pub ruleset reserved_form = (reserved-word, other_first, other-second, other-third, other-fourth)

@@ -1,21 +1,25 @@
 -- Names that stand at equal distances: what has been shown of each of them, or of a pair, is shown of their list.
 -- By the laws of loops, at the list of f of each number below n.
-use Prim.Native.Nat.{ℕ, suc, ◌+◌, ◌-◌, ◌%◌, ◌<◌}
+use Prim.Native.Nat.{ℕ, zero, suc, ◌+◌, ◌-◌, ◌%◌, ◌<◌}
 use native.Mathlib.Omega.{arith}
 use native.Mathlib.Numerals.{add-one}
 use mathlib.Core.List.{List, []}
-use mathlib.Core.Bool.{Bool, true, false}
-use mathlib.Core.Path.{◌≡◌, refl, ap, sym, ◌∙◌}
+use mathlib.Core.Bool.{Bool, true, false, not, ◌&&◌}
+use mathlib.Core.Path.{◌≡◌, refl, ap, ap₂, sym, ◌∙◌}
 use lib.Bits.{bit_xor}
 use lib.Dec.{eqb}
 use lib.ListN.{length, get_or, set, drop, length-drop}
 use lib.Seq.{get_or-drop, get_or-set_same, get_or-set_other}
 use borrow.Author.Tests.{eqb-true, eqb-false}
 use Rattle.terms.specs.Names.{Name, same_name}
+use Rattle.std.specs.List.{list_all, list_any, range_with_len}
+use Rattle.terms.specs.Rules.{some}
 use Rattle.terms.specs.Same.{every}
 use Rattle.terms.proofs.Names.{name-eq}
 use Rattle.terms.specs.Letters.{member, distinct}
 use Rattle.table.specs.Meaning.{list_from}
+use Rattle.table.proofs.Ranges.{some-range}
+use Rattle.table.proofs.Stores.{drop-from}
 use Rattle.table_names.specs.Tests.{Mixed, Noted}
 use Rattle.table.proofs.Names.{Words, key-injective}
 use Rattle.table.proofs.ValidLists.{every-all, every-miss, member-hit, member-none, distinct-all, distinct-miss, list_from-length, list_from-at}
@@ -61,6 +65,28 @@ module _ (n : ℕ) (f : ℕ → Name) where
 
   pub apart-miss : (k : ℕ) → k < n → member (f k) (drop (k + 1) (list_from 0 n f)) ≡ true → distinct (list_from 0 n f) ≡ false
   apart-miss k b e = distinct-miss (list_from 0 n f) k (omega (arith, list_from-length 0 n f)) (apart-at k b true e)
+
+-- ── the same, as the library says it of a range ──
+module _ (f : ℕ → Name) where
+  pub again-range : (x : Name) (n i : ℕ) → list_any (λ j. same_name x (f j)) (range_with_len (i + 1) (n - (i + 1))) ≡ member x (drop (i + 1) (list_from 0 n f))
+  unfolding member
+  again-range x n i =
+      sym (some-range (same_name x) (i + 1) (n - (i + 1)) f)
+      ∙ ap (some (same_name x)) (sym (drop-from 0 n (i + 1) f ∙ ap (λ k. list_from k (n - (i + 1)) f) (omega arith)))
+
+  -- m is where the range ends
+  distinct-range : (k n m : ℕ) → k + n ≡ m → list_all (λ i. not (member (f i) (list_from (i + 1) (m - (i + 1)) f))) (range_with_len k n) ≡ distinct (list_from k n f)
+  unfolding distinct list_from
+  distinct-range k zero m e = refl
+  distinct-range k (suc n) m e =
+      let d : m - (k + 1) ≡ n = omega arith in
+      ap₂ (λ l b. not (member (f k) l) && b) (ap (λ j. list_from (k + 1) j f) d ∙ ap (λ j. list_from j n f) (add-one k)) (distinct-range (k + 1) n m (omega arith) ∙ ap (λ j. distinct (list_from j n f)) (add-one k))
+
+  pub apart-range : (n : ℕ) → list_all (λ i. not (member (f i) (drop (i + 1) (list_from 0 n f)))) (range_with_len 0 n) ≡ distinct (list_from 0 n f)
+  apart-range n =
+      let p : (i : ℕ) → not (member (f i) (drop (i + 1) (list_from 0 n f))) ≡ not (member (f i) (list_from (i + 1) (n - (i + 1)) f))
+      = λ i. ap (λ l. not (member (f i) l)) (drop-from 0 n (i + 1) f ∙ ap (λ k. list_from k (n - (i + 1)) f) (omega arith)) in
+      ap (λ g. list_all g (range_with_len 0 n)) (λ t i. p i t) ∙ distinct-range 0 n n (omega arith)
 
 -- ── a number for each name ──
 pub mixed-apart : {x y : Name} {m n : ℕ} → Mixed x m → Mixed y n → (n ≡ m → ⊥) → same_name x y ≡ false

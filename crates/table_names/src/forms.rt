@@ -24,78 +24,53 @@ fn solid_word(x: u32) -> bool
 {
     let mut y = x;
     while y != 0 {
-        let b = low_byte(y);
-        if !is_alnum(b) {
+        if !is_alnum(low_byte(y)) {
             return false;
         }
-        y = y / 256;
+        y /= 256;
     }
     true
 }
 
 // Four letters and digits?
+#[tactic(auto, using(crate::proofs::NamesForm::word_form, std::proofs::lemmas::Bool::Decides::nat_tests))]
 fn full_word(x: u32) -> bool
     ensures { result ≡ every is_alnum (four_bytes x []) }
 {
-    if x < 16777216 {
-        return false;
-    }
-    solid_word(x)
+    16777216 <= x && solid_word(x)
 }
 
 // Letters and digits, where the first is one? Every word before the last that is not zero is full.
+#[tactic(auto, using(crate::proofs::NamesForm::letters_form))]
 fn solid_key(k: Key) -> bool
     requires { is_alnum (k.a % 256) ≡ true }
     ensures { result ≡ every is_alnum (key_name k) }
 {
     if k.d != 0 {
-        if !full_word(k.c) {
-            return false;
-        }
-        if !full_word(k.b) {
-            return false;
-        }
-        if !full_word(k.a) {
-            return false;
-        }
-        return solid_word(k.d);
+        full_word(k.a) && full_word(k.b) && full_word(k.c) && solid_word(k.d)
+    } else if k.c != 0 {
+        full_word(k.a) && full_word(k.b) && solid_word(k.c)
+    } else if k.b != 0 {
+        full_word(k.a) && solid_word(k.b)
+    } else {
+        solid_word(k.a / 256)
     }
-    if k.c != 0 {
-        if !full_word(k.b) {
-            return false;
-        }
-        if !full_word(k.a) {
-            return false;
-        }
-        return solid_word(k.c);
-    }
-    if k.b != 0 {
-        if !full_word(k.a) {
-            return false;
-        }
-        return solid_word(k.b);
-    }
-    solid_word(k.a / 256)
 }
 
 // stop, go, in, out, inf, S
+#[tactic(auto, using(crate::proofs::NamesForm::reserved_form))]
 fn is_reserved(k: Key) -> bool
     ensures { result ≡ member (key_name k) reserved }
 {
-    if k.b != 0 {
-        return false;
-    }
-    if k.c != 0 {
-        return false;
-    }
-    if k.d != 0 {
-        return false;
-    }
-    let a = k.a;
-    match a {
-        1886352499 | 28519 | 28265 | 7632239 | 6712937 | 83 => true,
-        _ => false,
-    }
+    matches!(
+        k,
+        Key {
+            a: 1886352499 | 28519 | 28265 | 7632239 | 6712937 | 83,
+            b: 0,
+            c: 0,
+            d: 0,
+        }
+    )
 }
 
 fn first_ok(s: Sort, b: u8) -> bool
@@ -109,23 +84,16 @@ fn first_ok(s: Sort, b: u8) -> bool
 }
 
 // Is it a name of the sort?
+#[tactic(auto, using(crate::proofs::NamesForm::whole_form))]
 fn is_name(s: Sort, k: Key) -> bool
     ensures { result ≡ is_name (first_of s) (key_name k) }
 {
-    let b = low_byte(k.a);
-    if !first_ok(s, b) {
-        return false;
-    }
-    if !solid_key(k) {
-        return false;
-    }
-    !is_reserved(k)
+    first_ok(s, low_byte(k.a)) && solid_key(k) && !is_reserved(k)
 }
 
 // Is the name that stands at o one of the sort?
 pub fn is_name_at(s: Sort, w: &Script, o: usize) -> bool
     ensures { result ≡ is_name (first_of s) (name_at w.now o) }
 {
-    let x = key_at(w, o);
-    is_name(s, x)
+    is_name(s, key_at(w, o))
 }

@@ -34,14 +34,7 @@ fn names_ok(w: &Script, f: Sort, o: usize, s: usize, n: usize) -> bool
     requires { (o ≤ 2000) × (s ≤ row_size) × (n ≤ 64) }
     ensures { result ≡ every (is_name (first_of f)) (list_from 0 n (row_name w.now o s)) }
 {
-    let mut j = 0;
-    while j < n {
-        if !is_name_at(f, w, o + j * s) {
-            return false;
-        }
-        j += 1;
-    }
-    true
+    (0..n).all(|j| is_name_at(f, w, o + j * s))
 }
 
 // A number below 1,013 from the words of the name at o: names of which these differ are different.
@@ -58,14 +51,7 @@ fn named_again(w: &Script, o: usize, s: usize, n: usize, i: usize) -> bool
     ensures { result ≡ member (row_name w.now o s i) (drop (i + 1) (list_from 0 n (row_name w.now o s))) }
 {
     let x = key_at(w, o + i * s);
-    let mut j = i + 1;
-    while j < n {
-        if is_named(w, o + j * s, x) {
-            return true;
-        }
-        j += 1;
-    }
-    false
+    (i + 1..n).any(|j| is_named(w, o + j * s, x))
 }
 
 // The same, where the numbers of those after it were noted, and h is its own: only a name whose number was noted is compared with the others.
@@ -81,10 +67,7 @@ fn held_again(
     requires { (o ≤ 2000) × (s ≤ row_size) × (n ≤ 64) × (i < n) × Mixed (row_name w.now o s i) h × ((k : ℕ) → i + 1 ≤ k → k < n → Noted seen.now (row_name w.now o s k)) }
     ensures { result ≡ member (row_name w.now o s i) (drop (i + 1) (list_from 0 n (row_name w.now o s))) }
 {
-    if seen[h] == 0 {
-        return false;
-    }
-    named_again(w, o, s, n, i)
+    seen[h] != 0 && named_again(w, o, s, n, i)
 }
 
 // Is each of few names held once? Each is compared with those after it.
@@ -92,14 +75,7 @@ fn few_apart(w: &Script, o: usize, s: usize, n: usize) -> bool
     requires { (o ≤ 2000) × (s ≤ row_size) × (n ≤ 64) }
     ensures { result ≡ distinct (list_from 0 n (row_name w.now o s)) }
 {
-    let mut i = 0;
-    while i < n {
-        if named_again(w, o, s, n, i) {
-            return false;
-        }
-        i += 1;
-    }
-    true
+    (0..n).all(|i| !named_again(w, o, s, n, i))
 }
 
 // The same of many. From the last on, each is looked for among those after it.
@@ -108,15 +84,12 @@ fn many_apart(w: &Script, o: usize, s: usize, n: usize) -> bool
     ensures { result ≡ distinct (list_from 0 n (row_name w.now o s)) }
 {
     let mut seen = [0u8; 1013];
-    let mut i = n;
-    while 0 < i {
-        let j = i - 1;
-        let h = mixed(w, o + j * s);
-        if held_again(w, &seen, h, o, s, n, j) {
+    for i in (0..n).rev() {
+        let h = mixed(w, o + i * s);
+        if held_again(w, &seen, h, o, s, n, i) {
             return false;
         }
         seen[h] = 1;
-        i = j;
     }
     true
 }
@@ -127,17 +100,15 @@ pub fn all_apart(w: &Script, o: usize, s: usize, n: usize) -> bool
     ensures { result ≡ distinct (list_from 0 n (row_name w.now o s)) }
 {
     if n <= 8 {
-        return few_apart(w, o, s, n);
+        few_apart(w, o, s, n)
+    } else {
+        many_apart(w, o, s, n)
     }
-    many_apart(w, o, s, n)
 }
 
 pub fn sort_ok(w: &Script, f: Sort, o: usize, s: usize, n: usize) -> bool
     requires { (o ≤ 2000) × (s ≤ row_size) × (n ≤ 64) }
     ensures { result ≡ (every (is_name (first_of f)) (list_from 0 n (row_name w.now o s)) && distinct (list_from 0 n (row_name w.now o s))) }
 {
-    if !names_ok(w, f, o, s, n) {
-        return false;
-    }
-    all_apart(w, o, s, n)
+    names_ok(w, f, o, s, n) && all_apart(w, o, s, n)
 }

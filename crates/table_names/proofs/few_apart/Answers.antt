@@ -1,36 +1,22 @@
 -- No name stands among those after it.
--- By the invariant that none passed does.
+-- By what the library says of `all` over a range.
+use Prim.Native.Nat.{◌+◌}
 use native.Mathlib.Omega.{arith}
-use mathlib.Core.Path.{sym, ◌∙◌}
-use borrow.Author.Count.{below_none, below_more}
+use mathlib.Core.Bool.{not}
+use mathlib.Core.Path.{refl, ◌∙◌}
+use lib.ListN.{drop}
+use Rattle.std.proofs.Common.{rules}
+use Rattle.std.proofs.lemmas.Iterator.{YieldsList-from_range}
+use Rattle.std.proofs.lemmas.Iterator.Search.{all_from_yields_List}
+use Rattle.terms.specs.Letters.{member}
+use Rattle.table.specs.Meaning.{list_from}
 use Rattle.table.specs.Tests.{row_name}
-use Rattle.table_names.proofs.NamesRows.{apart-all, apart-miss}
+use Rattle.table_names.proofs.NamesRows.{apart-range}
 use Rattle.table_names.proofs.few_apart.Goals as goal
-
-pub loop-i-init : goal.loop-i-init
-loop-i-init c = (omega arith, below_none _)
-
-pub named_again-requires : goal.named_again-requires
-named_again-requires c = let p = c.requires in (p.0, p.1, p.2, omega arith)
-
-pub returns-then-named_again : goal.returns-then-named_again
-returns-then-named_again c =
-    let a = c.args in
-    let l = c.loop-i in
-    sym (apart-miss a.n (row_name a.w.now a.o a.s) l.i (omega arith) (sym c.named_again.ensures ∙ c.if-named_again.true))
-
-pub overflow_add-i : goal.overflow_add-i
-overflow_add-i c = omega arith
-
-pub loop-i-smaller : goal.loop-i-smaller
-loop-i-smaller c = omega arith
-
-pub loop-i-preserved : goal.loop-i-preserved
-loop-i-preserved c =
-    let l = c.loop-i in
-    (omega arith, below_more _ _ l.invariant.1 (sym c.named_again.ensures ∙ c.if-named_again.false))
 
 pub returns : goal.returns
 returns c =
     let a = c.args in
-    sym (apart-all a.n (row_name a.w.now a.o a.s) (λ k b. c.loop-i.invariant.1 k (omega arith)))
+    let f = row_name a.w.now a.o a.s in
+    all_from_yields_List (λ i. not (member (f i) (drop (i + 1) (list_from 0 a.n f)))) _ _ _ c.all.ensures.ran (YieldsList-from_range 0 a.n a.n refl (omega arith)) (λ x b q k. search rules)
+    ∙ apart-range f a.n

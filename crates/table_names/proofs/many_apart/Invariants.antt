@@ -13,10 +13,6 @@ use Rattle.table_names.proofs.many_apart.Given as goal
 
 abbrev pub invariant-loop-i : goal.invariant-loop-i
 invariant-loop-i l =
-    (l.i ≤ l.n)
-    × (length l.seen ≡ 1_013)
+    (length l.seen ≡ 1_013)
     × ((k : ℕ) → l.i ≤ k → k < l.n → Noted l.seen (row_name l.w l.o l.s k))
     × ((k : ℕ) → l.i ≤ k → k < l.n → member (row_name l.w l.o l.s k) (drop (k + 1) (list_from 0 l.n (row_name l.w l.o l.s))) ≡ false)
-
-abbrev pub decreases-loop-i : goal.decreases-loop-i
-decreases-loop-i l = l.i

@@ -6,4 +6,4 @@ use Rattle.table_names.specs.Tests.{first_of}
 use Rattle.table_names.proofs.forms.is_name_at.Goals as goal
 
 pub returns : goal.returns
-returns c = c.is_name.ensures ∙ ap (is_name (first_of c.args.s)) c.key_at-x.ensures
+returns c = c.is_name.ensures ∙ ap (is_name (first_of c.args.s)) c.key_at.ensures

@@ -21,7 +21,7 @@ loop-y-init c = (omega arith, refl)
 pub returns-then-not-is_alnum : goal.returns-then-not-is_alnum
 returns-then-not-is_alnum c =
     let l = c.loop-y in
-    let n : is_alnum (l.y % 256) ≡ false = failed c.if-not-is_alnum.true (c.is_alnum.ensures ∙ ap is_alnum c.low_byte-b.ensures) in
+    let n : is_alnum (l.y % 256) ≡ false = failed c.if-not-is_alnum.true (c.is_alnum.ensures ∙ ap is_alnum c.low_byte.ensures) in
     sym (l.invariant.1 ∙ solid-turn l.y l.invariant.0 c.loop-y-test.true ∙ rw n)
 
 pub loop-y-smaller : goal.loop-y-smaller
@@ -30,7 +30,7 @@ loop-y-smaller c = let n = c.loop-y-test.true in smaller c.loop-y.y n
 pub loop-y-preserved : goal.loop-y-preserved
 loop-y-preserved c =
     let l = c.loop-y in
-    let n : is_alnum (l.y % 256) ≡ true = passed c.if-not-is_alnum.false (c.is_alnum.ensures ∙ ap is_alnum c.low_byte-b.ensures) in
+    let n : is_alnum (l.y % 256) ≡ true = passed c.if-not-is_alnum.false (c.is_alnum.ensures ∙ ap is_alnum c.low_byte.ensures) in
     (omega arith, l.invariant.1 ∙ solid-turn l.y l.invariant.0 c.loop-y-test.true ∙ rw n)
 
 pub returns : goal.returns
