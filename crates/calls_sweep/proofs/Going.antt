@@ -10,6 +10,8 @@ use lib.Dec.{eqb, ltb}
 use lib.ListN.{length, get_or, set, take, drop, length-set, length-map, length-take}
 use lib.Seq.{sets, length-sets, get_or-set_same, get_or-set_other, take-suc-set, take-set-le, drop-set-lt, drop-drop}
 use borrow.Author.Tests.{eqb-true, eqb-false, ltb-true, ltb-false}
+use Rattle.std.specs.Prelude.{Option, Some, None, is_some}
+use Rattle.std.specs.Option.{option_and}
 use Rattle.terms.specs.Same.{every}
 use Rattle.terms.specs.Rules.{Answer, Action, at}
 use Rattle.terms.specs.Rules as R
@@ -37,11 +39,17 @@ use Rattle.calls_sweep.specs.declared.Visit.{Visit}
 use Rattle.calls_sweep.specs.Sweep.{took_at, taken_at, visit_at, followed_at, choice_at, sweep_at, rec_of}
 use Rattle.calls_wait.specs.Waits.{hearers, Chain, Queued}
 use Rattle.calls_wait.proofs.Waiting.{foremost-of}
-use Rattle.calls_sweep.specs.Visit.{sends_by, sends_at, kind_at, kind_by, Performed, other_of, popped_of, rec_by, kind_of, sent_by, wait_by}
+use Rattle.calls_sweep.specs.Visit.{sends_by, sends_at, act_here, act_by, Performed, other_of, rec_by, act_of, sent_by, wait_by}
+use Rattle.calls_sweep.specs.declared.Act.{Act}
+use Rattle.calls_sweep.specs.declared.Act.TheVariants.{Calls, Moves, Sends}
 use Rattle.calls_sweep.proofs.Queues.{sends-fits}
 use Rattle.calls_sweep.proofs.Sweeping.{put_same, recs_of, Turned, turned_none, turned-some}
 
-pub record Going (w : List ℕ) (l : ℕ) (st now : State) (heads nexts : List ℕ) (before acts : List (List ℕ)) (count p : ℕ) : Type 0 where
+-- what is performed is what is done here
+pub as-here : {w : List ℕ} {k : Option Act} {a : Act} {c e : Comp} {v : Visit} → k ≡ Some a → Performed w (Some a) c e v → Performed w k c e v
+as-here {w} {k} {a} {c} {e} {v} o f = subst (λ z. Performed w z c e v) (sym o) f
+
+pub record Going (w : List ℕ) (l : ℕ) (st now : State) (heads nexts : List (Option ℕ)) (before acts : List (List ℕ)) (count p : ℕ) : Type 0 where
   pub few-p : p ≤ st.n
   pub few-count : count ≤ p
   pub size : length now.c ≡ state_words
@@ -87,30 +95,34 @@ sweep-steady w g l (suc n) p cs o e = sweep-steady w g l n (suc p) _ (visit-fine
 
 -- ── records ──
 -- 1 for an action, 0 for none
-abbrev some_of : ℕ → ℕ
-some_of zero = 0
-some_of (suc k) = 1
+abbrev some_of : Option Act → ℕ
+some_of None = 0
+some_of (Some a) = 1
 
-some_one : (k : ℕ) → (k ≡ 0 → ⊥) → some_of k ≡ 1
-some_one zero n = absurd (n refl)
-some_one (suc k) n = refl
+-- the record of an action; of none it is not looked at
+abbrev rec_at : Option Act → ℕ → ℕ → List ℕ
+rec_at None p q = []
+rec_at (Some a) p q = rec_by a p q
 
-take-rec : (acts : List (List ℕ)) (count k p q : ℕ) → count < length acts → take (count + some_of k) (set acts count (rec_by k p q)) ≡ take count acts ++ recs_of k p q
-take-rec acts count zero p q h = let z : count + 0 ≡ count = omega arith in ap (λ n. take n (set acts count (rec_by 0 p q))) z ∙ take-set-le count acts count (rec_by 0 p q) (omega arith) ∙ sym (append-nil (take count acts))
-take-rec acts count (suc k) p q h = ap (λ n. take n (set acts count (rec_by (suc k) p q))) (add-one count) ∙ take-suc-set acts count (rec_by (suc k) p q) h
+take-rec : (acts : List (List ℕ)) (count : ℕ) (k : Option Act) (p q : ℕ) → count < length acts → take (count + some_of k) (set acts count (rec_at k p q)) ≡ take count acts ++ recs_of k p q
+take-rec acts count None p q h = let z : count + 0 ≡ count = omega arith in ap (λ n. take n (set acts count [])) z ∙ take-set-le count acts count [] (omega arith) ∙ sym (append-nil (take count acts))
+take-rec acts count (Some a) p q h = ap (λ n. take n (set acts count (rec_by a p q))) (add-one count) ∙ take-suc-set acts count (rec_by a p q) h
 
 -- ── the chain of the component's channel ──
-chain-none : (nexts : List ℕ) (x : ℕ) (qs : List ℕ) → Chain nexts x qs → x ≡ 0 → qs ≡ []
+chain-none : (nexts : List (Option ℕ)) (x : Option ℕ) (qs : List ℕ) → Chain nexts x qs → x ≡ None → qs ≡ []
 chain-none nexts x [] c e = refl
-chain-none nexts x (q ∷ qs) c e = absurd (omega (arith, c.0))
+chain-none nexts x (q ∷ qs) c e = let z : Some q ≡ None = sym c.0 ∙ e in cc
 
-chain-some : (nexts : List ℕ) (q : ℕ) (qs : List ℕ) → Chain nexts (suc q) qs → (rest : List ℕ) × (qs ≡ q ∷ rest) × Chain nexts (get_or nexts q 0) rest
-chain-some nexts q [] c = absurd (omega arith)
-chain-some nexts q (r ∷ rest) c = let z : q ≡ r = omega (arith, c.0) in (rest, ap (λ y. y ∷ rest) (sym z), subst (λ y. Chain nexts (get_or nexts y 0) rest) (sym z) c.1)
+chain-some : (nexts : List (Option ℕ)) (q : ℕ) (qs : List ℕ) → Chain nexts (Some q) qs → (rest : List ℕ) × (qs ≡ q ∷ rest) × Chain nexts (get_or nexts q None) rest
+chain-some nexts q [] c = absurd (linked c)
+  where
+    linked : Some q ≡ None → ⊥
+    linked z = cc
+chain-some nexts q (r ∷ rest) c = let e : Some q ≡ Some r = c.0 in let z : q ≡ r = cc in (rest, ap (λ y. y ∷ rest) (sym z), subst (λ y. Chain nexts (get_or nexts y None) rest) (sym z) c.1)
 
 -- where nothing fires there is no link
-head-idle : (w : List ℕ) (x : ℕ) (c : Comp) (h : Head) → kind_by w x c h ≡ 0 → (sends_by w c h ≡ 64 → x ≡ 0) → x ≡ 0
-unfolding kind_by kind_of must_act would_act right_in sends_by sent_on
+head-idle : (w : List ℕ) (x : Option ℕ) (c : Comp) (h : Head) → act_by w x c h ≡ None → (sends_by w c h ≡ 64 → x ≡ None) → x ≡ None
+unfolding act_by act_of must_act would_act right_in sends_by sent_on
 head-idle w x c Stop e n = n refl
 head-idle w x c (Go u y q) e n = n (either (may_leave w c.loc (value_in c.vals y)))
   where
@@ -119,22 +131,22 @@ head-idle w x c (Go u y q) e n = n (either (may_leave w c.loc (value_in c.vals y
     either false = refl
 head-idle w x c (In d u k q r) e n = n refl
 head-idle w x c (Call d m) e n = n refl
-head-idle w x c (Out d u y q r) e n = go (ltb 0 x) refl (may_meet w c.loc d) e n
+head-idle w x c (Out d u y q r) e n = go x (may_meet w c.loc d) e n
   where
-    go : (b : Bool) → ltb 0 x ≡ b → (m : Bool) → ◌≡◌ {A = ℕ} (cond (b && m) 3 0) 0 → (cond m d 64 ≡ 64 → x ≡ 0) → x ≡ 0
-    go true z true e n = absurd (omega arith)
-    go b z false e n = n refl
-    go false z true e n = omega (arith, ltb-false 0 x z)
+    go : (x : Option ℕ) (m : Bool) → cond (is_some x && m) (Some Sends) None ≡ None → (cond m d 64 ≡ 64 → x ≡ None) → x ≡ None
+    go None m e n = refl
+    go (Some q) true e n = cc
+    go (Some q) false e n = n refl
 
-idle-link : (w : List ℕ) (l : ℕ) (c : Comp) (x : ℕ) → kind_at w l c x ≡ 0 → (sends_at w l c ≡ 64 → x ≡ 0) → x ≡ 0
-unfolding kind_at sends_at
+idle-link : (w : List ℕ) (l : ℕ) (c : Comp) (x : Option ℕ) → act_here w l c x ≡ None → (sends_at w l c ≡ 64 → x ≡ None) → x ≡ None
+unfolding act_here sends_at
 idle-link w l c x = go (ready_at l c)
   where
-    go : (b : Bool) → cond b (kind_by w x c (head_at w c.place)) 0 ≡ 0 → (cond b (sends_by w c (head_at w c.place)) 64 ≡ 64 → x ≡ 0) → x ≡ 0
+    go : (b : Bool) → cond b (act_by w x c (head_at w c.place)) None ≡ None → (cond b (sends_by w c (head_at w c.place)) 64 ≡ 64 → x ≡ None) → x ≡ None
     go true e n = head-idle w x c (head_at w c.place) e n
     go false e n = n refl
 
-module _ (w : List ℕ) (good : script_ok w ≡ true) (l : ℕ) (st now : State) (heads nexts : List ℕ) (before acts : List (List ℕ)) (count p : ℕ) (few : st.n ≤ 256) (i : Going w l st now heads nexts before acts count p) (h : p < st.n) where
+module _ (w : List ℕ) (good : script_ok w ≡ true) (l : ℕ) (st now : State) (heads nexts : List (Option ℕ)) (before acts : List (List ℕ)) (count p : ℕ) (few : st.n ≤ 256) (i : Going w l st now heads nexts before acts count p) (h : p < st.n) where
   abbrev cs : List Comp
   cs = comps_of now
 
@@ -144,8 +156,8 @@ module _ (w : List ℕ) (good : script_ok w ≡ true) (l : ℕ) (st now : State)
   abbrev s : ℕ
   s = sends_at w l c
 
-  abbrev x : ℕ
-  x = get_or heads s 0
+  abbrev x : Option ℕ
+  x = get_or heads s None
 
   at_here : (q : ℕ) → q < st.n → at (comps_of now) q ≡ accepted (comp_in now.c q)
   at_here q b = at-in-use now q (omega (arith, i.same))
@@ -159,43 +171,47 @@ module _ (w : List ℕ) (good : script_ok w ≡ true) (l : ℕ) (st now : State)
   pub channel-fits : sends_at w l (comp_in now.c p) ≤ 64
   channel-fits = sends-fits w l (comp_in now.c p) good (good-at p h)
 
-  no-channel : sends_at w l (comp_in now.c p) ≡ 64 → get_or heads (sends_at w l (comp_in now.c p)) 0 ≡ 0
-  no-channel e = ap (λ z. get_or heads z 0) e ∙ i.queue.none
+  no-channel : sends_at w l (comp_in now.c p) ≡ 64 → get_or heads (sends_at w l (comp_in now.c p)) None ≡ None
+  no-channel e = ap (λ z. get_or heads z None) e ∙ i.queue.none
 
-  other-below : (y : ℕ) → get_or heads (sends_at w l (comp_in now.c p)) 0 ≡ y → other_of p y < st.n
-  other-below zero e = h
-  other-below (suc q) e = by (ltb (sends_at w l (comp_in now.c p)) 64) refl
+  -- the spare place has no link
+  spare : (q : ℕ) → get_or heads (sends_at w l (comp_in now.c p)) None ≡ Some q → ltb (sends_at w l (comp_in now.c p)) 64 ≡ false → ⊥
+  spare q e b = let z : Some q ≡ None = sym e ∙ no-channel (omega (arith, ltb-false (sends_at w l (comp_in now.c p)) 64 b, channel-fits)) in cc
+
+  other-below : (y : Option ℕ) → get_or heads (sends_at w l (comp_in now.c p)) None ≡ y → other_of p y < st.n
+  other-below None e = h
+  other-below (Some q) e = by (ltb (sends_at w l (comp_in now.c p)) 64) refl
     where
       by : (b : Bool) → ltb (sends_at w l (comp_in now.c p)) 64 ≡ b → q < st.n
-      by false b = absurd (omega (arith, ltb-false (sends_at w l (comp_in now.c p)) 64 b, channel-fits, e, no-channel (omega (arith, ltb-false (sends_at w l (comp_in now.c p)) 64 b, channel-fits))))
+      by false b = absurd (spare q e b)
       by true b =
           let k = chain-some nexts q _ (subst (λ z. Chain nexts z (hearers w l (sends_at w l (comp_in now.c p)) (comps_of now))) e (i.queue.chain _ (ltb-true _ 64 b))) in
           let f = foremost-of w l (sends_at w l (comp_in now.c p)) (comps_of now) all-few q k.0 k.1 in
           omega (arith, at-within (comps_of now) q f.comp f.here, comps-length now, i.same)
 
-  pub other_fits : other_of p (get_or heads (sends_at w l (comp_in now.c p)) 0) < st.n
+  pub other_fits : other_of p (get_or heads (sends_at w l (comp_in now.c p)) None) < st.n
   other_fits = other-below _ refl
 
-  module _ (v : Visit) (f : Performed w (kind_at w l (comp_in now.c p) (get_or heads (sends_at w l (comp_in now.c p)) 0)) (comp_in now.c p) (comp_in now.c (other_of p (get_or heads (sends_at w l (comp_in now.c p)) 0))) v) where
-    turned : (y : ℕ) → get_or heads (sends_at w l (comp_in now.c p)) 0 ≡ y → Performed w (kind_at w l (comp_in now.c p) y) (comp_in now.c p) (comp_in now.c (other_of p y)) v
-        → Turned w l p (other_of p y) (kind_at w l (comp_in now.c p) y) y (comps_of now) (comp_in now.c p) v
-    turned zero e g = turned_none w good l p (comps_of now) c v all-few (at_here p h) (comp-fine w c (good-at p h)) (λ b. chain-none nexts x _ (i.queue.chain s b) e) g
-    turned (suc q) e g = by (ltb s 64) refl
+  module _ (v : Visit) (f : Performed w (act_here w l (comp_in now.c p) (get_or heads (sends_at w l (comp_in now.c p)) None)) (comp_in now.c p) (comp_in now.c (other_of p (get_or heads (sends_at w l (comp_in now.c p)) None))) v) where
+    turned : (y : Option ℕ) → get_or heads (sends_at w l (comp_in now.c p)) None ≡ y → Performed w (act_here w l (comp_in now.c p) y) (comp_in now.c p) (comp_in now.c (other_of p y)) v
+        → Turned w l p (other_of p y) (act_here w l (comp_in now.c p) y) y (comps_of now) (comp_in now.c p) v
+    turned None e g = turned_none w good l p (comps_of now) c v all-few (at_here p h) (comp-fine w c (good-at p h)) (λ b. chain-none nexts x _ (i.queue.chain s b) e) g
+    turned (Some q) e g = by (ltb s 64) refl
       where
-        by : (b : Bool) → ltb (sends_at w l (comp_in now.c p)) 64 ≡ b → Turned w l p q (kind_at w l (comp_in now.c p) (suc q)) (suc q) (comps_of now) (comp_in now.c p) v
-        by false b = absurd (omega (arith, ltb-false (sends_at w l (comp_in now.c p)) 64 b, channel-fits, e, no-channel (omega (arith, ltb-false (sends_at w l (comp_in now.c p)) 64 b, channel-fits))))
+        by : (b : Bool) → ltb (sends_at w l (comp_in now.c p)) 64 ≡ b → Turned w l p q (act_here w l (comp_in now.c p) (Some q)) (Some q) (comps_of now) (comp_in now.c p) v
+        by false b = absurd (spare q e b)
         by true b =
             let k = chain-some nexts q _ (subst (λ z. Chain nexts z (hearers w l s (comps_of now))) e (i.queue.chain s (ltb-true _ 64 b))) in
-            turned-some w good l p q (comps_of now) c (comp_in now.c q) v all-few (at_here p h) (at_here q (other-below (suc q) e)) (comp-fine w c (good-at p h)) (λ z. sym e ∙ no-channel z) k.0 k.1 g
+            turned-some w good l p q (comps_of now) c (comp_in now.c q) v all-few (at_here p h) (at_here q (other-below (Some q) e)) (comp-fine w c (good-at p h)) (λ z. sym e ∙ no-channel z) k.0 k.1 g
 
-    t : Turned w l p (other_of p (get_or heads (sends_at w l (comp_in now.c p)) 0)) (kind_at w l (comp_in now.c p) (get_or heads (sends_at w l (comp_in now.c p)) 0)) (get_or heads (sends_at w l (comp_in now.c p)) 0) (comps_of now) (comp_in now.c p) v
+    t : Turned w l p (other_of p (get_or heads (sends_at w l (comp_in now.c p)) None)) (act_here w l (comp_in now.c p) (get_or heads (sends_at w l (comp_in now.c p)) None)) (get_or heads (sends_at w l (comp_in now.c p)) None) (comps_of now) (comp_in now.c p) v
     t = turned _ refl f
 
     abbrev q : ℕ
     q = other_of p x
 
-    abbrev k : ℕ
-    k = kind_at w l c x
+    abbrev k : Option Act
+    k = act_here w l c x
 
     abbrev next : State
     next = record { c = sets (sets now.c (p * comp_size) (words_in v.x)) (q * comp_size) (words_in v.y); n = now.n }
@@ -209,39 +225,39 @@ module _ (w : List ℕ) (good : script_ok w ≡ true) (l : ℕ) (st now : State)
     visited = t.comps ∙ sym comps-next
 
     -- the chains of who still waits
-    heads-same : (y : ℕ) → get_or heads s 0 ≡ y → y ≡ 0 → (g : ℕ) → get_or (set heads s 0) g 0 ≡ get_or heads g 0
+    heads-same : (y : Option ℕ) → get_or heads s None ≡ y → y ≡ None → (g : ℕ) → get_or (set heads s None) g None ≡ get_or heads g None
     heads-same y e z g = by (eqb g s) refl
       where
-        by : (b : Bool) → eqb g (sends_at w l (comp_in now.c p)) ≡ b → get_or (set heads (sends_at w l (comp_in now.c p)) 0) g 0 ≡ get_or heads g 0
-        by true b = let m = eqb-true g s b in ap (λ n. get_or (set heads s 0) n 0) m ∙ get_or-set_same heads s 0 0 (omega (arith, i.queue.size, channel-fits)) ∙ sym (ap (λ n. get_or heads n 0) m ∙ e ∙ z)
-        by false b = get_or-set_other heads s g 0 0 (eqb-false g s b)
+        by : (b : Bool) → eqb g (sends_at w l (comp_in now.c p)) ≡ b → get_or (set heads (sends_at w l (comp_in now.c p)) None) g None ≡ get_or heads g None
+        by true b = let m = eqb-true g s b in ap (λ n. get_or (set heads s None) n None) m ∙ get_or-set_same heads s None None (omega (arith, i.queue.size, channel-fits)) ∙ sym (ap (λ n. get_or heads n None) m ∙ e ∙ z)
+        by false b = get_or-set_other heads s g None None (eqb-false g s b)
 
-    queue-next : (y : ℕ) → get_or heads s 0 ≡ y → Turned w l p (other_of p y) (kind_at w l c y) y (comps_of now) c v → comps_of next ≡ R.set (R.set (comps_of now) p v.x) (other_of p y) v.y
-        → Queued w l (comps_of next) (set heads s (popped_of y (get_or nexts (other_of p y) 0))) nexts
-    queue-next zero e u z = record {
-      chain = λ g b. subst (λ xs. Chain nexts (get_or (set heads s 0) g 0) xs) (sym (ap (hearers w l g) z ∙ u.still refl g)) (subst (λ m. Chain nexts m (hearers w l g (comps_of now))) (sym (heads-same 0 e refl g)) (i.queue.chain g b));
-      none = heads-same 0 e refl 64 ∙ i.queue.none;
-      size = length-set heads s 0 ∙ i.queue.size;
+    queue-next : (y : Option ℕ) → get_or heads s None ≡ y → Turned w l p (other_of p y) (act_here w l c y) y (comps_of now) c v → comps_of next ≡ R.set (R.set (comps_of now) p v.x) (other_of p y) v.y
+        → Queued w l (comps_of next) (set heads s (option_and y (get_or nexts (other_of p y) None))) nexts
+    queue-next None e u z = record {
+      chain = λ g b. subst (λ xs. Chain nexts (get_or (set heads s None) g None) xs) (sym (ap (hearers w l g) z ∙ u.still refl g)) (subst (λ m. Chain nexts m (hearers w l g (comps_of now))) (sym (heads-same None e refl g)) (i.queue.chain g b));
+      none = heads-same None e refl 64 ∙ i.queue.none;
+      size = length-set heads s None ∙ i.queue.size;
       room = i.queue.room;
     }
-    queue-next (suc r) e u z = record {
+    queue-next (Some r) e u z = record {
       chain = λ g b. link g b (eqb g s) refl;
-      none = get_or-set_other heads s 64 (get_or nexts r 0) 0 (λ m. omega (arith, e, no-channel (sym m))) ∙ i.queue.none;
-      size = length-set heads s (get_or nexts r 0) ∙ i.queue.size;
+      none = get_or-set_other heads s 64 (get_or nexts r None) None (λ m. some (sym e ∙ no-channel (sym m))) ∙ i.queue.none;
+      size = length-set heads s (get_or nexts r None) ∙ i.queue.size;
       room = i.queue.room;
     }
       where
-        some : ◌≡◌ {A = ℕ} (suc r) 0 → ⊥
-        some m = omega arith
+        some : Some r ≡ None → ⊥
+        some m = cc
 
-        link : (g : ℕ) → g < 64 → (b : Bool) → eqb g (sends_at w l (comp_in now.c p)) ≡ b → Chain nexts (get_or (set heads (sends_at w l (comp_in now.c p)) (get_or nexts r 0)) g 0) (hearers w l g (comps_of next))
-        link g b false m = subst (λ xs. Chain nexts (get_or (set heads s (get_or nexts r 0)) g 0) xs) (sym (ap (hearers w l g) z ∙ u.others some g m)) (subst (λ y. Chain nexts y (hearers w l g (comps_of now))) (sym (get_or-set_other heads s g (get_or nexts r 0) 0 (eqb-false g s m))) (i.queue.chain g b))
+        link : (g : ℕ) → g < 64 → (b : Bool) → eqb g (sends_at w l (comp_in now.c p)) ≡ b → Chain nexts (get_or (set heads (sends_at w l (comp_in now.c p)) (get_or nexts r None)) g None) (hearers w l g (comps_of next))
+        link g b false m = subst (λ xs. Chain nexts (get_or (set heads s (get_or nexts r None)) g None) xs) (sym (ap (hearers w l g) z ∙ u.others some g m)) (subst (λ y. Chain nexts y (hearers w l g (comps_of now))) (sym (get_or-set_other heads s g (get_or nexts r None) None (eqb-false g s m))) (i.queue.chain g b))
         link g b true m =
             let o = eqb-true g s m in
             let d = chain-some nexts r _ (subst (λ y. Chain nexts y (hearers w l s (comps_of now))) e (i.queue.chain s (omega (arith, o, b)))) in
-            subst (λ y. Chain nexts (get_or (set heads s (get_or nexts r 0)) y 0) (hearers w l y (comps_of next))) (sym o)
-            (subst (λ xs. Chain nexts (get_or (set heads s (get_or nexts r 0)) s 0) xs) (sym (ap (hearers w l s) z ∙ u.first some d.0 d.1))
-            (subst (λ y. Chain nexts y d.0) (sym (get_or-set_same heads s (get_or nexts r 0) 0 (omega (arith, i.queue.size, channel-fits)))) d.2))
+            subst (λ y. Chain nexts (get_or (set heads s (get_or nexts r None)) y None) (hearers w l y (comps_of next))) (sym o)
+            (subst (λ xs. Chain nexts (get_or (set heads s (get_or nexts r None)) s None) xs) (sym (ap (hearers w l s) z ∙ u.first some d.0 d.1))
+            (subst (λ y. Chain nexts y d.0) (sym (get_or-set_same heads s (get_or nexts r None) None (omega (arith, i.queue.size, channel-fits)))) d.2))
 
     -- the sweep over the positions left
     left-n : (m : ℕ) → st.n - p ≡ suc m → sweep_at w l p (st.n - p) (comps_of now) ≡ followed_at (visit_at w l p (at (comps_of now) p) (comps_of now)) (sweep_at w l (suc p) m)
@@ -256,7 +272,7 @@ module _ (w : List ℕ) (good : script_ok w ≡ true) (l : ℕ) (st now : State)
         ∙ ap (λ z. record { actions = (visit_at w l p (at (comps_of now) p) (comps_of now)).actions ++ (sweep_at w l (suc p) (st.n - (p + 1)) z).actions; comps = (sweep_at w l (suc p) (st.n - (p + 1)) z).comps; sum = (visit_at w l p (at (comps_of now) p) (comps_of now)).sum + (sweep_at w l (suc p) (st.n - (p + 1)) z).sum }) visited
         ∙ ap (λ z. record { actions = (visit_at w l p (at (comps_of now) p) (comps_of now)).actions ++ z.actions; comps = z.comps; sum = (visit_at w l p (at (comps_of now) p) (comps_of now)).sum + z.sum }) (rest-is (st.n - (p + 1)) refl)
 
-    turn-actions : take (count + some_of k) (set acts count (rec_by k p q)) ++ map rec_of (sweep_at w l (p + 1) (st.n - (p + 1)) (comps_of next)).actions ≡ map rec_of (sweep_at w l 0 st.n (comps_of st)).actions
+    turn-actions : take (count + some_of k) (set acts count (rec_at k p q)) ++ map rec_of (sweep_at w l (p + 1) (st.n - (p + 1)) (comps_of next)).actions ≡ map rec_of (sweep_at w l 0 st.n (comps_of st)).actions
     turn-actions =
         ap (λ z. z ++ map rec_of (sweep_at w l (p + 1) (st.n - (p + 1)) (comps_of next)).actions) (take-rec acts count k p q (omega (arith, i.room, i.enough, i.few-count)) ∙ ap (λ z. take count acts ++ z) (sym t.actions))
         ∙ append_assoc (take count acts) _ _
@@ -268,68 +284,77 @@ module _ (w : List ℕ) (good : script_ok w ≡ true) (l : ℕ) (st now : State)
     turn-comps = ap (λ z. z.comps) (sym stepped) ∙ i.comps
 
     -- what the position sends, and how long its sender had waited
-    more-small : (y k n : ℕ) → n ≤ 1_000_000 → wait_by k n ≤ 1_000_000 * sent_by k
-    more-small y k n b = go (eqb k 3)
-      where
-        go : (t : Bool) → cond t n 0 ≤ 1_000_000 * cond t 1 0
-        go true = omega arith
-        go false = omega arith
+    more-small : (k : Option Act) (n : ℕ) → n ≤ 1_000_000 → wait_by k n ≤ 1_000_000 * sent_by k
+    more-small None n b = omega arith
+    more-small (Some Calls) n b = omega arith
+    more-small (Some Moves) n b = omega arith
+    more-small (Some Sends) n b = omega arith
 
-    pub adding-turn : (sent sum : ℕ) → Adding w l st now sent sum p
-        → Adding w l st (record { c = sets (sets now.c (p * comp_size) (words_in v.x)) (other_of p (get_or heads (sends_at w l (comp_in now.c p)) 0) * comp_size) (words_in v.y); n = now.n })
-        (sent + sent_by (kind_at w l (comp_in now.c p) (get_or heads (sends_at w l (comp_in now.c p)) 0))) (sum + wait_by (kind_at w l (comp_in now.c p) (get_or heads (sends_at w l (comp_in now.c p)) 0)) (comp_in now.c p).wait) (p + 1)
+    one-most : (k : Option Act) → sent_by k ≤ 1
+    one-most None = omega arith
+    one-most (Some Calls) = omega arith
+    one-most (Some Moves) = omega arith
+    one-most (Some Sends) = omega arith
+
+    adding-turn : (sent sum : ℕ) → Adding w l st now sent sum p
+        → Adding w l st (record { c = sets (sets now.c (p * comp_size) (words_in v.x)) (other_of p (get_or heads (sends_at w l (comp_in now.c p)) None) * comp_size) (words_in v.y); n = now.n })
+        (sent + sent_by (act_here w l (comp_in now.c p) (get_or heads (sends_at w l (comp_in now.c p)) None))) (sum + wait_by (act_here w l (comp_in now.c p) (get_or heads (sends_at w l (comp_in now.c p)) None)) (comp_in now.c p).wait) (p + 1)
     adding-turn sent sum a =
-        let b = more-small 0 k c.wait (comp-fine w c (good-at p h)).wait in
+        let b = more-small k c.wait (comp-fine w c (good-at p h)).wait in
         record {
-          few-sent = omega (arith, a.few-sent, one-most (eqb k 3));
+          few-sent = omega (arith, a.few-sent, one-most k);
           small = omega (arith, a.small, b);
           sent_is = omega (arith, a.sent_is, ap (λ z. messages z.actions) stepped, messages-append (visit_at w l p (at (comps_of now) p) (comps_of now)).actions (sweep_at w l (p + 1) (st.n - (p + 1)) (comps_of next)).actions, t.sent);
           sum_is = omega (arith, a.sum_is, ap (λ z. z.sum) stepped, t.waited);
         }
-      where
-        one-most : (t : Bool) → cond t 1 0 ≤ 1
-        one-most true = omega arith
-        one-most false = omega arith
 
-    pub going-fires : (kind_at w l (comp_in now.c p) (get_or heads (sends_at w l (comp_in now.c p)) 0) ≡ 0 → ⊥) → Going w l st (record { c = sets (sets now.c (p * comp_size) (words_in v.x)) (other_of p (get_or heads (sends_at w l (comp_in now.c p)) 0) * comp_size) (words_in v.y); n = now.n })
-        (set heads (sends_at w l (comp_in now.c p)) (popped_of (get_or heads (sends_at w l (comp_in now.c p)) 0) (get_or nexts (other_of p (get_or heads (sends_at w l (comp_in now.c p)) 0)) 0))) nexts
-        before (set acts count (rec_by (kind_at w l (comp_in now.c p) (get_or heads (sends_at w l (comp_in now.c p)) 0)) p (other_of p (get_or heads (sends_at w l (comp_in now.c p)) 0))))
+    pub adding-fires : (a : Act) → act_here w l (comp_in now.c p) (get_or heads (sends_at w l (comp_in now.c p)) None) ≡ Some a → (sent sum : ℕ) → Adding w l st now sent sum p
+        → Adding w l st (record { c = sets (sets now.c (p * comp_size) (words_in v.x)) (other_of p (get_or heads (sends_at w l (comp_in now.c p)) None) * comp_size) (words_in v.y); n = now.n })
+        (sent + sent_by (Some a)) (sum + wait_by (Some a) (comp_in now.c p).wait) (p + 1)
+    adding-fires a d sent sum r = subst (λ z. Adding w l st next (sent + sent_by z) (sum + wait_by z c.wait) (p + 1)) d (adding-turn sent sum r)
+
+    pub going-fires : (a : Act) → act_here w l (comp_in now.c p) (get_or heads (sends_at w l (comp_in now.c p)) None) ≡ Some a → Going w l st (record { c = sets (sets now.c (p * comp_size) (words_in v.x)) (other_of p (get_or heads (sends_at w l (comp_in now.c p)) None) * comp_size) (words_in v.y); n = now.n })
+        (set heads (sends_at w l (comp_in now.c p)) (option_and (get_or heads (sends_at w l (comp_in now.c p)) None) (get_or nexts (other_of p (get_or heads (sends_at w l (comp_in now.c p)) None)) None))) nexts
+        before (set acts count (rec_by a p (other_of p (get_or heads (sends_at w l (comp_in now.c p)) None))))
         (count + 1) (p + 1)
-    going-fires d = record {
+    going-fires a d = record {
       few-p = omega arith;
       few-count = omega (arith, i.few-count);
       size = length-sets (sets now.c (p * comp_size) (words_in v.x)) (q * comp_size) (words_in v.y) ∙ length-sets now.c (p * comp_size) (words_in v.x) ∙ i.size;
       same = i.same;
       past = past-then (omega arith) i.past (past-then (omega arith) (past-put now.c st.n p v.x h) (past-put (sets now.c (p * comp_size) (words_in v.x)) st.n q v.y other_fits));
       enough = i.enough;
-      room = length-set acts count (rec_by k p q) ∙ i.room;
-      rest = drop-set-lt (count + 1) acts count (rec_by k p q) (omega arith) ∙ sym (drop-drop 1 count acts) ∙ ap (drop 1) i.rest ∙ drop-drop 1 count before;
+      room = length-set acts count (rec_by a p q) ∙ i.room;
+      rest = drop-set-lt (count + 1) acts count (rec_by a p q) (omega arith) ∙ sym (drop-drop 1 count acts) ∙ ap (drop 1) i.rest ∙ drop-drop 1 count before;
       fine = subst (λ z. every (comp_ok w) z ≡ true) visited (visit-fine w good l p (at (comps_of now) p) (comps_of now) i.fine);
       queue = queue-next _ refl t comps-next;
-      actions = subst (λ m. take (count + m) (set acts count (rec_by k p q)) ++ map rec_of (sweep_at w l (p + 1) (st.n - (p + 1)) (comps_of next)).actions ≡ map rec_of (sweep_at w l 0 st.n (comps_of st)).actions) (some_one k d) turn-actions;
+      actions = subst (λ z. take (count + some_of z) (set acts count (rec_at z p q)) ++ map rec_of (sweep_at w l (p + 1) (st.n - (p + 1)) (comps_of next)).actions ≡ map rec_of (sweep_at w l 0 st.n (comps_of st)).actions) d turn-actions;
       comps = turn-comps;
     }
 
   -- a position where nothing fires is passed, and nothing changes
-  module _ (idle : kind_at w l (comp_in now.c p) (get_or heads (sends_at w l (comp_in now.c p)) 0) ≡ 0) where
+  module _ (idle : act_here w l (comp_in now.c p) (get_or heads (sends_at w l (comp_in now.c p)) None) ≡ None) where
     -- the visit that leaves both as they were
     stays : Visit
-    stays = record { x = comp_in now.c p; y = comp_in now.c (other_of p (get_or heads (sends_at w l (comp_in now.c p)) 0)) }
+    stays = record { x = comp_in now.c p; y = comp_in now.c (other_of p (get_or heads (sends_at w l (comp_in now.c p)) None)) }
 
-    performed : (k : ℕ) → k ≡ 0 → Performed w k (comp_in now.c p) (comp_in now.c (other_of p (get_or heads (sends_at w l (comp_in now.c p)) 0))) stays
+    performed : (k : Option Act) → k ≡ None → Performed w k (comp_in now.c p) (comp_in now.c (other_of p (get_or heads (sends_at w l (comp_in now.c p)) None))) stays
     unfolding stays
     performed k e = record {
       slots-x = (comp-fine w _ (good-at p h)).slots;
       slots-y = (comp-fine w _ (good-at _ other_fits)).slots;
       none = λ z. (refl, refl);
-      call = λ z. absurd (omega arith);
-      move = λ z. absurd (omega arith);
-      pair = λ z. absurd (omega arith);
+      call = λ z. absurd (idles Calls z);
+      move = λ z. absurd (idles Moves z);
+      pair = λ z. absurd (idles Sends z);
     }
+      where
+        idles : (a : Act) → k ≡ Some a → ⊥
+        idles a z = let n : Some a ≡ None = sym z ∙ e in cc
 
-    kept : (y : ℕ) → get_or heads (sends_at w l (comp_in now.c p)) 0 ≡ y → y ≡ 0 → R.set (R.set (comps_of now) p (comp_in now.c p)) (other_of p y) (comp_in now.c (other_of p y)) ≡ comps_of now
-    kept zero e z = let a = put_same (comps_of now) p (comp_in now.c p) (at_here p h) in ap (λ cs. R.set cs p (comp_in now.c p)) a ∙ a
-    kept (suc q) e z = absurd (omega arith)
+    kept : (y : Option ℕ) → get_or heads (sends_at w l (comp_in now.c p)) None ≡ y → y ≡ None → R.set (R.set (comps_of now) p (comp_in now.c p)) (other_of p y) (comp_in now.c (other_of p y)) ≡ comps_of now
+    kept None e z = let a = put_same (comps_of now) p (comp_in now.c p) (at_here p h) in ap (λ cs. R.set cs p (comp_in now.c p)) a ∙ a
+    kept (Some q) e z = cc
 
     pub going-idle : Going w l st now heads nexts before acts count (p + 1)
     unfolding stays
@@ -347,8 +372,8 @@ module _ (w : List ℕ) (good : script_ok w ≡ true) (l : ℕ) (st now : State)
           fine = i.fine;
           queue = i.queue;
           actions =
-              ap (λ cs. cs ++ map rec_of (sweep_at w l (p + 1) (st.n - (p + 1)) (comps_of now)).actions) (sym (take-rec acts count (kind_at w l c x) p (other_of p x) (omega (arith, i.room, i.enough, i.few-count)) ∙ ap (λ k. take count acts ++ recs_of k p (other_of p x)) idle ∙ append-nil (take count acts)))
-              ∙ subst (λ cs. take (count + some_of (kind_at w l c x)) (set acts count (rec_by (kind_at w l c x) p (other_of p x))) ++ map rec_of (sweep_at w l (p + 1) (st.n - (p + 1)) cs).actions ≡ map rec_of (sweep_at w l 0 st.n (comps_of st)).actions) z (turn-actions stays (performed _ idle));
+              ap (λ cs. cs ++ map rec_of (sweep_at w l (p + 1) (st.n - (p + 1)) (comps_of now)).actions) (sym (take-rec acts count (act_here w l c x) p (other_of p x) (omega (arith, i.room, i.enough, i.few-count)) ∙ ap (λ k. take count acts ++ recs_of k p (other_of p x)) idle ∙ append-nil (take count acts)))
+              ∙ subst (λ cs. take (count + some_of (act_here w l c x)) (set acts count (rec_at (act_here w l c x) p (other_of p x))) ++ map rec_of (sweep_at w l (p + 1) (st.n - (p + 1)) cs).actions ≡ map rec_of (sweep_at w l 0 st.n (comps_of st)).actions) z (turn-actions stays (performed _ idle));
           comps = subst (λ cs. (sweep_at w l (p + 1) (st.n - (p + 1)) cs).comps ≡ (sweep_at w l 0 st.n (comps_of st)).comps) z (turn-comps stays (performed _ idle));
         }
 
@@ -357,8 +382,8 @@ module _ (w : List ℕ) (good : script_ok w ≡ true) (l : ℕ) (st now : State)
     adding-idle sent sum a =
         let z = comps-next stays (performed _ idle) ∙ kept _ refl (idle-link w l c x idle no-channel) in
         let b = adding-turn stays (performed _ idle) sent sum a in
-        let e : sent_by (kind_at w l c x) ≡ 0 = ap sent_by idle in
-        let f : wait_by (kind_at w l c x) c.wait ≡ 0 = ap (λ k. wait_by k c.wait) idle in
+        let e : sent_by (act_here w l c x) ≡ 0 = ap sent_by idle in
+        let f : wait_by (act_here w l c x) c.wait ≡ 0 = ap (λ k. wait_by k c.wait) idle in
         record {
           few-sent = omega (arith, a.few-sent);
           small = a.small;
@@ -383,12 +408,12 @@ adding-end w l st now sent sum p a h =
     let none : st.n - p ≡ 0 = omega arith in
     (omega (arith, a.sent_is, ap (λ z. messages (sweep_at w l p z (comps_of now)).actions) none), omega (arith, a.sum_is, ap (λ z. (sweep_at w l p z (comps_of now)).sum) none))
 
-pub going-begin : (w : List ℕ) (l : ℕ) (st : State) (heads nexts : List ℕ) (acts : List (List ℕ)) → length st.c ≡ state_words → st.n ≤ length acts → every (comp_ok w) (comps_of st) ≡ true → Queued w l (comps_of st) heads nexts → Going w l st st heads nexts acts acts 0 0
+pub going-begin : (w : List ℕ) (l : ℕ) (st : State) (heads nexts : List (Option ℕ)) (acts : List (List ℕ)) → length st.c ≡ state_words → st.n ≤ length acts → every (comp_ok w) (comps_of st) ≡ true → Queued w l (comps_of st) heads nexts → Going w l st st heads nexts acts acts 0 0
 going-begin w l st heads nexts acts e r f q =
     let z : st.n - 0 ≡ st.n = omega arith in
     record { few-p = omega arith; few-count = omega arith; size = e; same = refl; past = past-none st.n st.c; enough = r; room = refl; rest = refl; fine = f; queue = q; actions = ap (λ n. map rec_of (sweep_at w l 0 n (comps_of st)).actions) z; comps = ap (λ n. (sweep_at w l 0 n (comps_of st)).comps) z }
 
-pub going_end : (w : List ℕ) (l : ℕ) (st now : State) (heads nexts : List ℕ) (before acts : List (List ℕ)) (count p : ℕ) → Going w l st now heads nexts before acts count p → st.n ≤ p
+pub going_end : (w : List ℕ) (l : ℕ) (st now : State) (heads nexts : List (Option ℕ)) (before acts : List (List ℕ)) (count p : ℕ) → Going w l st now heads nexts before acts count p → st.n ≤ p
     → (take count acts ≡ map rec_of (sweep_at w l 0 st.n (comps_of st)).actions) × (count ≡ length (sweep_at w l 0 st.n (comps_of st)).actions) × (comps_of now ≡ (sweep_at w l 0 st.n (comps_of st)).comps)
 unfolding sweep_at
 going_end w l st now heads nexts before acts count p i h = (records, number, sym done ∙ i.comps)

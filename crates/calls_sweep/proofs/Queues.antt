@@ -1,4 +1,4 @@
--- The channel that a component sends on, and the links of a chain, by the tests of the code.
+-- The channel that a component sends on is one of 64, or 64.
 use Prim.Native.Nat.{ℕ, zero, suc, ◌-◌, ◌≤◌}
 use native.Mathlib.Omega.{arith}
 use mathlib.Core.List.{List}
@@ -11,7 +11,7 @@ use Rattle.table.specs.Words.{head_at}
 use Rattle.table.specs.Valid.{script_ok, comp_ok}
 use Rattle.table.specs.Fire.{ready_at, sent_on, right_in}
 use Rattle.calls_must.proofs.Hearing.{ear-fits, InEar}
-use Rattle.calls_sweep.specs.Visit.{sends_by, sends_at, other_of, popped_of}
+use Rattle.calls_sweep.specs.Visit.{sends_by, sends_at}
 
 cond_small : (b : Bool) (x : ℕ) → x ≤ 64 → cond b x 64 ≤ 64
 cond_small true x h = h
@@ -28,11 +28,3 @@ sent-small (Call d n) i = omega arith
 pub sends-fits : (w : List ℕ) (l : ℕ) (c : Comp) → script_ok w ≡ true → comp_ok w c ≡ true → sends_at w l c ≤ 64
 unfolding sends_at sends_by
 sends-fits w l c e f = cond_small (ready_at l c) _ (cond_small (right_in w c (head_at w c.place)) _ (sent-small (head_at w c.place) (ear-fits w c e f)))
-
-pub other-some : (p x : ℕ) → (x ≡ 0 → ⊥) → x - 1 ≡ other_of p x
-other-some p zero h = absurd (h refl)
-other-some p (suc q) h = omega arith
-
-pub popped-some : (x nx : ℕ) → (x ≡ 0 → ⊥) → nx ≡ popped_of x nx
-popped-some zero nx h = absurd (h refl)
-popped-some (suc q) nx h = refl

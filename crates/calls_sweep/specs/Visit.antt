@@ -1,6 +1,7 @@
 -- One position of a step's sweep, in numbers: what the contracts of `sweep` cite.
 -- Serves inner contracts only.
-use Rattle.std.specs.Prelude.{ℕ, zero, suc, ◌*◌, ◌≤◌, List, [], ◌∷◌, map, cond, ◌≡◌, eqb, ltb, length, take, drop}
+use Rattle.std.specs.Prelude.{ℕ, ◌*◌, ◌≤◌, List, [], ◌∷◌, map, cond, ◌≡◌, Option, Some, None, is_some, length, take, drop}
+use Rattle.terms.specs.Rules.Answer.{accepted}
 use Rattle.terms.specs.Rules.Kind.{calls, moves}
 use Rattle.waits.specs.Waits.{messages}
 use Rattle.table.specs.declared.Comp.{Comp}
@@ -9,10 +10,9 @@ use Rattle.table.specs.declared.Head.{Head}
 use Rattle.table.specs.declared.Head.TheVariants.{Stop, Go, Out, In, Call}
 use Rattle.table.specs.Words.{state_words, head_at}
 use Rattle.table.specs.Meaning.{PastKept, comps_of}
-use Rattle.table.specs.Fire.{alone_at, together_at, ready_at, sent_on, right_in, must_act}
-use Rattle.calls_fire.specs.declared.Fired.{Fired}
-use Rattle.calls_fire.specs.declared.Met.{Met}
-use Rattle.calls_fire.specs.Fired.{one_of, two_of}
+use Rattle.table.specs.Fire.{Left, alone_at, together_at, ready_at, sent_on, right_in, must_act}
+use Rattle.calls_sweep.specs.declared.Act.{Act}
+use Rattle.calls_sweep.specs.declared.Act.TheVariants.{Calls, Moves, Sends}
 use Rattle.calls_sweep.specs.declared.Visit.{Visit}
 use Rattle.calls_sweep.specs.Sweep.{sweep_at, rec_of}
 
@@ -24,50 +24,53 @@ sends_by w c h = cond (right_in w c h) (sent_on h) 64
 unfoldable pub sends_at : List ℕ → ℕ → Comp → ℕ
 sends_at w l c = cond (ready_at l c) (sends_by w c (head_at w c.place)) 64
 
--- the kind of the action of a part; 0 where it has none of its own
-unfoldable pub kind_of : Head → ℕ
-kind_of Stop = 0
-kind_of (Go t v p) = 2
-kind_of (Out h t v p q) = 3
-kind_of (In h t k p q) = 0
-kind_of (Call d n) = 1
+-- what a part does by itself
+unfoldable pub act_of : Head → Option Act
+act_of Stop = None
+act_of (Go t v p) = Some Moves
+act_of (Out h t v p q) = Some Sends
+act_of (In h t k p q) = None
+act_of (Call d n) = Some Calls
 
--- the kind of the action that fires, 0 for none, where x is the link to the first that hears: what must act does
-unfoldable pub kind_by : List ℕ → ℕ → Comp → Head → ℕ
-kind_by w x c h = cond (must_act w (ltb 0 x) c h) (kind_of h) 0
+-- what is done, where x is the first that hears, if there is one: what must act acts
+unfoldable pub act_by : List ℕ → Option ℕ → Comp → Head → Option Act
+act_by w x c h = cond (must_act w (is_some x) c h) (act_of h) None
 
-unfoldable pub kind_at : List ℕ → ℕ → Comp → ℕ → ℕ
-kind_at w l c x = cond (ready_at l c) (kind_by w x c (head_at w c.place)) 0
+unfoldable pub act_here : List ℕ → ℕ → Comp → Option ℕ → Option Act
+act_here w l c x = cond (ready_at l c) (act_by w x c (head_at w c.place)) None
 
 -- what becomes of the component c at the position and of e, its partner or itself
-pub record Performed (w : List ℕ) (k : ℕ) (c e : Comp) (r : Visit) : Type 0 where
+pub record Performed (w : List ℕ) (k : Option Act) (c e : Comp) (r : Visit) : Type 0 where
   pub slots-x : length r.x.vals ≡ 8
   pub slots-y : length r.y.vals ≡ 8
-  pub none : k ≡ 0 → (r.x ≡ c) × (r.y ≡ e)
-  pub call : k ≡ 1 → (f : Fired) × (one_of f ≡ alone_at w calls c) × (r.x ≡ f.comp) × (r.y ≡ f.comp)
-  pub move : k ≡ 2 → (f : Fired) × (one_of f ≡ alone_at w moves c) × (r.x ≡ f.comp) × (r.y ≡ f.comp)
-  pub pair : k ≡ 3 → (m : Met) × (two_of m ≡ together_at w c e) × (r.x ≡ m.sender) × (r.y ≡ m.receiver)
+  pub none : k ≡ None → (r.x ≡ c) × (r.y ≡ e)
+  pub call : k ≡ Some Calls → (f : Left) → alone_at w calls c ≡ accepted f → (f.after ≡ r.x ∷ []) × (r.y ≡ r.x)
+  pub move : k ≡ Some Moves → (f : Left) → alone_at w moves c ≡ accepted f → (f.after ≡ r.x ∷ []) × (r.y ≡ r.x)
+  pub pair : k ≡ Some Sends → (f : Left) → together_at w c e ≡ accepted f → f.after ≡ r.x ∷ r.y ∷ []
 
 -- the position of the partner, or the own one
-abbrev pub other_of : ℕ → ℕ → ℕ
-other_of p zero = p
-other_of p (suc q) = q
+abbrev pub other_of : ℕ → Option ℕ → ℕ
+other_of p None = p
+other_of p (Some q) = q
 
--- the link after the first of a chain is taken
-abbrev pub popped_of : ℕ → ℕ → ℕ
-popped_of zero nx = 0
-popped_of (suc q) nx = nx
+-- the record of an action
+abbrev pub rec_by : Act → ℕ → ℕ → List ℕ
+rec_by Calls p q = 1 ∷ p ∷ 0 ∷ []
+rec_by Moves p q = 2 ∷ p ∷ 0 ∷ []
+rec_by Sends p q = 3 ∷ p ∷ q ∷ []
 
--- the record of an action of kind k
-abbrev pub rec_by : ℕ → ℕ → ℕ → List ℕ
-rec_by k p q = k ∷ p ∷ cond (eqb k 3) q 0 ∷ []
+-- how many messages are sent, and how long their senders had waited, where n is the wait of the component that acts
+abbrev pub sent_by : Option Act → ℕ
+sent_by None = 0
+sent_by (Some Calls) = 0
+sent_by (Some Moves) = 0
+sent_by (Some Sends) = 1
 
--- of an action of kind k: how many messages it sends, and how long their senders had waited, where n is the wait of the component that acts
-abbrev pub sent_by : ℕ → ℕ
-sent_by k = cond (eqb k 3) 1 0
-
-abbrev pub wait_by : ℕ → ℕ → ℕ
-wait_by k n = cond (eqb k 3) n 0
+abbrev pub wait_by : Option Act → ℕ → ℕ
+wait_by None n = 0
+wait_by (Some Calls) n = 0
+wait_by (Some Moves) n = 0
+wait_by (Some Sends) n = n
 
 -- the sweep over all positions: its records in front of those that were lent, how many, the components it leaves, how many messages it sends, and how long
 -- their senders had waited together

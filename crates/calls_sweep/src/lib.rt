@@ -6,6 +6,7 @@
 //
 //   proofs/Sweeps    the sweep on the table stands for the sweep of the rules
 //   proofs/Queues    the chains of positions that hear a channel
+//   proofs/Performing  what an action leaves where it fits
 //   proofs/Sweeping  one position of the sweep in code
 //   proofs/Going     the loop over the positions
 //   proofs/Tallying  waits, total and count after the sweep are those of its actions one by one
@@ -14,6 +15,14 @@
 pub mod sweep;
 
 use table::Comp;
+
+// What the component at a position does: it calls a definition, moves, or sends to another, which receives.
+#[derive(Clone, Copy, PartialEq, Eq)]
+pub enum Act {
+    Calls,
+    Moves,
+    Sends,
+}
 
 // What becomes of the component at a position, and of its partner.
 #[derive(Clone, Copy)]

@@ -1,7 +1,7 @@
 -- The partner of an output on the table, the inputs that wait on each channel, and how two tables hold them: what the contract of `wait_all` cites.
 -- proofs/Waiting says that the first of those who wait is the partner.
 -- Serves inner contracts only.
-use Rattle.std.specs.Prelude.{ℕ, suc, ◌+◌, ◌*◌, ◌%◌, ◌<◌, ◌≤◌, List, [], ◌∷◌, map, Bool, cond, ◌&&◌, ◌≡◌, eqb, ltb, length, get_or, take}
+use Rattle.std.specs.Prelude.{ℕ, suc, ◌+◌, ◌*◌, ◌%◌, ◌<◌, ◌≤◌, List, [], ◌∷◌, map, Bool, cond, ◌&&◌, ◌≡◌, eqb, ltb, Option, Some, None, is_some, length, get_or, take}
 use Rattle.terms.specs.Rules.{Answer, at}
 use Rattle.terms.specs.Rules.Answer.{accepted}
 use Rattle.terms.specs.Step.{foremost}
@@ -43,15 +43,15 @@ unfoldable pub hearers : List ℕ → ℕ → ℕ → List Comp → List ℕ
 hearers w l h cs = map spot_of (ranked (keys_on w l h 0 cs))
 
 -- ── the tables ──
--- x is 0, or the first position and one; the table of next ones leads from each to the one after it
-abbrev pub Chain : List ℕ → ℕ → List ℕ → Type 0
-Chain nexts x [] = x ≡ 0
-Chain nexts x (q ∷ qs) = (x ≡ suc q) × Chain nexts (get_or nexts q 0) qs
+-- x is the first position, if there is one; the table of next ones leads from each to the one after it
+abbrev pub Chain : List (Option ℕ) → Option ℕ → List ℕ → Type 0
+Chain nexts x [] = x ≡ None
+Chain nexts x (q ∷ qs) = (x ≡ Some q) × Chain nexts (get_or nexts q None) qs
 
 -- for every channel the chain of those who wait on it; 64 is no channel
-pub record Queued (w : List ℕ) (l : ℕ) (cs : List Comp) (heads nexts : List ℕ) : Type 0 where
-  pub chain : (h : ℕ) → h < 64 → Chain nexts (get_or heads h 0) (hearers w l h cs)
-  pub none : get_or heads 64 0 ≡ 0
+pub record Queued (w : List ℕ) (l : ℕ) (cs : List Comp) (heads nexts : List (Option ℕ)) : Type 0 where
+  pub chain : (h : ℕ) → h < 64 → Chain nexts (get_or heads h None) (hearers w l h cs)
+  pub none : get_or heads 64 None ≡ None
   pub size : length heads ≡ 65
   pub room : length nexts ≡ 256
 
@@ -59,11 +59,11 @@ pub record Queued (w : List ℕ) (l : ℕ) (cs : List Comp) (heads nexts : List 
 -- the numbers of all who wait on a channel, whichever it is
 unfoldable pub keys_all : List ℕ → ℕ → ℕ → List Comp → List ℕ
 keys_all w l k [] = []
-keys_all w l k (c ∷ cs) = cond (ltb (hears_at w l c) 64) (key_of k c ∷ keys_all w l (suc k) cs) (keys_all w l (suc k) cs)
+keys_all w l k (c ∷ cs) = cond (is_some (hears_at w l c)) (key_of k c ∷ keys_all w l (suc k) cs) (keys_all w l (suc k) cs)
 
--- ears has the channel that each component hears, 64 for none, and the first m of keys are the numbers of those who hear one
+-- ears has the channel of each component that hears one, and the first m of keys are the numbers of these components
 pub record Gathered (w : List ℕ) (l : ℕ) (cs : List Comp) (ears keys : List ℕ) (m : ℕ) : Type 0 where
-  pub heard : (j : ℕ) (c : Comp) → at cs j ≡ accepted c → get_or ears j 0 ≡ hears_at w l c
+  pub heard : (j : ℕ) (c : Comp) (h : ℕ) → at cs j ≡ accepted c → hears_at w l c ≡ Some h → (get_or ears j 0 ≡ h) × (h < 64)
   pub numbers : take m keys ≡ keys_all w l 0 cs
   pub few : m ≤ length cs
   pub size : length ears ≡ 256
@@ -74,9 +74,9 @@ abbrev pub onto : List ℕ → ℕ → ℕ → Bool
 onto ears h x = eqb h (get_or ears (spot_of x) 0)
 
 -- for every channel the chain of those of xs that are on it
-pub record Dealt (ears xs heads nexts : List ℕ) : Type 0 where
-  pub chain : (h : ℕ) → h < 64 → Chain nexts (get_or heads h 0) (map spot_of (keep (onto ears h) xs))
-  pub none : get_or heads 64 0 ≡ 0
+pub record Dealt (ears xs : List ℕ) (heads nexts : List (Option ℕ)) : Type 0 where
+  pub chain : (h : ℕ) → h < 64 → Chain nexts (get_or heads h None) (map spot_of (keep (onto ears h) xs))
+  pub none : get_or heads 64 None ≡ None
   pub size : length heads ≡ 65
   pub room : length nexts ≡ 256
 

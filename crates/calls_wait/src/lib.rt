@@ -7,7 +7,7 @@
 //   proofs/Dealing   the chains are those of who waits
 #![tactic(auto)]
 
-ghost use Rattle.std.specs.Prelude.{◌≡◌, true, ◌≤◌, ◌<◌, length, take, replicate};
+ghost use Rattle.std.specs.Prelude.{◌≡◌, true, None, ◌≤◌, ◌<◌, length, take, replicate};
 ghost use Rattle.table.specs.Meaning.{comps_of};
 ghost use Rattle.table.specs.Valid.{valid};
 ghost use Rattle.calls_wait.specs.Waits.{key_of, Apart, Gathered, Dealt, Queued};
@@ -26,7 +26,7 @@ fn key_of(i: usize, x: Comp) -> u32
     t.rank() * 256 + i as u32
 }
 
-// The channel that each component hears goes into ears, and a number for each that hears one into keys, in the order of positions. How many these are.
+// For each component that hears a channel, the channel goes into ears at its position, and a number for it into keys, in the order of positions. How many these are.
 fn gather(
     w: &Script,
     c: &Words,
@@ -38,18 +38,13 @@ fn gather(
     requires { (valid w.now (record { c = c.now; n = n }) ≡ true) × (length ears.old ≡ 256) × (length keys.old ≡ 256) }
     ensures { Gathered w.now l (comps_of (record { c = c.entry.now; n = n })) ears.new keys.new result }
 {
-    let mut m: usize = 0;
-    let mut i: usize = 0;
-    while i < n {
+    let mut m = 0;
+    for i in 0..n {
         let x = comp_at(c, i);
-        let h = forced::hears_at(w, l, x);
-        ears[i] = h;
-        if h < 64 {
+        if let Some(h) = forced::hears_at(w, l, x) {
+            ears[i] = h;
             keys[m] = key_of(i, x);
             m += 1;
-            i += 1;
-        } else {
-            i += 1;
         }
     }
     m
@@ -60,34 +55,30 @@ fn deal(
     keys: &[u32; 256],
     m: usize,
     ears: &[u32; 256],
-    heads: &mut [u32; 65],
-    nexts: &mut [u32; 256],
+    heads: &mut [Option<u8>; 65],
+    nexts: &mut [Option<u8>; 256],
 )
-    requires { (m ≤ 256) × (length keys.now ≡ 256) × (length nexts.old ≡ 256) × (heads.old ≡ replicate 65 0) × Apart ears.now (take m keys.now) }
+    requires { (m ≤ 256) × (length keys.now ≡ 256) × (length nexts.old ≡ 256) × (heads.old ≡ replicate 65 None) × Apart ears.now (take m keys.now) }
     ensures { Dealt ears.now (take m keys.now) heads.new nexts.new }
 {
-    let mut j = m;
-    while 0 < j {
-        let i = j - 1;
+    for i in (0..m).rev() {
         let p = words::wide(keys[i] % 256);
         let h = words::wide(ears[p]);
-        let old = heads[h];
-        nexts[p] = old;
-        heads[h] = (p + 1) as u32;
-        j = i;
+        nexts[p] = heads[h];
+        heads[h] = Some(p as u8);
     }
 }
 
-// For each channel the link to the position that is served first, and from each position the link to the next. A link is 0, or a position and one.
+// For each channel the position that is served first, and from each position the next.
 pub fn wait_all(
     w: &Script,
     c: &Words,
     n: usize,
     l: u32,
-    heads: &mut [u32; 65],
-    nexts: &mut [u32; 256],
+    heads: &mut [Option<u8>; 65],
+    nexts: &mut [Option<u8>; 256],
 )
-    requires { (valid w.now (record { c = c.now; n = n }) ≡ true) × (length nexts.old ≡ 256) × (heads.old ≡ replicate 65 0) }
+    requires { (valid w.now (record { c = c.now; n = n }) ≡ true) × (length nexts.old ≡ 256) × (heads.old ≡ replicate 65 None) }
     ensures { Queued w.now l (comps_of (record { c = c.entry.now; n = n })) heads.new nexts.new }
 {
     let mut ears = [0u32; 256];

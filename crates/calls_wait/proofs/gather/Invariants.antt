@@ -1,12 +1,9 @@
 -- `gather` meets its contract. The loop's invariant: what is gathered so far is that of the components looked at.
-use Prim.Native.Nat.{◌-◌, ◌≤◌}
+use Prim.Native.Nat.{◌≤◌}
 use lib.ListN.{take}
 use Rattle.table.specs.Meaning.{comps_of}
 use Rattle.calls_wait.specs.Waits.{Gathered}
 use Rattle.calls_wait.proofs.gather.Given as goal
 
 abbrev pub invariant-loop-i : goal.invariant-loop-i
-invariant-loop-i l = (l.i ≤ l.n) × (l.m ≤ l.i) × Gathered l.w l.l (take l.i (comps_of (record { c = l.c; n = l.n }))) l.ears l.keys l.m
-
-abbrev pub decreases-loop-i : goal.decreases-loop-i
-decreases-loop-i l = l.n - l.i
+invariant-loop-i l = (l.m ≤ l.i) × Gathered l.w l.l (take l.i (comps_of (record { c = l.c; n = l.n }))) l.ears l.keys l.m

@@ -1,71 +1,31 @@
--- `forced_at` meets its contract. The loop's invariant: no component looked at presses.
-use Prim.Native.Nat.{◌<◌}
+-- `forced_at` meets its contract: `any` asks each component whether it presses by what is heard (Hearing).
 use native.Mathlib.Omega.{arith}
-use mathlib.Core.Bool.{false}
-use mathlib.Core.Path.{◌≡◌, refl, sym, ap, subst, ◌∙◌}
-use lib.ListN.{get_or}
-use lib.Seq.{take_all}
-use Rattle.terms.specs.Rules.{some}
+use Rattle.std.proofs.Common.{rules, ◌<◌, ◌∙◌}
+use borrow.Author.Tests.{tests}
+use Rattle.std.proofs.lemmas.Iterator.{YieldsList-from_range, serves_from_Range}
+use Rattle.std.proofs.lemmas.Iterator.Search.{any_from_yields_List}
 use Rattle.table.specs.declared.State.{State}
-use Rattle.table.specs.Meaning.{comps_of, no_comp}
-use Rattle.table.specs.Fire.{forced_at}
-use Rattle.table.proofs.InUse.{comps-length, in_use}
-use Rattle.calls_act.proofs.Positions.{few-comps, valid-parts, comp-good}
+use Rattle.table.specs.Meaning.{comp_in}
+use Rattle.table.proofs.InUse.{comp-held, valid-script}
+use Rattle.calls_act.proofs.Positions.{few-comps}
 use Rattle.calls_must.specs.Heard.{pressed_by}
-use Rattle.calls_must.proofs.Hearing.{quiet, quiet-more, some-get_or, pressed-is}
+use Rattle.calls_must.proofs.Hearing.{presses-any}
 use Rattle.calls_must.proofs.forced.forced_at.Goals as goal
 
-pub heard_at-ears-requires : goal.heard_at-ears-requires
-heard_at-ears-requires c = c.requires
-
-pub loop-j-init : goal.loop-j-init
-unfolding some
-loop-j-init c = (omega arith, refl)
-
-pub comp_at-x-requires : goal.comp_at-x-requires
-comp_at-x-requires c = let a = c.args in omega (arith, few-comps a.w.now (record { c = a.c.now; n = a.n }) c.requires)
-
-pub pressed_by-requires : goal.pressed_by-requires
-pressed_by-requires c =
+pub any-requires : goal.any-requires
+any-requires c =
     let a = c.args in
     let v = c.requires in
     let st : State = record { c = a.c.now; n = a.n } in
-    ((valid-parts a.w.now st v).0, rw c.comp_at-x.ensures (comp-good a.w.now st v c.loop-j.j c.loop-j-test.true))
-
-pub returns-then-pressed_by : goal.returns-then-pressed_by
-unfolding forced_at
-returns-then-pressed_by c =
-    let a = c.args in
-    let v = c.requires in
-    let st : State = record { c = a.c.now; n = a.n } in
-    let j = c.loop-j.j in
-    let h : j < a.n = c.loop-j-test.true in
-    let e = c.comp_at-x.ensures ∙ sym (in_use st no_comp j h) in
-    let g = rw (sym (in_use st no_comp j h)) at (comp-good a.w.now st v j h) in
-    let p = sym (pressed-is a.w.now a.l (comps_of st) c.heard_at-ears.result (get_or (comps_of st) j no_comp) (valid-parts a.w.now st v).0 g c.heard_at-ears.ensures) ∙ ap (pressed_by a.w.now a.l c.heard_at-ears.result) (sym e) ∙ sym c.pressed_by.ensures ∙ c.if-pressed_by.true in
-    sym (ap (some _) (sym (take_all a.n (comps_of st) (omega (arith, comps-length st)))) ∙ some-get_or _ (comps_of st) a.n j no_comp h (omega (arith, comps-length st)) p)
-
-pub overflow_add-j : goal.overflow_add-j
-overflow_add-j c = omega arith
-
-pub loop-j-smaller : goal.loop-j-smaller
-loop-j-smaller c = omega arith
-
-pub loop-j-preserved : goal.loop-j-preserved
-loop-j-preserved c =
-    let a = c.args in
-    let v = c.requires in
-    let st : State = record { c = a.c.now; n = a.n } in
-    let j = c.loop-j.j in
-    let h : j < a.n = c.loop-j-test.true in
-    let e = c.comp_at-x.ensures ∙ sym (in_use st no_comp j h) in
-    let g = rw (sym (in_use st no_comp j h)) at (comp-good a.w.now st v j h) in
-    let p = sym (pressed-is a.w.now a.l (comps_of st) c.heard_at-ears.result (get_or (comps_of st) j no_comp) (valid-parts a.w.now st v).0 g c.heard_at-ears.ensures) ∙ ap (pressed_by a.w.now a.l c.heard_at-ears.result) (sym e) ∙ sym c.pressed_by.ensures ∙ c.if-pressed_by.false in
-    (omega arith, quiet-more a.w.now a.l (comps_of st) (comps_of st) j no_comp (omega (arith, comps-length st)) c.loop-j.invariant.1 p)
+    record {
+      can = tt;
+      finite = tt;
+      callable = serves_from_Range (λ x q r. search rules) (λ x b e. let f : x < 256 = omega (arith, few-comps a.w.now st v) in let s = valid-script a.w.now st v in let g = comp-held a.w.now st v x e in search (rules, f, s, g));
+    }
 
 pub returns : goal.returns
-unfolding forced_at
 returns c =
     let a = c.args in
     let st : State = record { c = a.c.now; n = a.n } in
-    sym (subst (λ cs. quiet a.w.now a.l (comps_of st) cs ≡ false) (take_all c.loop-j.j (comps_of st) (omega (arith, comps-length st))) c.loop-j.invariant.1)
+    any_from_yields_List (λ j. pressed_by a.w.now a.l c.heard_at-ears.result (comp_in a.c.now j)) _ _ _ c.any.ensures.ran (YieldsList-from_range 0 a.n a.n (cc) (omega arith)) (λ x b q k. search (rules, tests))
+    ∙ presses-any a.w.now st a.l c.heard_at-ears.result c.requires c.heard_at-ears.ensures

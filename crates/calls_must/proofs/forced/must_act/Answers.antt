@@ -7,6 +7,6 @@ pub returns-then-would_act : goal.returns-then-would_act
 unfolding must_act
 returns-then-would_act c = rw (sym c.would_act.ensures ∙ c.if-would_act.true) c.right_in.ensures
 
-pub returns : goal.returns
+pub returns-else-would_act : goal.returns-else-would_act
 unfolding must_act
-returns c = rw (sym c.would_act.ensures ∙ c.if-would_act.false)
+returns-else-would_act c = rw (sym c.would_act.ensures ∙ c.if-would_act.false) c.if-would_act.false
