@@ -5,18 +5,17 @@ ghost use Rattle.calls_forced.specs.Marked.{is_marked};
 ghost use Rattle.calls_forced.specs.Report.{mask, forced_test, report_of};
 
 use super::{Report, ears, press};
+use super::marks::marked;
 use table::{Script, Words};
 
-fn set_of(marks: &[u32; 64]) -> u64
+fn set_of(marks: &[bool; 64]) -> u64
     ensures { result ≡ mask (is_marked marks.now) 0 64 }
 {
     let mut x: u64 = 0;
-    let mut l: usize = 0;
-    while l < 64 {
-        if marks[l] == 1 {
-            x = x | (1 << l);
+    for l in 0..64 {
+        if marks[l] {
+            x |= 1 << l;
         }
-        l += 1;
     }
     x
 }
@@ -25,12 +24,12 @@ pub fn forced_valid(w: &Script, c: &Words, n: usize) -> Report
     requires { valid w.now (record { c = c.now; n = n }) ≡ true }
     ensures { result ≡ report_of (forced_test w.now (record { c = c.entry.now; n = n })) }
 {
-    let heard = ears::ears_in(w, c, n);
-    let marks = press::pressed_in(w, c, n, &heard);
+    let heard: [bool; 4096] = marked(c, n, |x| ears::ear_of(w, x));
+    let marks: [bool; 64] = marked(c, n, |x| press::press_of(w, &heard, x));
     let set = set_of(&marks);
     Report {
         code: 0,
-        set: set,
+        set,
         count: u64::count_ones(set),
         lowest: u64::trailing_zeros(set),
     }

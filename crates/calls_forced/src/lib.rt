@@ -2,8 +2,9 @@
 //
 //   specs/Marked    channels heard and locations pressed, component by component
 //   specs/Report    what the report says
-//   ears            the channels that are heard, at all locations in one pass
-//   press           the locations where a component presses, in one pass
+//   marks           places marked in one pass over the components
+//   ears            the channels that are heard, at all locations
+//   press           the locations where a component presses
 //   forced          the report of a valid table
 //
 //   proofs/Marking  places noted component by component are those of all components
@@ -13,6 +14,7 @@
 
 mod ears;
 pub mod forced;
+mod marks;
 mod press;
 
 // The answer: code 0, with bit l of the set for location l, how many there are and the lowest, 64 for none.

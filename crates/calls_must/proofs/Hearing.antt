@@ -1,6 +1,6 @@
 -- The channels heard at a location, found component by component, decide what presses there.
 -- By induction on how many components were looked at: one more adds its own channel.
-use Prim.Native.Nat.{ℕ, zero, suc, ◌+◌, ◌<◌, ◌≤◌}
+use Prim.Native.Nat.{ℕ, ◌+◌, ◌<◌, ◌≤◌}
 use native.Mathlib.Omega.{arith}
 use mathlib.Core.List.{List, [], ◌∷◌, ◌++◌}
 use mathlib.Core.Bool.{Bool, true, false, cond, ◌&&◌, ◌||◌}
@@ -27,7 +27,7 @@ use Rattle.table.proofs.InUse.{valid-script, valid-state}
 use Rattle.table.proofs.Ranges.{some-range}
 use Rattle.table.proofs.Ticks.{some_same}
 use Rattle.calls_steady.proofs.Staying.{take_more}
-use Rattle.calls_must.specs.Heard.{heard_on, hears_at, Heard, pressed_by}
+use Rattle.calls_must.specs.Heard.{heard_on, hears_at, sends_on, Heard, pressed_by}
 
 -- ── lists ──
 pub some-append : {A : Type 0} (f : A → Bool) (xs ys : List A) → some f (xs ++ ys) ≡ (some f xs || some f ys)
@@ -80,13 +80,21 @@ no-input (Out h t v p q) n = refl
 no-input (In h t k p q) n = absurd (n h t k p q refl)
 no-input (Call d m) n = refl
 
-pub no-output : (g : Head) → ((h t v p q : ℕ) → g ≡ Out h t v p q → ⊥) → 64 ≡ sent_on g
-unfolding sent_on
+pub no-output : (g : Head) → ((h t v p q : ℕ) → g ≡ Out h t v p q → ⊥) → None ≡ sends_on g
+unfolding sends_on
 no-output Stop n = refl
 no-output (Go t v p) n = refl
 no-output (Out h t v p q) n = absurd (n h t v p q refl)
 no-output (In h t k p q) n = refl
 no-output (Call d m) n = refl
+
+pub sent-number : (g : Head) → unwrap_or (sends_on g) 64 ≡ sent_on g
+unfolding sends_on sent_on
+sent-number Stop = refl
+sent-number (Go t v p) = refl
+sent-number (Out h t v p q) = refl
+sent-number (In h t k p q) = refl
+sent-number (Call d m) = refl
 
 -- past the last place nothing is marked, so that 64 serves for no channel
 pub marked_out : (ys : List Bool) → length ys ≤ 64 → (o : Option ℕ) (r : Bool) → MatchOption o (r ≡ false) (λ d. r ≡ get_or ys d false) → r ≡ get_or ys (unwrap_or o 64) false

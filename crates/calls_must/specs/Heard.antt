@@ -19,6 +19,14 @@ heard_on (Call d n) = None
 unfoldable pub hears_at : List ℕ → ℕ → Comp → Option ℕ
 hears_at w l c = cond (ready_at l c) (heard_on (head_at w c.place)) None
 
+-- the channel of an output; `sent_on` of the table has 64 for none
+unfoldable pub sends_on : Head → Option ℕ
+sends_on Stop = None
+sends_on (Go t v p) = None
+sends_on (Out h t v p q) = Some h
+sends_on (In h t k p q) = None
+sends_on (Call d n) = None
+
 -- ys has the channels that one of cs, ready at l, hears
 abbrev pub Heard : List ℕ → ℕ → List Comp → List Bool → Type 0
 Heard w l cs ys = (h : ℕ) → h < 64 → get_or ys h false ≡ heard_at w l cs h

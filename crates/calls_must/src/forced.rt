@@ -3,7 +3,7 @@ ghost use Rattle.std.specs.Prelude.{◌≡◌, true, false, get_or, unwrap_or};
 ghost use Rattle.table.specs.Meaning.{comps_of};
 ghost use Rattle.table.specs.Valid.{script_ok, comp_ok, valid};
 ghost use Rattle.table.specs.Fire.{ready_at, sent_on, would_act, must_act, forced_at};
-ghost use Rattle.calls_must.specs.Heard.{heard_on, hears_at, Heard, pressed_by};
+ghost use Rattle.calls_must.specs.Heard.{heard_on, hears_at, sends_on, Heard, pressed_by};
 
 use calls_fire::rights::right_in;
 use table::comps::comp_at;
@@ -52,7 +52,8 @@ fn heard_at(w: &Script, c: &Words, n: usize, l: u32) -> [bool; 64]
 
 // The channel of an output.
 pub fn sent_on(h: Head) -> Option<u32>
-    ensures { unwrap_or result 64 ≡ sent_on h }
+    ensures which { result ≡ sends_on h }
+    ensures number { unwrap_or result 64 ≡ sent_on h }
 {
     match h {
         Head::Out(d, _, _, _, _) => Some(d),

@@ -6,7 +6,8 @@ use mathlib.Core.Bool.{Bool, true, false, cond, ◌&&◌, ◌||◌, not, false�
 use mathlib.Core.Path.{◌≡◌, refl, sym, ap, ◌∙◌}
 use lib.Dec.{eqb, ltb}
 use lib.ListN.{length, get_or, take, drop, take-append-drop}
-use borrow.Author.Tests.{eqb-true, ltb-true}
+use borrow.Author.Tests.{eqb-true, ltb-true, lt-ltb}
+use Rattle.std.specs.Prelude.{Some}
 use Rattle.terms.specs.Rules.{some}
 use Rattle.terms.proofs.Names.{and-inv, and_in}
 use Rattle.table.proofs.Names.{eqb-sym}
@@ -14,7 +15,7 @@ use Rattle.calls_must.proofs.Hearing.{some-append}
 use Rattle.calls_steady.proofs.Staying.{take_more}
 use Rattle.table.specs.declared.Comp.{Comp}
 use Rattle.calls_forced.specs.Marked.{is_marked, Marked}
-use Rattle.calls_profile.specs.Roles.{no_role, comes, apart, is_free}
+use Rattle.calls_profile.specs.Roles.{no_role, late_role, comes, apart, is_free}
 
 -- the two have one role
 one-role : (k : ℕ) (s t p : Bool) → (comes k (s || true) && (p && comes k t)) ≡ ((comes k s && p) && comes k true)
@@ -73,7 +74,7 @@ module _ {A : Type 0} (f : A → ℕ) where
 
 -- ── what is noted ──
 -- where the roles of cs are noted, the role of one more is free exactly if it comes after them
-free-is : (f : Comp → ℕ) (cs : List Comp) (ys : List ℕ) (k : ℕ) → Marked no_role f cs ys → is_free ys k ≡ comes k (some (λ e. eqb (f e) k) cs)
+free-is : (f : Comp → ℕ) (cs : List Comp) (ys : List Bool) (k : ℕ) → Marked no_role (λ c. Some (f c)) cs ys → is_free ys k ≡ comes k (some (λ e. eqb (f e) k) cs)
 unfolding is_free comes
 free-is f cs ys k p = go (ltb k no_role) refl
   where
@@ -81,6 +82,19 @@ free-is f cs ys k p = go (ltb k no_role) refl
     go true e = ap not (p k (ltb-true k no_role e))
     go false e = refl
 
-pub next-apart : (f : Comp → ℕ) (cs : List Comp) (ys : List ℕ) (j : ℕ) (d : Comp) → j < length cs → Marked no_role f (take j cs) ys → apart f (take j cs) ≡ true
+pub next-apart : (f : Comp → ℕ) (cs : List Comp) (ys : List Bool) (j : ℕ) (d : Comp) → j < length cs → Marked no_role (λ c. Some (f c)) (take j cs) ys → apart f (take j cs) ≡ true
     → apart f (take (j + 1) cs) ≡ is_free ys (f (get_or cs j d))
 next-apart f cs ys j d h p e = apart_more f cs j d h ∙ rw e (sym (free-is f (take j cs) ys (f (get_or cs j d)) p))
+
+-- by the kind of the role
+pub free-place : (ys : List Bool) (k : ℕ) → k < no_role → is_free ys k ≡ not (is_marked ys k)
+unfolding is_free comes
+free-place ys k h = rw (lt-ltb k no_role h)
+
+pub free-nothing : (ys : List Bool) (k : ℕ) → k ≡ no_role → is_free ys k ≡ true
+unfolding is_free comes
+free-nothing ys k e = rw e
+
+pub late-is_free : (ys : List Bool) (k : ℕ) → k ≡ late_role → is_free ys k ≡ false
+unfolding is_free comes
+late-is_free ys k e = rw e

@@ -1,5 +1,6 @@
 // The two calls on a table that passes question 17.
 ghost use Rattle.std.specs.Prelude.{length, ◌≡◌, true, false};
+ghost use Rattle.terms.specs.Refusals.{answer_of};
 ghost use Rattle.table.specs.Valid.{valid};
 ghost use Rattle.calls_step.specs.Stepped.{StepsAs};
 ghost use Rattle.calls_profile.specs.Profiled.{test_rule, tested, conforming_rule};
@@ -7,27 +8,33 @@ ghost use Rattle.calls_profile.specs.Profiled.{test_rule, tested, conforming_rul
 use super::{Tested, test};
 use calls_step::{Stepped, step};
 use table::{Script, Words, words};
+use terms::refusal::Refusal;
 
 pub fn refuse(code: u32) -> Tested
     ensures { result ≡ record { code = code; yes = false } }
 {
-    Tested {
-        code: code,
-        yes: false,
-    }
+    Tested { code, yes: false }
 }
 
 // Does the location numbered l conform? Question 8.
+fn conforms_valid(w: &Script, c: &Words, n: usize, l: u32) -> Result<bool, Refusal>
+    requires { valid w.now (record { c = c.now; n = n }) ≡ true }
+    ensures { answer_of (λ y. y) result ≡ test_rule w.now (record { c = c.entry.now; n = n }) l }
+{
+    if words::word(w, 1) <= l {
+        return Err(Refusal::OutOfRange);
+    }
+    Ok(test::conforms_at(w, c, n, l))
+}
+
+// The same in the call's form.
 pub fn test_valid(w: &Script, c: &Words, n: usize, l: u32) -> Tested
     requires { valid w.now (record { c = c.now; n = n }) ≡ true }
     ensures { result ≡ tested (test_rule w.now (record { c = c.entry.now; n = n }) l) }
 {
-    if words::word(w, 1) <= l {
-        return refuse(8);
-    }
-    Tested {
-        code: 0,
-        yes: test::conforms_at(w, c, n, l),
+    match conforms_valid(w, c, n, l) {
+        Ok(yes) => Tested { code: 0, yes },
+        Err(e) => refuse(e.number()),
     }
 }
 
@@ -42,12 +49,9 @@ pub fn step_conforming_valid(
     requires { valid w.now (record { c = c.now; n = n }) ≡ true }
     ensures { StepsAs w.now (record { c = c.entry.now; n = n }) (conforming_rule w.now (record { c = c.entry.now; n = n }) l (length records.old)) result c.exit.now records.old records.new }
 {
-    let t = test_valid(w, c, n, l);
-    if t.code != 0 {
-        return step::refuse(t.code, n);
+    match conforms_valid(w, c, n, l) {
+        Err(e) => step::refuse(e.number(), n),
+        Ok(false) => step::refuse(Refusal::NotConforming.number(), n),
+        Ok(true) => step::step_valid(w, c, n, l, records),
     }
-    if !t.yes {
-        return step::refuse(26, n);
-    }
-    step::step_valid(w, c, n, l, records)
 }

@@ -1,45 +1,46 @@
-// The role of a component at a location: the channel that it sends on, or RECEIVERS and the channel that it receives on.
+// The role of a component at a location: what it has to have for itself there.
 ghost use Rattle.std.specs.Prelude.{◌≡◌, true};
 ghost use Rattle.table.specs.Valid.{script_ok, comp_ok};
-ghost use Rattle.calls_profile.specs.Roles.{role_in, role_of};
+ghost use Rattle.calls_profile.specs.Roles.{OfRole, role_of};
 
 use calls_must::forced::ready_at;
 use table::{Comp, Head, Script, words};
 use terms::Timer;
 
-// Where the roles of receivers begin; behind them that of all who ask nothing, and that of a `go` that is not due.
+// Where the places of receivers begin, and how many places there are.
 const RECEIVERS: usize = 64;
 
-pub(crate) const NO_ROLE: usize = 128;
+pub(crate) const PLACES: usize = 128;
 
-const LATE: usize = 129;
+#[derive(Clone, Copy)]
+pub(crate) enum Role {
+    // that of a sender or a receiver: its channel's place, which nobody else may have
+    Place(usize),
+    // that of all who ask nothing
+    Nothing,
+    // that of a `go` that is not due, which nobody may have
+    Late,
+}
 
-// Of a ready component with the head h.
-fn role_in(c: Comp, h: Head) -> usize
-    ensures { result ≡ role_in c h }
+pub(crate) fn role_of(w: &Script, l: u32, c: Comp) -> Role
+    requires { (script_ok w.now ≡ true) × (comp_ok w.now c ≡ true) }
+    ensures { OfRole (role_of w.now l c) result }
 {
-    match h {
-        Head::Stop => NO_ROLE,
+    if !ready_at(l, c) {
+        return Role::Nothing;
+    }
+    match words::head_at(w, words::wide(c.place)) {
+        Head::Stop => Role::Nothing,
         Head::Go(_, _, _) => {
             let t = Timer { raw: c.timer };
             if t.is_due() {
-                return NO_ROLE;
+                Role::Nothing
+            } else {
+                Role::Late
             }
-            LATE
         }
-        Head::Out(d, _, _, _, _) => words::wide(d),
-        Head::In(d, _, _, _, _) => words::wide(d) + RECEIVERS,
-        Head::Call(_, _) => NO_ROLE,
+        Head::Out(d, _, _, _, _) => Role::Place(words::wide(d)),
+        Head::In(d, _, _, _, _) => Role::Place(words::wide(d) + RECEIVERS),
+        Head::Call(_, _) => Role::Nothing,
     }
-}
-
-pub(crate) fn role_of(w: &Script, l: u32, c: Comp) -> usize
-    requires { (script_ok w.now ≡ true) × (comp_ok w.now c ≡ true) }
-    ensures { result ≡ role_of w.now l c }
-{
-    if ready_at(l, c) {
-        let h = words::head_at(w, words::wide(c.place));
-        return role_in(c, h);
-    }
-    NO_ROLE
 }

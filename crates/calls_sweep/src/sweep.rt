@@ -75,11 +75,17 @@ fn perform(w: &Script, a: Act, c: Comp, e: Comp) -> Visit
     match a {
         Act::Calls => {
             let f = fire::fire_call(w, c);
-            Visit { x: f.comp, y: f.comp }
+            Visit {
+                x: f.comp,
+                y: f.comp,
+            }
         }
         Act::Moves => {
             let f = fire::fire_move(w, c);
-            Visit { x: f.comp, y: f.comp }
+            Visit {
+                x: f.comp,
+                y: f.comp,
+            }
         }
         Act::Sends => {
             let m = fire::fire_pair(w, c, e);

@@ -1,8 +1,8 @@
 -- `gather` meets its contract. The loop's invariant: what is gathered so far is that of the components looked at.
-use Prim.Native.Nat.{◌+◌, ◌<◌, ◌≤◌}
+use Prim.Native.Nat.{◌<◌}
 use native.Mathlib.Omega.{arith}
-use mathlib.Core.Path.{◌≡◌, sym, ap, subst, ◌∙◌}
-use lib.ListN.{get_or, take, set, length}
+use mathlib.Core.Path.{sym, ap, subst, ◌∙◌}
+use lib.ListN.{get_or, take}
 use lib.Seq.{take_all}
 use Rattle.table.specs.declared.State.{State}
 use Rattle.table.specs.Meaning.{comps_of, no_comp}

@@ -10,8 +10,8 @@ pub returns-then-c-lt64 : goal.returns-then-c-lt64
 unfolding ear_of
 returns-then-c-lt64 c = rw (lt-ltb _ _ c.if-c-lt64.true)
 
-pub head_at-h-requires : goal.head_at-h-requires
-head_at-h-requires c =
+pub head_at-requires : goal.head_at-requires
+head_at-requires c =
     let a = c.args in
     let q = c.requires in
     rw c.wide.ensures (place-fits a.w.now a.c q.0 q.1)
@@ -20,4 +20,4 @@ pub returns : goal.returns
 unfolding ear_of
 returns c =
     let a = c.args in
-    rw (le-ltb _ _ c.if-c-lt64.false) (c.ear_in.ensures ∙ ap (ear_in a.c.loc) (c.head_at-h.ensures ∙ ap (head_at a.w.now) c.wide.ensures))
+    rw (le-ltb _ _ c.if-c-lt64.false) (c.ear_in.ensures ∙ ap (ear_in a.c.loc) (c.head_at.ensures ∙ ap (head_at a.w.now) c.wide.ensures))

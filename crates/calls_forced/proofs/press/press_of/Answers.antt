@@ -1,6 +1,7 @@
 -- `press_of` meets its contract: a marked component presses nowhere, another at its location if its part presses.
 use mathlib.Core.Path.{sym, ap, ◌∙◌}
 use borrow.Author.Tests.{lt-ltb, le-ltb}
+use Rattle.std.specs.Prelude.{Some}
 use Rattle.table.specs.Words.{head_at}
 use Rattle.calls_fire.proofs.Heads.{place-fits}
 use Rattle.calls_forced.specs.Marked.{presses_in, press_of}
@@ -20,10 +21,10 @@ pub returns-then-presses : goal.returns-then-presses
 unfolding press_of
 returns-then-presses c =
     let a = c.args in
-    rw (le-ltb _ _ c.if-c-lt64.false, sym (c.presses.ensures ∙ ap (presses_in a.w.now a.ears.now a.c) (c.head_at-h.ensures ∙ ap (head_at a.w.now) c.wide.ensures)) ∙ c.if-presses.true) c.wide-then-presses.ensures
+    rw (le-ltb _ _ c.if-c-lt64.false, sym (c.presses.ensures ∙ ap (presses_in a.w.now a.ears.now a.c) (c.head_at-h.ensures ∙ ap (head_at a.w.now) c.wide.ensures)) ∙ c.if-presses.true) (ap Some c.wide-then-presses.ensures)
 
-pub returns : goal.returns
+pub returns-else-presses : goal.returns-else-presses
 unfolding press_of
-returns c =
+returns-else-presses c =
     let a = c.args in
     rw (le-ltb _ _ c.if-c-lt64.false, sym (c.presses.ensures ∙ ap (presses_in a.w.now a.ears.now a.c) (c.head_at-h.ensures ∙ ap (head_at a.w.now) c.wide.ensures)) ∙ c.if-presses.false)

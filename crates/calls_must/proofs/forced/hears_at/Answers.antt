@@ -1,5 +1,5 @@
 -- `hears_at` meets its contract: who is not ready has no channel.
-use mathlib.Core.Path.{sym, ap, ◌∙◌}
+use mathlib.Core.Path.{ap, ◌∙◌}
 use Rattle.table.specs.Words.{head_at}
 use Rattle.table.proofs.ValidBool.{failed, passed}
 use Rattle.calls_must.specs.Heard.{heard_on, hears_at}

@@ -1,5 +1,5 @@
 -- `pressed_by` meets its contract: who is not ready does not press.
-use mathlib.Core.Path.{sym, ap, ◌∙◌}
+use mathlib.Core.Path.{ap, ◌∙◌}
 use Rattle.std.proofs.Common.{◌≡◌, get_or, false, arith, rules}
 use Rattle.table.specs.Words.{head_at}
 use Rattle.table.specs.Fire.{sent_on, must_act}
@@ -24,7 +24,7 @@ unfolding pressed_by
 returns c =
     let a = c.args in
     let e = c.head_at-h.ensures ∙ ap (head_at a.w.now) c.wide.ensures in
-    let k : c.is_some_and-heard.result ≡ get_or a.ears.now (sent_on c.head_at-h.result) false = marked_out a.ears.now (omega arith) c.sent_on.result c.is_some_and-heard.result (search rules) ∙ ap (λ i. get_or a.ears.now i false) c.sent_on.ensures in
+    let k : c.is_some_and-heard.result ≡ get_or a.ears.now (sent_on c.head_at-h.result) false = marked_out a.ears.now (omega arith) c.sent_on.result c.is_some_and-heard.result (search rules) ∙ ap (λ i. get_or a.ears.now i false) c.sent_on.ensures.number in
     rw (passed c.if-not-ready_at.false c.ready_at.ensures)
     (c.must_act.ensures
     ∙ ap (λ b. must_act a.w.now b a.c c.head_at-h.result) k

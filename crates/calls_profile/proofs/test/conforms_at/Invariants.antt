@@ -1,8 +1,8 @@
 -- `conforms_at` meets its contract. The loop's invariant: the roles of the components looked at are noted, and none was taken twice.
-use Prim.Native.Nat.{◌-◌, ◌≤◌}
 use mathlib.Core.Bool.{true}
 use mathlib.Core.Path.{◌≡◌}
 use lib.ListN.{length, take}
+use Rattle.std.specs.Prelude.{Some}
 use Rattle.table.specs.Meaning.{comps_of}
 use Rattle.calls_forced.specs.Marked.{Marked}
 use Rattle.calls_profile.specs.Roles.{no_role, role_of, apart}
@@ -10,7 +10,4 @@ use Rattle.calls_profile.proofs.test.conforms_at.Given as goal
 
 abbrev pub invariant-loop-j : goal.invariant-loop-j
 invariant-loop-j l =
-    (l.j ≤ l.n) × (length l.taken ≡ no_role) × Marked no_role (role_of l.w l.l) (take l.j (comps_of (record { c = l.c; n = l.n }))) l.taken × (apart (role_of l.w l.l) (take l.j (comps_of (record { c = l.c; n = l.n }))) ≡ true)
-
-abbrev pub decreases-loop-j : goal.decreases-loop-j
-decreases-loop-j l = l.n - l.j
+    (length l.taken ≡ no_role) × Marked no_role (λ c. Some (role_of l.w l.l c)) (take l.j (comps_of (record { c = l.c; n = l.n }))) l.taken × (apart (role_of l.w l.l) (take l.j (comps_of (record { c = l.c; n = l.n }))) ≡ true)

@@ -1,10 +1,6 @@
 -- `perform` meets its contract: the act decides what fires.
-use mathlib.Core.List.{[], ◌∷◌}
-use mathlib.Core.Path.{◌≡◌, refl, sym, ◌∙◌}
+use mathlib.Core.Path.{refl, ◌∙◌}
 use borrow.Author.Rules.{rules}
-use Rattle.std.specs.Prelude.{Some, None}
-use Rattle.calls_sweep.specs.declared.Act.{Act}
-use Rattle.calls_sweep.specs.declared.Act.TheVariants.{Calls, Moves, Sends}
 use Rattle.calls_sweep.proofs.Performing.{one-inv, two-inv}
 use Rattle.calls_sweep.proofs.sweep.perform.Goals as goal
 
