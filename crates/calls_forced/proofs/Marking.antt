@@ -1,6 +1,6 @@
 -- Marks made component by component are those of all components.
 -- By induction on how many were looked at: one more marks its own place, if it has one.
-use Prim.Native.Nat.{ℕ, ◌+◌, ◌<◌}
+use Prim.Native.Nat.{ℕ, ◌+◌, ◌<◌, ◌≤◌}
 use native.Mathlib.Omega.{arith}
 use mathlib.Core.List.{List, []}
 use mathlib.Core.Bool.{Bool, true, false, ◌||◌, or-false}
@@ -8,7 +8,7 @@ use mathlib.Core.Path.{◌≡◌, refl, sym, ap, ◌∙◌}
 use lib.Dec.{eqb}
 use lib.ListN.{length, get_or, set, take, replicate, get_or-replicate}
 use lib.Seq.{get_or-set_same, get_or-set_other}
-use borrow.Author.Tests.{eqb-true, eqb-false}
+use borrow.Author.Tests.{eqb-true, eqb-false, ne_eqb}
 use Rattle.std.specs.Prelude.{Option, Some, None}
 use Rattle.terms.specs.Rules.{some}
 use Rattle.table.specs.declared.Comp.{Comp}
@@ -38,3 +38,7 @@ module _ (n : ℕ) (f : Comp → Option ℕ) (xs : List Comp) (j : ℕ) (d : Com
   -- it has none
   pub marked-past : f (get_or xs j d) ≡ None → Marked n f (take (j + 1) xs) ys
   marked-past e k i = sym (now k i ∙ ap (λ z. is_marked ys k || is_place k z) e ∙ or-false (is_marked ys k))
+
+  -- its place is past the last
+  pub marked-out : (m : ℕ) → n ≤ m → f (get_or xs j d) ≡ Some m → Marked n f (take (j + 1) xs) ys
+  marked-out m h e k i = sym (now k i ∙ ap (λ z. is_marked ys k || is_place k z) e ∙ rw (ne_eqb m k (λ z. omega arith)) (or-false (is_marked ys k)))

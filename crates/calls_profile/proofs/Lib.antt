@@ -1,3 +1,4 @@
 pub mod Apart
 pub mod Conforming
 pub mod Answering
+pub mod Ready

@@ -8,6 +8,7 @@
 //
 //   proofs/Apart       no role is taken twice: one more component
 //   proofs/Conforming  the test by numbers is the test of what the components stand for
+//   proofs/Ready       the role of a ready component is that of its head
 //   proofs/Answering   the conforming step goes by what the test answers
 #![tactic(auto)]
 
