@@ -217,15 +217,19 @@ fires-two w l p q d cs c e v g few i j a b u s n r after = record {
     there = at-put-other cs p q v.x e j apart
 
 -- ── by cases on the head ──
-act-ready : (w : List ℕ) (l : ℕ) (c : Comp) (x : Option ℕ) (h : Head) → ready_at l c ≡ true → head_at w c.place ≡ h → act_here w l c x ≡ act_by w x c h
+pub act-ready : (w : List ℕ) (l : ℕ) (c : Comp) (x : Option ℕ) (h : Head) → ready_at l c ≡ true → head_at w c.place ≡ h → act_here w l c x ≡ act_by w x c h
 unfolding act_here
 act-ready w l c x h r e = rw (r, e)
+
+pub act-unready : (w : List ℕ) (l : ℕ) (c : Comp) (x : Option ℕ) → ready_at l c ≡ false → act_here w l c x ≡ None
+unfolding act_here
+act-unready w l c x r = rw r
 
 choice-ready : (w : List ℕ) (l p : ℕ) (c : Comp) (cs : List Comp) (h : Head) → ready_at l c ≡ true → head_at w c.place ≡ h → choice_at w l p c cs ≡ chosen_by w l p c cs h
 unfolding choice_at
 choice-ready w l p c cs h r e = rw (r, e)
 
-sends-ready : (w : List ℕ) (l : ℕ) (c : Comp) (h : Head) → ready_at l c ≡ true → head_at w c.place ≡ h → sends_at w l c ≡ sends_by w c h
+pub sends-ready : (w : List ℕ) (l : ℕ) (c : Comp) (h : Head) → ready_at l c ≡ true → head_at w c.place ≡ h → sends_at w l c ≡ sends_by w c h
 unfolding sends_at
 sends-ready w l c h r e = rw (r, e)
 

@@ -2,7 +2,7 @@
 // the next output in front.
 ghost use Rattle.std.specs.Prelude.{◌≡◌, true, Some, ◌+◌, ◌<◌, ◌≤◌, length};
 ghost use Rattle.table.specs.Valid.{script_ok, comp_ok, valid};
-ghost use Rattle.calls_sweep.specs.Visit.{sends_by, sends_at, act_of, act_by, act_here, Performed, other_of, rec_by, sent_by, wait_by, SweepsAs};
+ghost use Rattle.calls_sweep.specs.Visit.{sends_by, act_of, act_by, Performed, other_of, rec_by, sent_by, wait_by, SweepsAs};
 ghost use Rattle.table.specs.Words.{state_words};
 
 use super::{Act, Swept, Visit};
@@ -20,17 +20,6 @@ fn sends_by(w: &Script, c: Comp, h: Head) -> u32
 {
     if right_in(w, c, h) {
         return forced::sent_on(h).unwrap_or(64);
-    }
-    64
-}
-
-fn sends_at(w: &Script, l: u32, c: Comp) -> u32
-    requires { (script_ok w.now ≡ true) × (comp_ok w.now c ≡ true) }
-    ensures { result ≡ sends_at w.now l c }
-{
-    if forced::ready_at(l, c) {
-        let h = words::head_at(w, words::wide(c.place));
-        return sends_by(w, c, h);
     }
     64
 }
@@ -53,17 +42,6 @@ fn act_by(w: &Script, x: Option<u8>, c: Comp, h: Head) -> Option<Act>
 {
     if forced::must_act(w, x.is_some(), c, h) {
         return act_of(h);
-    }
-    None
-}
-
-fn act_here(w: &Script, l: u32, c: Comp, x: Option<u8>) -> Option<Act>
-    requires { (script_ok w.now ≡ true) × (comp_ok w.now c ≡ true) }
-    ensures { result ≡ act_here w.now l c x }
-{
-    if forced::ready_at(l, c) {
-        let h = words::head_at(w, words::wide(c.place));
-        return act_by(w, x, c, h);
     }
     None
 }
@@ -151,9 +129,13 @@ pub fn sweep(w: &Script, c: &mut Words, n: usize, l: u32, acts: &mut [[u32; 3]])
     let mut sum = 0;
     for p in 0..n {
         let d = comp_at(c, p);
-        let s = words::wide(sends_at(w, l, d));
+        if !forced::ready_at(l, d) {
+            continue;
+        }
+        let h = words::head_at(w, words::wide(d.place));
+        let s = words::wide(sends_by(w, d, h));
         let x = heads[s];
-        let Some(a) = act_here(w, l, d, x) else {
+        let Some(a) = act_by(w, x, d, h) else {
             continue;
         };
         let q = other_of(p, x);

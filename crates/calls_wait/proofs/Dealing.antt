@@ -78,12 +78,12 @@ apart-drop ears [] (suc j) a = tt
 apart-drop ears (x ∷ xs) (suc j) a = apart-drop ears xs j a.2
 
 -- the turn of the number at i, where those behind it are dealt
-pub dealt-turn : (ears keys : List ℕ) (heads nexts : List (Option ℕ)) (m i : ℕ) → m ≤ length keys → i < m → Apart ears (take m keys) → Dealt ears (drop (suc i) (take m keys)) heads nexts
-    → (get_or ears (spot_of (get_or keys i 0)) 0 < 64) × Dealt ears (drop i (take m keys)) (set heads (get_or ears (spot_of (get_or keys i 0)) 0) (Some (spot_of (get_or keys i 0)))) (set nexts (spot_of (get_or keys i 0)) (get_or heads (get_or ears (spot_of (get_or keys i 0)) 0) None))
-dealt-turn ears keys heads nexts m i n h a d =
-    let e : drop i (take m keys) ≡ get_or keys i 0 ∷ drop (suc i) (take m keys) = drop-cons (take m keys) i 0 (omega (arith, length-take-le m keys n)) ∙ ap (λ x. x ∷ drop (suc i) (take m keys)) (get_or-take m keys i 0 h) in
-    let b = subst (Apart ears) e (apart-drop ears (take m keys) i a) in
-    (b.0, subst (λ xs. Dealt ears xs (set heads (get_or ears (spot_of (get_or keys i 0)) 0) (Some (spot_of (get_or keys i 0)))) (set nexts (spot_of (get_or keys i 0)) (get_or heads (get_or ears (spot_of (get_or keys i 0)) 0) None))) (sym e) (dealt-more ears (drop (suc i) (take m keys)) heads nexts (get_or keys i 0) b.0 (spot-fits (get_or keys i 0)) b.1 d))
+pub dealt-turn : (ears keys : List ℕ) (heads nexts : List (Option ℕ)) (i : ℕ) → i < length keys → Apart ears keys → Dealt ears (drop (suc i) keys) heads nexts
+    → (get_or ears (spot_of (get_or keys i 0)) 0 < 64) × Dealt ears (drop i keys) (set heads (get_or ears (spot_of (get_or keys i 0)) 0) (Some (spot_of (get_or keys i 0)))) (set nexts (spot_of (get_or keys i 0)) (get_or heads (get_or ears (spot_of (get_or keys i 0)) 0) None))
+dealt-turn ears keys heads nexts i h a d =
+    let e : drop i keys ≡ get_or keys i 0 ∷ drop (suc i) keys = drop-cons keys i 0 h in
+    let b = subst (Apart ears) e (apart-drop ears keys i a) in
+    (b.0, subst (λ xs. Dealt ears xs (set heads (get_or ears (spot_of (get_or keys i 0)) 0) (Some (spot_of (get_or keys i 0)))) (set nexts (spot_of (get_or keys i 0)) (get_or heads (get_or ears (spot_of (get_or keys i 0)) 0) None))) (sym e) (dealt-more ears (drop (suc i) keys) heads nexts (get_or keys i 0) b.0 (spot-fits (get_or keys i 0)) b.1 d))
 
 -- ── no two of those who hear a channel stand at one position ──
 away-place : (p x : ℕ) (ys : List ℕ) → (p ≡ spot_of x → ⊥) → Away p (map spot_of ys) → Away p (map spot_of (place x ys))

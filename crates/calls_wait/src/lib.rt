@@ -50,18 +50,17 @@ fn gather(
     m
 }
 
-// From the last of the m numbers down, each position is put in front of the chain of its channel.
+// From the last number down, each position is put in front of the chain of its channel.
 fn deal(
-    keys: &[u32; 256],
-    m: usize,
+    keys: &[u32],
     ears: &[u32; 256],
     heads: &mut [Option<u8>; 65],
     nexts: &mut [Option<u8>; 256],
 )
-    requires { (m ≤ 256) × (length keys.now ≡ 256) × (length nexts.old ≡ 256) × (heads.old ≡ replicate 65 None) × Apart ears.now (take m keys.now) }
-    ensures { Dealt ears.now (take m keys.now) heads.new nexts.new }
+    requires { (length nexts.old ≡ 256) × (heads.old ≡ replicate 65 None) × Apart ears.now keys.now }
+    ensures { Dealt ears.now keys.now heads.new nexts.new }
 {
-    for i in (0..m).rev() {
+    for i in (0..keys.len()).rev() {
         let p = words::wide(keys[i] % 256);
         let h = words::wide(ears[p]);
         nexts[p] = heads[h];
@@ -85,5 +84,5 @@ pub fn wait_all(
     let mut keys = [0u32; 256];
     let m = gather(w, c, n, l, &mut ears, &mut keys);
     ranks::sort(&mut keys, m);
-    deal(&keys, m, &ears, heads, nexts);
+    deal(&keys[..m], &ears, heads, nexts);
 }

@@ -1,7 +1,9 @@
 -- `wait_all` meets its contract: what is gathered, sorted and dealt are the chains of who waits.
 use Prim.Native.Nat.{◌≤◌}
 use native.Mathlib.Omega.{arith}
+use mathlib.Core.Path.{sym}
 use lib.ListN.{length}
+use lib.Seq.{length-take-le}
 use Rattle.table.specs.declared.State.{State}
 use Rattle.table.specs.Meaning.{comps_of}
 use Rattle.table.proofs.InUse.{comps-length}
@@ -15,6 +17,18 @@ sort-requires c =
     let st : State = record { c = a.c.now; n = a.n } in
     omega (arith, c.gather-m.ensures.few, comps-length st, few-comps a.w.now st c.requires.0)
 
+pub slice_bounds-keys-end : goal.slice_bounds-keys-end
+slice_bounds-keys-end c =
+    let a = c.args in
+    let st : State = record { c = a.c.now; n = a.n } in
+    omega (arith, c.gather-m.ensures.few, comps-length st, few-comps a.w.now st c.requires.0)
+
+pub slice_bounds-deal-end : goal.slice_bounds-deal-end
+slice_bounds-deal-end c =
+    let a = c.args in
+    let st : State = record { c = a.c.now; n = a.n } in
+    sym (length-take-le c.gather-m.result c.sort.new.a (omega (arith, c.gather-m.ensures.few, comps-length st, few-comps a.w.now st c.requires.0)))
+
 pub deal-requires : goal.deal-requires
 deal-requires c =
     let a = c.args in
@@ -23,7 +37,7 @@ deal-requires c =
     let g = c.gather-m.ensures in
     let n : length (comps_of st) ≤ 256 = omega (arith, comps-length st, few-comps a.w.now st p.0) in
     let o = sorted_apart a.w.now a.l (comps_of st) _ _ _ _ n g c.sort.ensures in
-    (o.0, o.1, p.1, p.2, o.2)
+    (p.1, p.2, o.2)
 
 pub returns : goal.returns
 returns c =

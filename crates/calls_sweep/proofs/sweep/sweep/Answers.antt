@@ -1,10 +1,14 @@
 -- `sweep` meets its contract: the records written and the sweep over the positions left are the whole sweep (Going).
 use native.Mathlib.Omega.{arith}
-use mathlib.Core.Path.{sym, ◌∙◌}
+use mathlib.Core.Path.{sym, ap, ◌∙◌}
 use Rattle.table.specs.declared.State.{State}
+use Rattle.table.specs.Words.{head_at}
 use Rattle.table.proofs.Tests.{comp-fine}
 use Rattle.table.proofs.InUse.{valid-script, valid-state}
+use Rattle.table.proofs.ValidBool.{failed, passed}
 use Rattle.calls_act.proofs.Positions.{few-comps}
+use Rattle.calls_fire.proofs.Heads.{place-fits}
+use Rattle.calls_sweep.proofs.Sweeping.{act-ready, act-unready, sends-ready}
 use Rattle.calls_sweep.proofs.Going.{going-begin, going-fires, going-idle, going_end, adding-begin, adding-fires, adding-idle, adding-end, good-at, channel-fits, other_fits, as-here}
 use Rattle.calls_sweep.proofs.sweep.sweep.Goals as goal
 
@@ -18,13 +22,22 @@ loop-p-init c =
 pub comp_at-d-requires : goal.comp_at-d-requires
 comp_at-d-requires c = omega (arith, few-comps _ _ c.requires.0)
 
-pub sends_at-requires : goal.sends_at-requires
-sends_at-requires c =
+pub loop-p-preserved-then-not-ready_at : goal.loop-p-preserved-then-not-ready_at
+loop-p-preserved-then-not-ready_at c =
     let s = valid-script _ _ c.requires.0 in
     let f = few-comps _ _ c.requires.0 in
     let h = c.loop-p-test.true in
     let i = c.loop-p.invariant.0 in
-    (s, rw c.comp_at-d.ensures (good-at _ s _ _ _ _ _ _ _ _ _ f i h _ h))
+    let r = rw c.comp_at-d.ensures at (failed c.if-not-ready_at.true c.ready_at.ensures) in
+    (going-idle _ s _ _ _ _ _ _ _ _ _ f i h (act-unready _ _ _ _ r), adding-idle _ s _ _ _ _ _ _ _ _ _ f i h (act-unready _ _ _ _ r) _ _ c.loop-p.invariant.1)
+
+pub head_at-h-requires : goal.head_at-h-requires
+head_at-h-requires c =
+    let s = valid-script _ _ c.requires.0 in
+    let f = few-comps _ _ c.requires.0 in
+    let h = c.loop-p-test.true in
+    let i = c.loop-p.invariant.0 in
+    rw c.wide.ensures (place-fits _ c.comp_at-d.result s (rw c.comp_at-d.ensures (good-at _ s _ _ _ _ _ _ _ _ _ f i h _ h)))
 
 pub bounds-heads-s : goal.bounds-heads-s
 bounds-heads-s c =
@@ -32,15 +45,10 @@ bounds-heads-s c =
     let f = few-comps _ _ c.requires.0 in
     let h = c.loop-p-test.true in
     let i = c.loop-p.invariant.0 in
-    omega (arith, c.wide-s.ensures, rw c.comp_at-d.ensures at c.sends_at.ensures, channel-fits _ s _ _ _ _ _ _ _ _ _ f i h)
-
-pub act_here-requires : goal.act_here-requires
-act_here-requires c =
-    let s = valid-script _ _ c.requires.0 in
-    let f = few-comps _ _ c.requires.0 in
-    let h = c.loop-p-test.true in
-    let i = c.loop-p.invariant.0 in
-    (s, rw c.comp_at-d.ensures (good-at _ s _ _ _ _ _ _ _ _ _ f i h _ h))
+    let r = passed c.if-not-ready_at.false c.ready_at.ensures in
+    let g = ap (head_at c.args.w.now) (sym c.wide.ensures) ∙ sym c.head_at-h.ensures in
+    let n = c.wide-s.ensures ∙ c.sends_by.ensures ∙ sym (sends-ready c.args.w.now c.args.l c.comp_at-d.result c.head_at-h.result r g) in
+    omega (arith, rw c.comp_at-d.ensures at n, channel-fits _ s _ _ _ _ _ _ _ _ _ f i h)
 
 pub loop-p-preserved-in_default : goal.loop-p-preserved-in_default
 loop-p-preserved-in_default c =
@@ -48,7 +56,10 @@ loop-p-preserved-in_default c =
     let f = few-comps _ _ c.requires.0 in
     let h = c.loop-p-test.true in
     let i = c.loop-p.invariant.0 in
-    let e = rw (c.wide-s.ensures, c.sends_at.ensures, c.comp_at-d.ensures) at (sym c.act_here.ensures ∙ c.in_default.is) in
+    let r = passed c.if-not-ready_at.false c.ready_at.ensures in
+    let g = ap (head_at c.args.w.now) (sym c.wide.ensures) ∙ sym c.head_at-h.ensures in
+    let n = c.wide-s.ensures ∙ c.sends_by.ensures ∙ sym (sends-ready c.args.w.now c.args.l c.comp_at-d.result c.head_at-h.result r g) in
+    let e = rw (n, c.comp_at-d.ensures) at (act-ready c.args.w.now c.args.l c.comp_at-d.result _ c.head_at-h.result r g ∙ sym c.act_by.ensures ∙ c.in_default.is) in
     (going-idle _ s _ _ _ _ _ _ _ _ _ f i h e, adding-idle _ s _ _ _ _ _ _ _ _ _ f i h e _ _ c.loop-p.invariant.1)
 
 pub comp_at-e-requires : goal.comp_at-e-requires
@@ -57,7 +68,10 @@ comp_at-e-requires c =
     let f = few-comps _ _ c.requires.0 in
     let h = c.loop-p-test.true in
     let i = c.loop-p.invariant.0 in
-    let z = rw (c.wide-s.ensures, c.sends_at.ensures, c.comp_at-d.ensures) at c.other_of-q.ensures in
+    let r = passed c.if-not-ready_at.false c.ready_at.ensures in
+    let g = ap (head_at c.args.w.now) (sym c.wide.ensures) ∙ sym c.head_at-h.ensures in
+    let n = c.wide-s.ensures ∙ c.sends_by.ensures ∙ sym (sends-ready c.args.w.now c.args.l c.comp_at-d.result c.head_at-h.result r g) in
+    let z = rw (n, c.comp_at-d.ensures) at c.other_of-q.ensures in
     omega (arith, z, other_fits _ s _ _ _ _ _ _ _ _ _ f i h, f)
 
 pub perform-v-requires : goal.perform-v-requires
@@ -66,7 +80,10 @@ perform-v-requires c =
     let f = few-comps _ _ c.requires.0 in
     let h = c.loop-p-test.true in
     let i = c.loop-p.invariant.0 in
-    (s, rw c.comp_at-d.ensures (good-at _ s _ _ _ _ _ _ _ _ _ f i h _ h), rw (c.comp_at-e.ensures, c.other_of-q.ensures, c.wide-s.ensures, c.sends_at.ensures, c.comp_at-d.ensures) (good-at _ s _ _ _ _ _ _ _ _ _ f i h _ (other_fits _ s _ _ _ _ _ _ _ _ _ f i h)))
+    let r = passed c.if-not-ready_at.false c.ready_at.ensures in
+    let g = ap (head_at c.args.w.now) (sym c.wide.ensures) ∙ sym c.head_at-h.ensures in
+    let n = c.wide-s.ensures ∙ c.sends_by.ensures ∙ sym (sends-ready c.args.w.now c.args.l c.comp_at-d.result c.head_at-h.result r g) in
+    (s, rw c.comp_at-d.ensures (good-at _ s _ _ _ _ _ _ _ _ _ f i h _ h), rw (c.comp_at-e.ensures, c.other_of-q.ensures, n, c.comp_at-d.ensures) (good-at _ s _ _ _ _ _ _ _ _ _ f i h _ (other_fits _ s _ _ _ _ _ _ _ _ _ f i h)))
 
 pub put_comp-requires : goal.put_comp-requires
 put_comp-requires c = omega (arith, few-comps _ _ c.requires.0)
@@ -77,7 +94,10 @@ put_comp-requires-in-loop-p c =
     let f = few-comps _ _ c.requires.0 in
     let h = c.loop-p-test.true in
     let i = c.loop-p.invariant.0 in
-    let z = rw (c.wide-s.ensures, c.sends_at.ensures, c.comp_at-d.ensures) at c.other_of-q.ensures in
+    let r = passed c.if-not-ready_at.false c.ready_at.ensures in
+    let g = ap (head_at c.args.w.now) (sym c.wide.ensures) ∙ sym c.head_at-h.ensures in
+    let n = c.wide-s.ensures ∙ c.sends_by.ensures ∙ sym (sends-ready c.args.w.now c.args.l c.comp_at-d.result c.head_at-h.result r g) in
+    let z = rw (n, c.comp_at-d.ensures) at c.other_of-q.ensures in
     omega (arith, z, other_fits _ s _ _ _ _ _ _ _ _ _ f i h, f)
 
 pub rec_by-requires : goal.rec_by-requires
@@ -86,7 +106,10 @@ rec_by-requires c =
     let f = few-comps _ _ c.requires.0 in
     let h = c.loop-p-test.true in
     let i = c.loop-p.invariant.0 in
-    let z = rw (c.wide-s.ensures, c.sends_at.ensures, c.comp_at-d.ensures) at c.other_of-q.ensures in
+    let r = passed c.if-not-ready_at.false c.ready_at.ensures in
+    let g = ap (head_at c.args.w.now) (sym c.wide.ensures) ∙ sym c.head_at-h.ensures in
+    let n = c.wide-s.ensures ∙ c.sends_by.ensures ∙ sym (sends-ready c.args.w.now c.args.l c.comp_at-d.result c.head_at-h.result r g) in
+    let z = rw (n, c.comp_at-d.ensures) at c.other_of-q.ensures in
     (omega (arith, f), omega (arith, z, other_fits _ s _ _ _ _ _ _ _ _ _ f i h, f))
 
 pub offset_bounds-nexts-q : goal.offset_bounds-nexts-q
@@ -95,7 +118,10 @@ offset_bounds-nexts-q c =
     let f = few-comps _ _ c.requires.0 in
     let h = c.loop-p-test.true in
     let i = c.loop-p.invariant.0 in
-    let z = rw (c.wide-s.ensures, c.sends_at.ensures, c.comp_at-d.ensures) at c.other_of-q.ensures in
+    let r = passed c.if-not-ready_at.false c.ready_at.ensures in
+    let g = ap (head_at c.args.w.now) (sym c.wide.ensures) ∙ sym c.head_at-h.ensures in
+    let n = c.wide-s.ensures ∙ c.sends_by.ensures ∙ sym (sends-ready c.args.w.now c.args.l c.comp_at-d.result c.head_at-h.result r g) in
+    let z = rw (n, c.comp_at-d.ensures) at c.other_of-q.ensures in
     omega (arith, z, other_fits _ s _ _ _ _ _ _ _ _ _ f i h, f)
 
 pub bounds-nexts-q : goal.bounds-nexts-q
@@ -104,7 +130,10 @@ bounds-nexts-q c =
     let f = few-comps _ _ c.requires.0 in
     let h = c.loop-p-test.true in
     let i = c.loop-p.invariant.0 in
-    let z = rw (c.wide-s.ensures, c.sends_at.ensures, c.comp_at-d.ensures) at c.other_of-q.ensures in
+    let r = passed c.if-not-ready_at.false c.ready_at.ensures in
+    let g = ap (head_at c.args.w.now) (sym c.wide.ensures) ∙ sym c.head_at-h.ensures in
+    let n = c.wide-s.ensures ∙ c.sends_by.ensures ∙ sym (sends-ready c.args.w.now c.args.l c.comp_at-d.result c.head_at-h.result r g) in
+    let z = rw (n, c.comp_at-d.ensures) at c.other_of-q.ensures in
     omega (arith, z, other_fits _ s _ _ _ _ _ _ _ _ _ f i h, f)
 
 pub bounds-heads-s-in-loop-p : goal.bounds-heads-s-in-loop-p
@@ -113,7 +142,10 @@ bounds-heads-s-in-loop-p c =
     let f = few-comps _ _ c.requires.0 in
     let h = c.loop-p-test.true in
     let i = c.loop-p.invariant.0 in
-    omega (arith, c.wide-s.ensures, rw c.comp_at-d.ensures at c.sends_at.ensures, channel-fits _ s _ _ _ _ _ _ _ _ _ f i h)
+    let r = passed c.if-not-ready_at.false c.ready_at.ensures in
+    let g = ap (head_at c.args.w.now) (sym c.wide.ensures) ∙ sym c.head_at-h.ensures in
+    let n = c.wide-s.ensures ∙ c.sends_by.ensures ∙ sym (sends-ready c.args.w.now c.args.l c.comp_at-d.result c.head_at-h.result r g) in
+    omega (arith, rw c.comp_at-d.ensures at n, channel-fits _ s _ _ _ _ _ _ _ _ _ f i h)
 
 pub sent_with-sent-requires : goal.sent_with-sent-requires
 sent_with-sent-requires c = omega (arith, few-comps _ _ c.requires.0, c.loop-p.invariant.1.few-sent)
@@ -133,11 +165,14 @@ loop-p-preserved c =
     let f = few-comps _ _ c.requires.0 in
     let h = c.loop-p-test.true in
     let i = c.loop-p.invariant.0 in
-    let o = rw (c.wide-s.ensures, c.sends_at.ensures, c.comp_at-d.ensures) at (sym c.act_here.ensures ∙ c.in-Some.is) in
-    let v = as-here o (rw (c.comp_at-e.ensures, c.other_of-q.ensures, c.wide-s.ensures, c.sends_at.ensures, c.comp_at-d.ensures) at c.perform-v.ensures) in (
-      rw (c.and.ensures, c.rec_by.ensures, c.put_comp-in-loop-p.ensures, c.put_comp.ensures, c.other_of-q.ensures, c.wide-s.ensures, c.sends_at.ensures, c.comp_at-d.ensures)
+    let r = passed c.if-not-ready_at.false c.ready_at.ensures in
+    let g = ap (head_at c.args.w.now) (sym c.wide.ensures) ∙ sym c.head_at-h.ensures in
+    let n = c.wide-s.ensures ∙ c.sends_by.ensures ∙ sym (sends-ready c.args.w.now c.args.l c.comp_at-d.result c.head_at-h.result r g) in
+    let o = rw (n, c.comp_at-d.ensures) at (act-ready c.args.w.now c.args.l c.comp_at-d.result _ c.head_at-h.result r g ∙ sym c.act_by.ensures ∙ c.in-Some.is) in
+    let v = as-here o (rw (c.comp_at-e.ensures, c.other_of-q.ensures, n, c.comp_at-d.ensures) at c.perform-v.ensures) in (
+      rw (c.and.ensures, c.rec_by.ensures, c.put_comp-in-loop-p.ensures, c.put_comp.ensures, c.other_of-q.ensures, n, c.comp_at-d.ensures)
           (going-fires _ s _ _ _ _ _ _ _ _ _ f i h c.perform-v.result v c.in-Some.a o),
-      rw (c.waited_with-sum.ensures, c.sent_with-sent.ensures, c.put_comp-in-loop-p.ensures, c.put_comp.ensures, c.other_of-q.ensures, c.wide-s.ensures, c.sends_at.ensures, c.comp_at-d.ensures)
+      rw (c.waited_with-sum.ensures, c.sent_with-sent.ensures, c.put_comp-in-loop-p.ensures, c.put_comp.ensures, c.other_of-q.ensures, n, c.comp_at-d.ensures)
           (adding-fires _ s _ _ _ _ _ _ _ _ _ f i h c.perform-v.result v c.in-Some.a o _ _ c.loop-p.invariant.1),
     )
 
