@@ -4,8 +4,8 @@ ghost use Rattle.table.specs.Valid.{valid};
 ghost use Rattle.calls_forced.specs.Marked.{is_marked};
 ghost use Rattle.calls_forced.specs.Report.{mask, forced_test, report_of};
 
-use super::{Report, ears, press};
 use super::marks::marked;
+use super::{Report, ears, press};
 use table::{Script, Words};
 
 fn set_of(marks: &[bool; 64]) -> u64
@@ -30,7 +30,7 @@ pub fn forced_valid(w: &Script, c: &Words, n: usize) -> Report
     Report {
         code: 0,
         set,
-        count: u64::count_ones(set),
-        lowest: u64::trailing_zeros(set),
+        count: set.count_ones(),
+        lowest: set.trailing_zeros(),
     }
 }

@@ -9,7 +9,8 @@ use table::{Comp, Head, Script, words};
 fn presses(w: &Script, ears: &[bool; 4096], c: Comp, h: Head) -> bool
     ensures { result ≡ presses_in w.now ears.now c h }
 {
-    let heard = sent_on(h).is_some_and(|d| is_marked(ears, words::wide(c.loc) * 64 + words::wide(d)));
+    let l = words::wide(c.loc);
+    let heard = sent_on(h).is_some_and(|d| is_marked(ears, l * 64 + words::wide(d)));
     must_act(w, heard, c, h)
 }
 

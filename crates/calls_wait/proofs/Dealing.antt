@@ -8,7 +8,7 @@ use mathlib.Core.Logic.{◌⊎◌, inl, inr}
 use mathlib.Core.Path.{◌≡◌, refl, sym, ap, subst, ◌∙◌}
 use lib.Dec.{eqb, ltb}
 use lib.ListN.{length, get_or, set, take, drop, length-set, length-append, length-drop, replicate, get_or-replicate}
-use lib.Seq.{get_or-set_same, get_or-set_other, get_or-take, drop-cons, length-take-le, take-suc-set, take_at}
+use lib.Seq.{get_or-set_same, get_or-set_other, drop-cons, length-take-le, take-suc-set, take_at}
 use borrow.Author.Tests.{eqb-true, eqb-false}
 use Rattle.std.specs.Prelude.{Option, Some, None, is_some}
 use Rattle.terms.specs.Rules.{at}

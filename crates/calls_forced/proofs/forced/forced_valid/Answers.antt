@@ -1,5 +1,4 @@
 -- `forced_valid` meets its contract: the marks are the forced locations (Forcing), and their set is counted (Bits).
-use Prim.Native.Nat.{◌<◌}
 use native.Mathlib.Omega.{arith}
 use mathlib.Core.Path.{◌≡◌, sym, ◌∙◌}
 use Rattle.std.proofs.Common.{rules}
@@ -19,11 +18,16 @@ marked-heard-requires c =
     let a = c.args in
     let v = c.requires in
     let st : State = record { c = a.c.now; n = a.n } in
-    let s = valid-script a.w.now st v in
-    (omega arith, (few-comps a.w.now st v, (
-      λ j h. let g = comp-held a.w.now st v j h in search (rules, s, g),
-      λ j k h q. let e : Some k ≡ ear_of a.w.now (comp_in a.c.now j) = search rules in ear-within a.w.now (comp_in a.c.now j) k s (comp-held a.w.now st v j h) (sym e),
-    )))
+    let s = valid-script a.w.now st v in (
+      omega arith,
+      (
+        few-comps a.w.now st v,
+        (
+          λ j h. let g = comp-held a.w.now st v j h in search (rules, s, g),
+          λ j k h q. let e : Some k ≡ ear_of a.w.now (comp_in a.c.now j) = search rules in ear-within a.w.now (comp_in a.c.now j) k s (comp-held a.w.now st v j h) (sym e),
+        ),
+      ),
+    )
 
 pub marked-marks-requires : goal.marked-marks-requires
 marked-marks-requires c =
@@ -31,11 +35,16 @@ marked-marks-requires c =
     let v = c.requires in
     let st : State = record { c = a.c.now; n = a.n } in
     let s = valid-script a.w.now st v in
-    let ys = c.marked-heard.result in
-    (omega arith, (few-comps a.w.now st v, (
-      λ j h. let g = comp-held a.w.now st v j h in search (rules, s, g),
-      λ j k h q. let e : Some k ≡ press_of a.w.now ys (comp_in a.c.now j) = search rules in press-within a.w.now ys (comp_in a.c.now j) k s (comp-held a.w.now st v j h) (sym e),
-    )))
+    let ys = c.marked-heard.result in (
+      omega arith,
+      (
+        few-comps a.w.now st v,
+        (
+          λ j h. let g = comp-held a.w.now st v j h in search (rules, s, g),
+          λ j k h q. let e : Some k ≡ press_of a.w.now ys (comp_in a.c.now j) = search rules in press-within a.w.now ys (comp_in a.c.now j) k s (comp-held a.w.now st v j h) (sym e),
+        ),
+      ),
+    )
 
 pub returns : goal.returns
 returns c =

@@ -1,7 +1,7 @@
 -- `marked` meets its contract. The loop's invariant: the marks are those of the components looked at.
 use Prim.Native.Nat.{◌+◌, ◌<◌}
 use native.Mathlib.Omega.{arith}
-use mathlib.Core.Path.{◌≡◌, sym, ap, subst, ◌∙◌}
+use mathlib.Core.Path.{sym, ap, subst, ◌∙◌}
 use lib.ListN.{length, take, length-set, length-replicate}
 use lib.Seq.{take_all}
 use Rattle.std.specs.Prelude.{Some, None, true, false}
