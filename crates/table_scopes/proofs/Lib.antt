@@ -1,1 +1,2 @@
 pub mod ValidScopes
+pub mod Searched

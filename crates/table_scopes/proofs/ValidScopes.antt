@@ -1,6 +1,6 @@
 -- Scopes as the words of a part have them: how long, what stands at a slot, when an inner process has the scope that it needs, and what comes after a part.
 -- By the eight words that hold a scope, of which the first n are in use.
-use Prim.Native.Nat.{ℕ, suc, ◌+◌, ◌≤◌, ◌<◌, ◌-◌}
+use Prim.Native.Nat.{ℕ, zero, suc, ◌+◌, ◌≤◌, ◌<◌, ◌-◌}
 use native.Mathlib.Omega.{arith}
 use mathlib.Core.List.{List, [], ◌∷◌, ◌++◌}
 use mathlib.Core.Bool.{Bool, true, false, ◌&&◌}
@@ -8,7 +8,7 @@ use mathlib.Core.Path.{◌≡◌, refl, ap, ◌∙◌, sym}
 use lib.Dec.{eqb, ltb}
 use lib.ListN.{length, get_or, take, length-append, length-map}
 use lib.Seq.{take-suc}
-use borrow.Author.Tests.{ltb-true, le-leb, lt-ltb, le-ltb, eqb-true, eqb-false}
+use borrow.Author.Tests.{ltb-true, ltb-false, le-leb, lt-ltb, le-ltb, eqb-true, eqb-false}
 use Rattle.terms.specs.Same.{every}
 use Rattle.terms.proofs.Names.{and-inv, and_in}
 use Rattle.table.specs.Words.{field, next_at, low_at, scope_at, count_field, locs_in, name_at, at_most8, own_at, names_at, slot_field}
@@ -158,6 +158,24 @@ pub inner-high : (w : List ℕ) (i p : ℕ) (os : List ℕ) → i ≤ p → inne
 unfolding inner_ok
 inner-high w i p os h = rw (le-ltb p i h)
 
+-- the whole test in one
+module _ (w : List ℕ) (i n : ℕ) (s : Scoped w i n) where
+  pub bound-all : (p k : ℕ) → n ≤ k
+      → inner_ok w i p (entered w i k) ≡ (((ltb p i && eqb (at_most8 (field w p count_field)) (n + 1)) && eqb (field w p (slot_field + n)) (own_at i)) && alike (take n (slots w p)) (take n (slots w i)))
+  bound-all p k h = go (ltb p i) (eqb (at_most8 (field w p count_field)) (n + 1)) refl refl
+    where
+      turn : (a b : Bool) → (a && b) ≡ (b && a)
+      turn true true = refl
+      turn true false = refl
+      turn false true = refl
+      turn false false = refl
+
+      go : (x y : Bool) → ltb p i ≡ x → eqb (at_most8 (field w p count_field)) (n + 1) ≡ y
+          → inner_ok w i p (entered w i k) ≡ (((x && y) && eqb (field w p (slot_field + n)) (own_at i)) && alike (take n (slots w p)) (take n (slots w i)))
+      go false y e f = inner-high w i p (entered w i k) (ltb-false p i e)
+      go true false e f = bound-uneven w i n s p k h (eqb-false _ _ f)
+      go true true e f = bound-is w i n s p k h (ltb-true p i e) (eqb-true _ _ f) ∙ turn (alike (take n (slots w p)) (take n (slots w i))) (eqb (field w p (slot_field + n)) (own_at i))
+
 -- ── a value's word ──
 pub ref-location : (w : List ℕ) (ys : List Name) (v : ℕ) → v < 64 → ref_ok w ys v ≡ ltb v (locs_in w)
 unfolding ref_ok
@@ -177,6 +195,38 @@ module _ (w : List ℕ) (i f : ℕ) where
   unfolding end_ok next_ok low_ok
   end-next j e = rw e
 
+  pub end-more : (next_at w i ≡ 0 → ⊥)
+      → end_ok w i f ≡ ((eqb (next_at w i) f && inner_ok w i (next_at w i - 1) (scope_at w i)) && eqb (low_at w i) (low_at w (next_at w i - 1)))
+  end-more h = go (next_at w i) refl h
+    where
+      swap : (a b c : Bool) → (a && (b && c)) ≡ ((b && a) && c)
+      swap true true c = refl
+      swap true false c = refl
+      swap false true c = refl
+      swap false false c = refl
+
+      go : (x : ℕ) → next_at w i ≡ x → (x ≡ 0 → ⊥) → end_ok w i f ≡ ((eqb x f && inner_ok w i (x - 1) (scope_at w i)) && eqb (low_at w i) (low_at w (x - 1)))
+      go zero e z = absurd (z refl)
+      go (suc j) e z =
+          let d : suc j - 1 ≡ j = omega arith in
+          rw d (end-next j e ∙ swap (inner_ok w i j (scope_at w i)) (eqb (suc j) f) (eqb (low_at w i) (low_at w j)))
+
 pub inner_below : (w : List ℕ) (i p : ℕ) (os : List ℕ) → inner_ok w i p os ≡ true → p < i
 unfolding inner_ok
 inner_below w i p os e = ltb-true p i (and-inv (ltb p i) (alike (scope_at w p) os) e).0
+
+-- ── for the check to find ──
+pub ruleset value_laws = (ref-location, ref-variable)
+
+pub ruleset inner_laws = (inner-high, inner-uneven, inner-is)
+
+pub entered-law : (w : List ℕ) (i k : ℕ) → i < 4_096 → field w i count_field ≤ 8 → k < field w i count_field → entered w i k ≡ scope_at w i
+entered-law w i k h c b = entered-found w i (field w i count_field) (record { place = h; count = refl; small = c }) k b
+
+pub bound-law : (w : List ℕ) (i p k : ℕ) → i < 4_096 → field w i count_field ≤ 8 → field w i count_field ≤ k
+    → inner_ok w i p (entered w i k) ≡ (((ltb p i && eqb (at_most8 (field w p count_field)) (field w i count_field + 1)) && eqb (field w p (slot_field + field w i count_field)) (own_at i)) && alike (take (field w i count_field) (slots w p)) (take (field w i count_field) (slots w i)))
+bound-law w i p k h c b = bound-all w i (field w i count_field) (record { place = h; count = refl; small = c }) p k b
+
+pub ruleset bound_laws = (entered-law, bound-law)
+
+pub ruleset end_laws = (end-last, end-more, inner_below)

@@ -3,6 +3,7 @@
 //   src/lib             the names in a scope, the values that it allows, and that an inner process has the scope that it needs
 //   specs/Tests         what the contracts of internal functions cite
 //   proofs/ValidScopes  scopes as the words of a part have them, and what comes after a part
+//   proofs/Searched     what a test of each number of a range has shown
 #![tactic(auto)]
 
 ghost use Rattle.std.specs.Prelude.{◌≡◌, ◌<◌, ◌≤◌, ltb, take};
@@ -19,13 +20,11 @@ use table_names::forms::is_name_at;
 
 // ── scopes ──
 
+#[tactic(auto, using(std::proofs::lemmas::Bool::Decides::nat_tests))]
 pub fn at_most_8(x: u32) -> usize
     ensures { result ≡ at_most8 x }
 {
-    if x <= 8 {
-        return wide(x);
-    }
-    8
+    wide(x.min(8))
 }
 
 // Are the first n words of the scopes of p and i the same?
@@ -33,14 +32,7 @@ fn same_slots(w: &Script, p: usize, i: usize, n: usize) -> bool
     requires { (p < 4096) × (i < 4096) × (n ≤ 8) }
     ensures { result ≡ alike (take n (slots w.now p)) (take n (slots w.now i)) }
 {
-    let mut k = 0;
-    while k < n {
-        if field(w, p, SLOT_FIELD + k) != field(w, i, SLOT_FIELD + k) {
-            return false;
-        }
-        k += 1;
-    }
-    true
+    (0..n).all(|k| field(w, p, SLOT_FIELD + k) == field(w, i, SLOT_FIELD + k))
 }
 
 // The first slot of a name.
@@ -48,27 +40,19 @@ pub fn find_slot(w: &Script, i: usize, n: usize, x: Key) -> usize
     requires { Scoped w.now i n }
     ensures { result ≡ index (names_at w.now i) (key_name x) }
 {
-    let mut k = 0;
-    while k < n {
-        if is_named(w, wide(field(w, i, SLOT_FIELD + k)), x) {
-            return k;
-        }
-        k += 1;
-    }
-    n
+    (0..n)
+        .find(|k| is_named(w, wide(field(w, i, SLOT_FIELD + *k)), x))
+        .unwrap_or(n)
 }
 
 // Has the name at a slot the form of a variable, and is it the first of its name?
+#[tactic(auto, unfolding(crate::specs::Tests::slot_named, terms::specs::Letters::is_small))]
 fn slot_named(w: &Script, i: usize, n: usize, k: usize) -> bool
     requires { Scoped w.now i n × (k < n) }
     ensures { result ≡ slot_named w.now i k }
 {
     let o = wide(field(w, i, SLOT_FIELD + k));
-    if !is_name_at(Sort::Small, w, o) {
-        return false;
-    }
-    let x = key_at(w, o);
-    find_slot(w, i, n, x) == k
+    is_name_at(Sort::Small, w, o) && find_slot(w, i, n, key_at(w, o)) == k
 }
 
 // Have the names of the scope their form, and do they differ?
@@ -76,14 +60,7 @@ pub fn scope_named(w: &Script, i: usize, n: usize) -> bool
     requires { Scoped w.now i n }
     ensures { result ≡ scope_named w.now i }
 {
-    let mut k = 0;
-    while k < n {
-        if !slot_named(w, i, n, k) {
-            return false;
-        }
-        k += 1;
-    }
-    true
+    (0..n).all(|k| slot_named(w, i, n, k))
 }
 
 // Do the names of the scope stand in the script?
@@ -91,76 +68,56 @@ pub fn slots_in(w: &Script, i: usize, n: usize) -> bool
     requires { Scoped w.now i n }
     ensures { result ≡ every (λ o. ltb o last_name) (scope_at w.now i) }
 {
-    let mut k = 0;
-    while k < n {
-        if LAST_NAME <= field(w, i, SLOT_FIELD + k) {
-            return false;
-        }
-        k += 1;
-    }
-    true
+    (0..n).all(|k| field(w, i, SLOT_FIELD + k) < LAST_NAME)
 }
 
 fn slot_ok(w: &Script, i: usize, n: usize, k: usize) -> bool
     requires { Scoped w.now i n }
     ensures { result ≡ slot_ok (names_at w.now i) k }
 {
-    if n <= k {
-        return false;
-    }
-    let x = key_at(w, wide(field(w, i, SLOT_FIELD + k)));
-    find_slot(w, i, n, x) == k
+    k < n && find_slot(w, i, n, key_at(w, wide(field(w, i, SLOT_FIELD + k)))) == k
 }
 
+#[tactic(auto, using(crate::proofs::ValidScopes::value_laws, std::proofs::lemmas::Bool::Decides::nat_tests))]
 pub fn ref_ok(w: &Script, i: usize, n: usize, v: u32) -> bool
     requires { Scoped w.now i n }
     ensures { result ≡ ref_ok w.now (names_at w.now i) v }
 {
     if v < 64 {
-        let l = word(w, 1);
-        return v < l;
+        v < word(w, 1)
+    } else {
+        slot_ok(w, i, n, wide(v - 64))
     }
-    slot_ok(w, i, n, wide(v - 64))
 }
 
 // ── places ──
 
+#[tactic(auto, using(crate::proofs::ValidScopes::inner_laws, std::proofs::lemmas::Bool::Decides::nat_tests))]
 pub fn inner_ok(w: &Script, i: usize, n: usize, p: usize) -> bool
     requires { Scoped w.now i n }
     ensures { result ≡ inner_ok w.now i p (scope_at w.now i) }
 {
-    if i <= p {
-        return false;
-    }
-    let m = at_most_8(field(w, p, COUNT_FIELD));
-    if m != n {
-        return false;
-    }
-    same_slots(w, p, i, n)
+    p < i && at_most_8(field(w, p, COUNT_FIELD)) == n && same_slots(w, p, i, n)
 }
 
 // The same of the P of an input whose name has the slot k.
+#[tactic(auto, using(crate::proofs::ValidScopes::bound_laws, std::proofs::lemmas::Bool::Decides::nat_tests), unfolding(table::specs::Words::own_at))]
 pub fn bound_ok(w: &Script, i: usize, n: usize, p: usize, k: u32) -> bool
     requires { Scoped w.now i n }
     ensures { result ≡ inner_ok w.now i p (entered w.now i k) }
 {
     if wide(k) < n {
-        return inner_ok(w, i, n, p);
+        inner_ok(w, i, n, p)
+    } else {
+        p < i
+            && at_most_8(field(w, p, COUNT_FIELD)) == n + 1
+            && wide(field(w, p, SLOT_FIELD + n)) == OWNS + i * ROW_SIZE
+            && same_slots(w, p, i, n)
     }
-    if p >= i {
-        return false;
-    }
-    let m = at_most_8(field(w, p, COUNT_FIELD));
-    if m != n + 1 {
-        return false;
-    }
-    if wide(field(w, p, SLOT_FIELD + n)) != OWNS + i * ROW_SIZE {
-        return false;
-    }
-    same_slots(w, p, i, n)
 }
 
 // The next part, and the least place of the process.
+#[tactic(auto, using(crate::proofs::ValidScopes::end_laws, std::proofs::lemmas::Bool::Decides::nat_tests))]
 pub fn end_ok(w: &Script, i: usize, n: usize, f: usize) -> bool
     requires { Scoped w.now i n }
     ensures { result ≡ end_ok w.now i f }
@@ -168,15 +125,8 @@ pub fn end_ok(w: &Script, i: usize, n: usize, f: usize) -> bool
     let x = wide(next_at(w, i));
     let low = wide(low_at(w, i));
     if x == 0 {
-        return low == f;
+        low == f
+    } else {
+        x == f && inner_ok(w, i, n, x - 1) && low == wide(low_at(w, x - 1))
     }
-    if x != f {
-        return false;
-    }
-    let j = x - 1;
-    if !inner_ok(w, i, n, j) {
-        return false;
-    }
-    let b = wide(low_at(w, j));
-    low == b
 }

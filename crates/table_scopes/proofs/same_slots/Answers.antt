@@ -1,38 +1,24 @@
 -- The words of the two scopes are compared one by one.
--- By the invariant that all words passed are the same.
+-- By what the library says of `all` over a range.
+use Prim.Native.Nat.{◌+◌}
 use native.Mathlib.Omega.{arith}
-use mathlib.Core.Path.{sym, ◌∙◌}
-use borrow.Author.Count.{below_none, below_more}
+use mathlib.Core.Path.{refl}
+use Rattle.std.proofs.Common.{rules}
+use Rattle.std.proofs.lemmas.Iterator.{YieldsList-from_range}
+use Rattle.std.proofs.lemmas.Iterator.Search.{all_from_yields_List}
+use borrow.Author.Tests.{tests}
+use lib.Dec.{eqb}
+use borrow.Author.Tests.{eqb-true, eqb-false}
+use Rattle.table.specs.Words.{field, slot_field}
+use Rattle.table_scopes.proofs.Searched.{all-decides}
 use Rattle.table_scopes.proofs.ValidScopes.{slots-alike, slots-differ}
 use Rattle.table_scopes.proofs.same_slots.Goals as goal
-
-pub loop-k-init : goal.loop-k-init
-loop-k-init c = (omega arith, below_none _)
-
-pub overflow_add-k : goal.overflow_add-k
-overflow_add-k c = omega arith
-
-pub overflow_add-k-in-loop-k : goal.overflow_add-k-in-loop-k
-overflow_add-k-in-loop-k c = omega arith
-
-pub returns-then-field : goal.returns-then-field
-returns-then-field c =
-    let a = c.args in
-    let l = c.loop-k in
-    sym (slots-differ a.w.now a.p a.i a.n l.k (omega arith) (omega arith) (λ e. c.if-field.true (c.field.ensures ∙ e ∙ sym c.field-in-loop-k.ensures)))
-
-pub overflow_add-k-in-loop-k-2 : goal.overflow_add-k-in-loop-k-2
-overflow_add-k-in-loop-k-2 c = omega arith
-
-pub loop-k-smaller : goal.loop-k-smaller
-loop-k-smaller c = omega arith
-
-pub loop-k-preserved : goal.loop-k-preserved
-loop-k-preserved c =
-    let l = c.loop-k in
-    (omega arith, below_more _ _ l.invariant.1 (sym c.field.ensures ∙ c.if-field.false ∙ c.field-in-loop-k.ensures))
 
 pub returns : goal.returns
 returns c =
     let a = c.args in
-    sym (slots-alike a.w.now a.p a.i a.n (omega arith) (λ k b. c.loop-k.invariant.1 k (omega arith)))
+    let w = a.w.now in
+    all-decides (λ k. eqb (field w a.p (slot_field + k)) (field w a.i (slot_field + k))) a.n _ _
+    (all_from_yields_List (λ k. eqb (field w a.p (slot_field + k)) (field w a.i (slot_field + k))) _ _ _ c.all.ensures.ran (YieldsList-from_range 0 a.n a.n refl (omega arith)) (λ x b q k. search (rules, tests)))
+    (λ h. slots-alike w a.p a.i a.n (omega arith) (λ k b. eqb-true _ _ (h k b)))
+    (λ k b e. slots-differ w a.p a.i a.n k (omega arith) b (eqb-false _ _ e))

@@ -1,33 +1,20 @@
--- Each name of the scope is tested, from the first on.
--- By the invariant that all names passed have their form and are the first of their name.
+-- Each name of the scope is tested.
+-- By what the library says of `all` over a range.
 use native.Mathlib.Omega.{arith}
-use mathlib.Core.Path.{sym}
-use borrow.Author.Count.{below_none, below_more}
-use Rattle.table.proofs.ValidBool.{failed, passed}
+use mathlib.Core.Path.{refl}
+use Rattle.std.proofs.Common.{rules}
+use Rattle.std.proofs.lemmas.Iterator.{YieldsList-from_range}
+use Rattle.std.proofs.lemmas.Iterator.Search.{all_from_yields_List}
+use borrow.Author.Tests.{tests}
+use Rattle.table_scopes.specs.Tests.{slot_named}
+use Rattle.table_scopes.proofs.Searched.{all-decides}
 use Rattle.table_scopes.proofs.ValidScopes.{slots-named, slots-unnamed}
 use Rattle.table_scopes.proofs.scope_named.Goals as goal
-
-pub loop-k-init : goal.loop-k-init
-loop-k-init c = (omega arith, below_none _)
-
-pub returns-then-not-slot_named : goal.returns-then-not-slot_named
-returns-then-not-slot_named c =
-    let a = c.args in
-    let l = c.loop-k in
-    sym (slots-unnamed a.w.now a.i a.n c.requires l.k (omega arith) (failed c.if-not-slot_named.true c.slot_named.ensures))
-
-pub overflow_add-k : goal.overflow_add-k
-overflow_add-k c = omega (arith, c.requires.small)
-
-pub loop-k-smaller : goal.loop-k-smaller
-loop-k-smaller c = omega arith
-
-pub loop-k-preserved : goal.loop-k-preserved
-loop-k-preserved c =
-    let l = c.loop-k in
-    (omega arith, below_more _ _ l.invariant.1 (passed c.if-not-slot_named.false c.slot_named.ensures))
 
 pub returns : goal.returns
 returns c =
     let a = c.args in
-    sym (slots-named a.w.now a.i a.n c.requires (λ k b. c.loop-k.invariant.1 k (omega arith)))
+    let w = a.w.now in
+    all-decides (slot_named w a.i) a.n _ _
+    (all_from_yields_List (slot_named w a.i) _ _ _ c.all.ensures.ran (YieldsList-from_range 0 a.n a.n refl (omega arith)) (λ x b q k. search (rules, tests)))
+    (slots-named w a.i a.n c.requires) (slots-unnamed w a.i a.n c.requires)

@@ -1,40 +1,23 @@
--- Each word of the scope is tested, from the first on.
--- By the invariant that all words passed are in range.
+-- Each word of the scope is tested.
+-- By what the library says of `all` over a range.
 use Prim.Native.Nat.{◌+◌}
 use native.Mathlib.Omega.{arith}
-use mathlib.Core.Path.{sym}
+use mathlib.Core.Path.{refl}
+use Rattle.std.proofs.Common.{rules}
+use Rattle.std.proofs.lemmas.Iterator.{YieldsList-from_range}
+use Rattle.std.proofs.lemmas.Iterator.Search.{all_from_yields_List}
+use borrow.Author.Tests.{tests}
 use lib.Dec.{ltb}
-use borrow.Author.Count.{below_none, below_more}
-use borrow.Author.Tests.{lt-ltb, le-ltb}
-use Rattle.table.specs.Words.{last_name, field, slot_field}
+use Rattle.table.specs.Words.{field, slot_field, last_name}
+use Rattle.table_scopes.proofs.Searched.{all-decides}
 use Rattle.table_scopes.proofs.ValidScopes.{scope-every, scope-miss}
 use Rattle.table_scopes.proofs.slots_in.Goals as goal
-
-pub loop-k-init : goal.loop-k-init
-loop-k-init c = (omega arith, below_none _)
-
-pub overflow_add-k : goal.overflow_add-k
-overflow_add-k c = omega (arith, c.requires.small)
-
-pub returns-then-field-ge-LAST_NAME : goal.returns-then-field-ge-LAST_NAME
-returns-then-field-ge-LAST_NAME c =
-    let a = c.args in
-    let l = c.loop-k in
-    sym (scope-miss a.w.now a.i a.n c.requires (λ o. ltb o last_name) l.k (omega arith) (le-ltb (field a.w.now a.i (slot_field + l.k)) last_name (omega (arith, c.field.ensures))))
-
-pub overflow_add-k-in-loop-k : goal.overflow_add-k-in-loop-k
-overflow_add-k-in-loop-k c = omega arith
-
-pub loop-k-smaller : goal.loop-k-smaller
-loop-k-smaller c = omega arith
-
-pub loop-k-preserved : goal.loop-k-preserved
-loop-k-preserved c =
-    let a = c.args in
-    let l = c.loop-k in
-    (omega arith, below_more _ _ l.invariant.1 (lt-ltb (field a.w.now a.i (slot_field + l.k)) last_name (omega (arith, c.field.ensures))))
 
 pub returns : goal.returns
 returns c =
     let a = c.args in
-    sym (scope-every a.w.now a.i a.n c.requires (λ o. ltb o last_name) (λ k b. c.loop-k.invariant.1 k (omega arith)))
+    let w = a.w.now in
+    all-decides (λ k. ltb (field w a.i (slot_field + k)) last_name) a.n _ _
+    (all_from_yields_List (λ k. ltb (field w a.i (slot_field + k)) last_name) _ _ _ c.all.ensures.ran (YieldsList-from_range 0 a.n a.n refl (omega arith)) (λ x b q k. search (rules, tests)))
+    (λ h. scope-every w a.i a.n c.requires (λ o. ltb o last_name) h)
+    (λ k b e. scope-miss w a.i a.n c.requires (λ o. ltb o last_name) k b e)
