@@ -4,7 +4,7 @@
 //   fire          one component, two components
 //   rights        the right that an action needs
 //
-//   proofs/Heads  what question 17 gives the functions of `fire`, and what is so with and without rights
+//   proofs/Heads  what question 17 gives the functions of `fire`, and what an action makes of its components by its questions in turn
 #![tactic(auto)]
 
 pub mod fire;
@@ -23,10 +23,9 @@ pub struct Label {
     pub at: u32,
 }
 
-// What an action makes of one component: code 0, or the number of the question answered by no.
+// What an action makes of one component.
 #[derive(Clone, Copy)]
 pub struct Fired {
-    pub code: u32,
     pub label: Label,
     pub comp: Comp,
 }
@@ -34,7 +33,6 @@ pub struct Fired {
 // What a communication makes of an output and an input.
 #[derive(Clone, Copy)]
 pub struct Met {
-    pub code: u32,
     pub label: Label,
     pub sender: Comp,
     pub receiver: Comp,

@@ -12,13 +12,11 @@ use table_rights::{may_leave, may_meet};
 pub(crate) fn granted(w: &Script, x: Label) -> bool
     ensures { result ≡ granted_at w.now (tag_of x) }
 {
-    if x.kind == 1 {
-        return true;
+    match x.kind {
+        1 => true,
+        2 => may_leave(w, x.at, x.a),
+        _ => may_meet(w, x.at, x.a),
     }
-    if x.kind == 2 {
-        return may_leave(w, x.at, x.a);
-    }
-    may_meet(w, x.at, x.a)
 }
 
 // Has the action that c, a component with the head h, has to perform its right?
@@ -26,14 +24,11 @@ pub fn right_in(w: &Script, c: Comp, h: Head) -> bool
     ensures { result ≡ right_in w.now c h }
 {
     match h {
-        Head::Stop => true,
         Head::Go(_, v, _) => {
-            let vals = c.vals;
-            let x = value_in(vals, v);
+            let x = value_in(c.vals, v);
             may_leave(w, c.loc, x)
         }
         Head::Out(d, _, _, _, _) => may_meet(w, c.loc, d),
-        Head::In(_, _, _, _, _) => true,
-        Head::Call(_, _) => true,
+        Head::Stop | Head::In(_, _, _, _, _) | Head::Call(_, _) => true,
     }
 }

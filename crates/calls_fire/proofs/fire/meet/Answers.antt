@@ -1,35 +1,24 @@
--- `meet` meets its contract: only an output meets, and what it meets is looked at by `meets_input`.
+-- `meet` meets its contract: only an output and an input meet, on one channel at one location.
 use mathlib.Core.Path.{sym, ap, ◌∙◌}
-use Rattle.table.specs.Fire.{meet_at}
-use Rattle.calls_fire.specs.Fired.{two_of}
-use Rattle.calls_fire.proofs.Heads.{meet-out}
+use Rattle.table.specs.Fire.{meet_at, handed}
+use Rattle.calls_fire.proofs.Heads.{no-out, no-in, meet-apart, meet-here}
 use Rattle.calls_fire.proofs.fire.meet.Goals as goal
 
-pub returns-in-Out : goal.returns-in-Out
-returns-in-Out c =
-    let a = c.args in
-    (rw c.value_in-x.ensures at c.meets_input.ensures) ∙ meet-out a.c a.e c.in-Out.d c.in-Out.field-1 c.in-Out.v c.in-Out.p c.in-Out.field-4 a.g ∙ sym (ap (λ z. meet_at a.c a.e z a.g) c.in-Out.is)
+pub returns-in_default : goal.returns-in_default
+returns-in_default c = let a = c.args in no-out a.c a.e a.h a.g c.in_default.not-Out
 
-pub returns-in-Stop : goal.returns-in-Stop
-unfolding two_of meet_at
-returns-in-Stop c =
+pub returns-in_default-g : goal.returns-in_default-g
+returns-in_default-g c =
     let a = c.args in
-    rw c.not_met.ensures (sym (ap (λ h. meet_at a.c a.e h a.g) c.in-Stop.is))
+    no-in a.c a.e _ _ _ _ _ a.g c.in_default-g.not-In ∙ sym (ap (λ h. meet_at a.c a.e h a.g) c.in-Out.is)
 
-pub returns-in-Go : goal.returns-in-Go
-unfolding two_of meet_at
-returns-in-Go c =
+pub returns-then-d-d2 : goal.returns-then-d-d2
+returns-then-d-d2 c =
     let a = c.args in
-    rw c.not_met-in-Go.ensures (sym (ap (λ h. meet_at a.c a.e h a.g) c.in-Go.is))
+    rw (c.in-Out.is, c.in-In.is) (meet-apart a.c a.e _ _ _ _ _ _ _ _ _ _ c.then-d-d2.either)
 
-pub returns-in-In : goal.returns-in-In
-unfolding two_of meet_at
-returns-in-In c =
+pub returns : goal.returns
+unfolding handed
+returns c =
     let a = c.args in
-    rw c.not_met-in-In.ensures (sym (ap (λ h. meet_at a.c a.e h a.g) c.in-In.is))
-
-pub returns-in-Call : goal.returns-in-Call
-unfolding two_of meet_at
-returns-in-Call c =
-    let a = c.args in
-    rw c.not_met-in-Call.ensures (sym (ap (λ h. meet_at a.c a.e h a.g) c.in-Call.is))
+    rw (c.received.ensures, c.left.ensures, c.value_in-x.ensures, c.in-Out.is, c.in-In.is) (meet-here a.c a.e _ _ _ _ _ _ _ _ _ _ c.if-d-d2.false c.if-l-l2.false)

@@ -1,16 +1,19 @@
 -- `granted` meets its contract: by the kind of the label.
-use borrow.Author.Tests.{eq-eqb, ne_eqb}
+use native.Mathlib.Omega.{arith}
+use borrow.Author.Tests.{ne_eqb}
 use Rattle.table.specs.Fire.{granted_at}
 use Rattle.calls_fire.proofs.rights.granted.Goals as goal
 
-pub returns-then-x-eq1 : goal.returns-then-x-eq1
+pub returns-in-1 : goal.returns-in-1
 unfolding granted_at
-returns-then-x-eq1 c = rw (eq-eqb _ _ c.if-x-eq1.true)
+returns-in-1 c = rw c.in-1.is
 
-pub returns-then-x-eq2 : goal.returns-then-x-eq2
+pub returns-in-2 : goal.returns-in-2
 unfolding granted_at
-returns-then-x-eq2 c = rw (c.may_leave.ensures, ne_eqb _ _ c.if-x-eq1.false, eq-eqb _ _ c.if-x-eq2.true)
+returns-in-2 c = rw (c.may_leave.ensures, c.in-2.is)
 
-pub returns : goal.returns
+pub returns-in_default : goal.returns-in_default
 unfolding granted_at
-returns c = rw (c.may_meet.ensures, ne_eqb _ _ c.if-x-eq1.false, ne_eqb _ _ c.if-x-eq2.false)
+returns-in_default c =
+    let k = c.args.x.kind in
+    rw (c.may_meet.ensures, ne_eqb k 1 (λ e. omega arith), ne_eqb k 2 (λ e. omega arith))

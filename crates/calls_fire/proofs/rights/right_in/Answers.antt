@@ -1,11 +1,8 @@
 -- `right_in` meets its contract: in each arm the head is known.
 use mathlib.Core.Path.{sym, ap}
 use Rattle.table.specs.Fire.{right_in}
+use Rattle.calls_fire.proofs.Heads.{needs-none}
 use Rattle.calls_fire.proofs.rights.right_in.Goals as goal
-
-pub returns-in-Stop : goal.returns-in-Stop
-unfolding right_in
-returns-in-Stop c = let a = c.args in sym (ap (right_in a.w.now a.c) c.in-Stop.is)
 
 pub returns-in-Go : goal.returns-in-Go
 unfolding right_in
@@ -19,10 +16,5 @@ returns-in-Out c =
     let a = c.args in
     rw c.may_meet.ensures (sym (ap (right_in a.w.now a.c) c.in-Out.is))
 
-pub returns-in-In : goal.returns-in-In
-unfolding right_in
-returns-in-In c = let a = c.args in sym (ap (right_in a.w.now a.c) c.in-In.is)
-
-pub returns-in-Call : goal.returns-in-Call
-unfolding right_in
-returns-in-Call c = let a = c.args in sym (ap (right_in a.w.now a.c) c.in-Call.is)
+pub returns-in-Stop : goal.returns-in-Stop
+returns-in-Stop c = needs-none c.args.w.now c.args.c c.args.h c.in-Stop.is

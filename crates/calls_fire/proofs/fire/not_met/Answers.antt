@@ -1,5 +1,0 @@
--- `not_met` meets its contract.
-use Rattle.calls_fire.proofs.fire.not_met.Goals as goal
-
-pub returns : goal.returns
-returns c = rw c.no_label.ensures
