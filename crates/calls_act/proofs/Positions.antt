@@ -4,12 +4,13 @@ use Prim.Native.Nat.{ℕ, zero, suc, ◌+◌, ◌*◌, ◌<◌, ◌≤◌}
 use native.Mathlib.Omega.{arith}
 use native.Mathlib.Numerals.{add-one}
 use mathlib.Core.List.{List, [], ◌∷◌, map}
-use mathlib.Core.Bool.{Bool, true, false, cond, ◌&&◌}
+use mathlib.Core.Bool.{Bool, true, false, cond}
+use mathlib.Core.Logic.{◌⊎◌, inl, inr}
 use mathlib.Core.Path.{◌≡◌, refl, sym, ap, ap₂, subst, ◌∙◌}
-use lib.Dec.{eqb, ltb}
+use lib.Dec.{ltb}
 use lib.ListN.{length, get_or}
 use lib.Seq.{length-sets}
-use borrow.Author.Tests.{ltb-true}
+use borrow.Author.Tests.{ltb-true, lt-ltb, le-ltb}
 use Rattle.terms.specs.Rules.{Answer, Kind, Action, ◌>>=◌, at, set_all, positions}
 use Rattle.terms.specs.Rules as R
 use Rattle.terms.specs.Rules.Answer.{refused, accepted}
@@ -30,8 +31,8 @@ use Rattle.table.proofs.Kept.{ok_a, good_left, good_acted, alone-kept, together-
 use Rattle.calls_fire.specs.declared.Fired.{Fired}
 use Rattle.calls_fire.specs.declared.Met.{Met}
 use Rattle.calls_act.specs.declared.Acted.{Acted}
-use Rattle.calls_fire.specs.Fired.{tag_of, one_of, two_of}
-use Rattle.calls_act.specs.Acted.{asked, refusal, after, Took, ActsAs, Leaves, LeavesAs, limited, settled, put_at, put_one, met_code, put_two}
+use Rattle.calls_fire.specs.Fired.{left_one, left_two}
+use Rattle.calls_act.specs.Acted.{asked, after, Took, ActsAs, Leaves, LeavesAs, limited, put_at}
 use Rattle.table.proofs.InUse.{comps-length, in_use, valid-script, valid-state, comp-held, LedgerFine, valid-ledger, ledger-same, is-valid}
 use Rattle.table.proofs.Tags.{GoodTag, ActedTag, act-tagged}
 use Rattle.table.proofs.Stores.{comps-put, past-put, past-then, past-total, past-count}
@@ -133,43 +134,75 @@ acts-as w st a r cs e l =
     go (accepted b) o g t l = counted-or-not b o g t (countable (a ∷ []) (count_in st.c)) refl l
 
 -- ── what the code leaves ──
-abbrev placed : List ℕ → List Comp → Answer Left → Answer ActedAt
-placed ps cs x = x >>= λ f. accepted (record { tag = f.tag; comps = set_all ps f.after cs })
+-- a refusal of the component at p, or of those at p and q
+pub one_refused : (w : List ℕ) (st : State) (k : Kind) (p n : ℕ) → p < st.n → refused n ≡ alone_at w k (comp_in st.c p) → limited st (single k p) (act_on w (single k p) (comps_of st)) ≡ refused n
+unfolding act_on left_by limited
+one_refused w st k p n h e = let z : at (comps_of st) p ≡ accepted (comp_in st.c p) = at-in-use st p h in rw (z, ← e)
+
+pub two-refused : (w : List ℕ) (st : State) (p q n : ℕ) → p < st.n → q < st.n → refused n ≡ together_at w (comp_in st.c p) (comp_in st.c q) → limited st (pair p q) (act_on w (pair p q) (comps_of st)) ≡ refused n
+unfolding act_on left_by limited
+two-refused w st p q n h k e =
+    let z : at (comps_of st) p ≡ accepted (comp_in st.c p) = at-in-use st p h in
+    let y : at (comps_of st) q ≡ accepted (comp_in st.c q) = at-in-use st q k in
+    rw (z, y, ← e)
+
+-- question 18 of a communication
+pub two-full : (w : List ℕ) (st : State) (p q : ℕ) (f : Left) → p < st.n → q < st.n → accepted f ≡ together_at w (comp_in st.c p) (comp_in st.c q) → 1_000_000 ≤ count_in st.c → limited st (pair p q) (act_on w (pair p q) (comps_of st)) ≡ refused 18
+unfolding act_on left_by limited countable
+two-full w st p q f h k e m =
+    let z : at (comps_of st) p ≡ accepted (comp_in st.c p) = at-in-use st p h in
+    let y : at (comps_of st) q ≡ accepted (comp_in st.c q) = at-in-use st q k in
+    rw (z, y, ← e, le-ltb (count_in st.c) 1_000_000 m)
 
 -- a call or a move: question 18 does not stand in its way
-put-left : (w : List ℕ) (st : State) (k : Kind) (p : ℕ) (f : Fired) (x : Answer Left) → one_of f ≡ x → p < st.n → (st.n ≤ 256) → length st.c ≡ state_words → ok_a (good_left w) (one_of f) ≡ true
-    → LeavesAs st (single k p) (limited st (single k p) (placed (p ∷ []) (comps_of st) x)) (settled f.code f.label) (put_one st.c p f)
-unfolding one_of set_all every limited countable
-put-left w st k p f x e h n l v = subst (λ x. LeavesAs st (single k p) (limited st (single k p) (placed (p ∷ []) (comps_of st) x)) (settled f.code f.label) (put_one st.c p f)) e (go (eqb f.code 0) v)
+pub one_left : (w : List ℕ) (st : State) (k : Kind) (p : ℕ) (f : Fired) → valid w st ≡ true → length st.c ≡ state_words → p < st.n → accepted (left_one f) ≡ alone_at w k (comp_in st.c p)
+    → LeavesAs st (single k p) (limited st (single k p) (act_on w (single k p) (comps_of st))) (record { code = 0; label = f.label }) (put_at st.c p f.comp)
+unfolding act_on left_by positions set_all every limited countable
+one_left w st k p f v l h e =
+    let z : at (comps_of st) p ≡ accepted (comp_in st.c p) = at-in-use st p h in
+    rw (z, ← e) (unfold act_tally tally_of in
+    record {
+      code = refl;
+      tag = refl;
+      comps = comps-put st p f.comp h (few-comps w st v) l (comp-fine w f.comp (and-inv (comp_ok w f.comp) _ good).0).slots;
+      total = past-total (few-comps w st v) kept;
+      count = past-count (few-comps w st v) kept;
+      past = past-others (few-comps w st v) kept;
+    })
   where
-    now : List ℕ
-    now = put_at st.c p f.comp
+    good : every (comp_ok w) (f.comp ∷ []) ≡ true
+    good = subst (λ x. ok_a (good_left w) x ≡ true) (sym e) (alone-kept w (valid-parts w st v).0 k (comp_in st.c p) (comp-fine w _ (comp-good w st v p h)))
 
-    kept : PastKept st.n st.c now
+    kept : PastKept st.n st.c (put_at st.c p f.comp)
     kept = past-put st.c st.n p f.comp h
 
-    go : (b : Bool) → ok_a (good_left w) (cond b (accepted (record { tag = tag_of f.label; after = f.comp ∷ [] })) (refused f.code)) ≡ true
-        → LeavesAs st (single k p) (limited st (single k p) (placed (p ∷ []) (comps_of st) (cond b (accepted (record { tag = tag_of f.label; after = f.comp ∷ [] })) (refused f.code))))
-        (cond b (record { code = 0; label = f.label }) (refusal f.code)) (cond b (put_at st.c p f.comp) st.c)
-    go true g = unfold act_tally tally_of in
-        record {
-          code = refl;
-          tag = refl;
-          comps = comps-put st p f.comp h n l (comp-fine w f.comp (and-inv (comp_ok w f.comp) _ g).0).slots;
-          total = past-total n kept;
-          count = past-count n kept;
-          past = past-others n kept;
-        }
-    go false g = (refl, refl)
-
 -- a communication whose sender had waited as long as the component at p
-put-two : (w : List ℕ) (st : State) (p q : ℕ) (m : Met) (x : Answer Left) → two_of m ≡ x → p < st.n → q < st.n → st.n ≤ 256 → length st.c ≡ state_words → ok_a (good_left w) (two_of m) ≡ true
-    → LeavesAs st (pair p q) (limited st (pair p q) (placed (p ∷ q ∷ []) (comps_of st) x)) (settled (met_code st.c m) m.label) (put_two st.c p q (comp_in st.c p).wait m)
-unfolding two_of set_all every limited countable
-put-two w st p q m x e h k n l v =
-    subst (λ x. LeavesAs st (pair p q) (limited st (pair p q) (placed (p ∷ q ∷ []) (comps_of st) x)) (settled (met_code st.c m) m.label) (put_two st.c p q (comp_in st.c p).wait m)) e
-    (go (eqb m.code 0) refl (ltb (count_in st.c) 1_000_000) v)
+pub two-left : (w : List ℕ) (st : State) (p q : ℕ) (m : Met) → valid w st ≡ true → length st.c ≡ state_words → p < st.n → q < st.n → accepted (left_two m) ≡ together_at w (comp_in st.c p) (comp_in st.c q) → count_in st.c < 1_000_000
+    → LeavesAs st (pair p q) (limited st (pair p q) (act_on w (pair p q) (comps_of st))) (record { code = 0; label = m.label }) (counted (put_at (put_at st.c p m.sender) q m.receiver) 1 (comp_in st.c p).wait)
+unfolding act_on left_by positions set_all every limited countable
+two-left w st p q m v l h k e b =
+    let z : at (comps_of st) p ≡ accepted (comp_in st.c p) = at-in-use st p h in
+    let y : at (comps_of st) q ≡ accepted (comp_in st.c q) = at-in-use st q k in
+    rw (z, y, ← e, lt-ltb (count_in st.c) 1_000_000 b)
+    (
+    let i = and-inv (comp_ok w m.sender) _ good in
+    let j = and-inv (comp_ok w m.receiver) _ i.1 in
+    record {
+      code = refl;
+      tag = refl;
+      comps = both (comp-fine w m.sender i.0).slots (comp-fine w m.receiver j.0).slots;
+      total = total-now;
+      count = count-now;
+      past = others-then (omega arith) (past-others n kept) (counted-others met 1 waited st.n);
+    }
+    )
   where
+    n : st.n ≤ 256
+    n = few-comps w st v
+
+    good : every (comp_ok w) (m.sender ∷ m.receiver ∷ []) ≡ true
+    good = subst (λ x. ok_a (good_left w) x ≡ true) (sym e) (together-kept w (valid-parts w st v).0 (comp_in st.c p) (comp_in st.c q) (comp-fine w _ (comp-good w st v p h)) (comp-fine w _ (comp-good w st v q k)))
+
     -- the sender is in its place, and both are
     sent : List ℕ
     sent = put_at st.c p m.sender
@@ -198,51 +231,14 @@ put-two w st p q m x e h k n l v =
     count-now : count_in (counted met 1 waited) ≡ (act_tally (pair p q) (tally_of st)).count
     count-now = unfold act_tally tally_of in counted-count met 1 waited long ∙ add-one (count_in met) ∙ ap suc (past-count n kept)
 
-    go : (b : Bool) → eqb m.code 0 ≡ b → (t : Bool) → ok_a (good_left w) (cond b (accepted (record { tag = tag_of m.label; after = m.sender ∷ m.receiver ∷ [] })) (refused m.code)) ≡ true
-        → LeavesAs st (pair p q) ((placed (p ∷ q ∷ []) (comps_of st) (cond b (accepted (record { tag = tag_of m.label; after = m.sender ∷ m.receiver ∷ [] })) (refused m.code))) >>= λ b. asked 18 (t && true) (accepted b))
-        (settled (cond b (cond t 0 18) m.code) m.label) (cond (eqb (cond b (cond t 0 18) m.code) 0) (counted met 1 waited) st.c)
-    go true o true g =
-        let i = and-inv (comp_ok w m.sender) _ g in
-        let j = and-inv (comp_ok w m.receiver) _ i.1 in
-        record {
-          code = refl;
-          tag = refl;
-          comps = both (comp-fine w m.sender i.0).slots (comp-fine w m.receiver j.0).slots;
-          total = total-now;
-          count = count-now;
-          past = others-then (omega arith) (past-others n kept) (counted-others met 1 waited st.n);
-        }
-    go true o false g = (refl, refl)
-    go false o t g = rw o (refl, refl)
-
-pub one_left : (w : List ℕ) (st : State) (k : Kind) (p : ℕ) (f : Fired) → valid w st ≡ true → length st.c ≡ state_words → p < st.n → one_of f ≡ alone_at w k (comp_in st.c p)
-    → LeavesAs st (single k p) (limited st (single k p) (act_on w (single k p) (comps_of st))) (settled f.code f.label) (put_one st.c p f)
-unfolding act_on left_by positions
-one_left w st k p f v l h e =
-    let n = few-comps w st v in
-    let z : at (comps_of st) p ≡ accepted (comp_in st.c p) = at-in-use st p h in
-    rw z (put-left w st k p f (alone_at w k (comp_in st.c p)) e h n l (subst (λ x. ok_a (good_left w) x ≡ true) (sym e) (alone-kept w (valid-parts w st v).0 k (comp_in st.c p) (comp-fine w _ (comp-good w st v p h)))))
-
-pub two-left : (w : List ℕ) (st : State) (p q : ℕ) (m : Met) → valid w st ≡ true → length st.c ≡ state_words → p < st.n → q < st.n → two_of m ≡ together_at w (comp_in st.c p) (comp_in st.c q)
-    → LeavesAs st (pair p q) (limited st (pair p q) (act_on w (pair p q) (comps_of st))) (settled (met_code st.c m) m.label) (put_two st.c p q (comp_in st.c p).wait m)
-unfolding act_on left_by positions
-two-left w st p q m v l h k e =
-    let n = few-comps w st v in
-    let z : at (comps_of st) p ≡ accepted (comp_in st.c p) = at-in-use st p h in
-    let y : at (comps_of st) q ≡ accepted (comp_in st.c q) = at-in-use st q k in
-    rw (z, y) (put-two w st p q m (together_at w (comp_in st.c p) (comp_in st.c q)) e h k n l (subst (λ x. ok_a (good_left w) x ≡ true) (sym e) (together-kept w (valid-parts w st v).0 (comp_in st.c p) (comp_in st.c q) (comp-fine w _ (comp-good w st v p h)) (comp-fine w _ (comp-good w st v q k)))))
-
 -- a position past the components in use: question 8
 pub one_out : (w : List ℕ) (st : State) (k : Kind) (p : ℕ) → st.n ≤ p → limited st (single k p) (act_on w (single k p) (comps_of st)) ≡ refused 8
 unfolding act_on left_by limited
 one_out w st k p h = rw (at-past (comps_of st) p (omega (arith, comps-length st)))
 
-pub two-out-p : (w : List ℕ) (st : State) (p q : ℕ) → st.n ≤ p → limited st (pair p q) (act_on w (pair p q) (comps_of st)) ≡ refused 8
+pub two-out : (w : List ℕ) (st : State) (p q : ℕ) → (st.n ≤ p) ⊎ ((p < st.n) × (st.n ≤ q)) → limited st (pair p q) (act_on w (pair p q) (comps_of st)) ≡ refused 8
 unfolding act_on left_by limited
-two-out-p w st p q h = rw (at-past (comps_of st) p (omega (arith, comps-length st)))
-
-pub two-out-q : (w : List ℕ) (st : State) (p q : ℕ) → p < st.n → st.n ≤ q → limited st (pair p q) (act_on w (pair p q) (comps_of st)) ≡ refused 8
-unfolding act_on left_by limited
-two-out-q w st p q h k =
-    let z : at (comps_of st) p ≡ accepted (comp_in st.c p) = at-in-use st p h in
+two-out w st p q (inl h) = rw (at-past (comps_of st) p (omega (arith, comps-length st)))
+two-out w st p q (inr h) =
+    let z : at (comps_of st) p ≡ accepted (comp_in st.c p) = at-in-use st p h.0 in
     rw (z, at-past (comps_of st) q (omega (arith, comps-length st)))

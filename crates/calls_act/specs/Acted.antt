@@ -1,6 +1,6 @@
 -- What the answer of an action stands for: document 01, *Actions* and *Questions, asked downward*, and document 02, R-1. A refusal is its number, and leaves
 -- the components with all that is kept beside them.
-use Rattle.std.specs.Prelude.{ℕ, ◌*◌, List, [], ◌∷◌, Bool, true, false, cond, ◌≡◌, eqb, ltb}
+use Rattle.std.specs.Prelude.{ℕ, ◌*◌, List, [], ◌∷◌, Bool, true, false, cond, ◌≡◌, eqb, Result, Ok, Err}
 use Rattle.std.proofs.lemmas.List.Edits.{sets}
 use Rattle.terms.specs.Rules.{Answer, Kind, Action, ◌>>=◌, act}
 use Rattle.terms.specs.Rules as R
@@ -12,13 +12,16 @@ use Rattle.waits.specs.Counted.{act_counted, Acted as ActedBy}
 use Rattle.table.specs.declared.Comp.{Comp}
 use Rattle.table.specs.declared.State.{State}
 use Rattle.table.specs.Meaning.{words_in, OthersKept, context_of, comps_of, net_of, total_in, count_in, tally_of, counted_of}
-use Rattle.table_waits.specs.Ledger.{counted}
 use Rattle.table.specs.Valid.{valid}
 use Rattle.table.specs.Fire.{ActedAt, tag_in, tag_held}
 use Rattle.calls_fire.specs.declared.Label.{Label}
-use Rattle.calls_fire.specs.declared.Fired.{Fired}
-use Rattle.calls_fire.specs.declared.Met.{Met}
+use Rattle.terms.specs.Refusals.{number_of}
+use Rattle.terms.specs.declared.refusal.Refusal.{Refusal}
 use Rattle.calls_act.specs.declared.Acted.{Acted}
+use Rattle.calls_act.specs.declared.action.Kind.{Kind as OfOne}
+use Rattle.calls_act.specs.declared.action.Kind.TheVariants.{Call, Move}
+use Rattle.calls_act.specs.declared.action.Action.{Action as At}
+use Rattle.calls_act.specs.declared.action.Action.TheVariants.{Single, Pair}
 use Rattle.calls_fire.specs.Fired.{no_label, tag_of}
 use Rattle.table.specs.Words.{comp_size}
 
@@ -26,6 +29,15 @@ use Rattle.table.specs.Words.{comp_size}
 abbrev pub asked : {A : Type 0} → ℕ → Bool → Answer A → Answer A
 asked n true x = x
 asked n false x = refused n
+
+-- the rules' kind and action
+abbrev pub kind_is : OfOne → Kind
+kind_is Call = calls
+kind_is Move = moves
+
+abbrev pub action_is : At → Action
+action_is (Single k p) = single (kind_is k) p
+action_is (Pair p q) = pair p q
 
 -- question 8 of the kind; for kinds 1 and 2, q is not looked at
 unfoldable pub action_of : ℕ → ℕ → ℕ → Answer Action
@@ -49,6 +61,11 @@ action_answer w st k p q = asked 17 (valid w st) (action_rule w st k p q)
 
 abbrev pub refusal : ℕ → Acted
 refusal n = record { code = n; label = no_label }
+
+-- the answer, of a refusal or of the label in numbers
+abbrev pub acted_of : Result Label Refusal → Acted
+acted_of (Ok l) = record { code = 0; label = l }
+acted_of (Err e) = refusal (number_of e)
 
 -- as many components as in st, with the words cs
 abbrev pub after : State → List ℕ → State
@@ -88,26 +105,6 @@ abbrev pub LeavesAs : State → Action → Answer ActedAt → Acted → List ℕ
 LeavesAs st x (refused n) r cs = (r ≡ refusal n) × (cs ≡ st.c)
 LeavesAs st x (accepted a) r cs = Leaves st x a r cs
 
--- the kind of an action of one component: is it a call?
-abbrev pub single_kind : Bool → Kind
-single_kind true = calls
-single_kind false = moves
-
--- the answer of an action of which the code and the label are these
-abbrev pub settled : ℕ → Label → Acted
-settled k l = cond (eqb k 0) (record { code = 0; label = l }) (refusal k)
-
+-- the component v at p
 abbrev pub put_at : List ℕ → ℕ → Comp → List ℕ
 put_at cs p v = sets cs (p * comp_size) (words_in v)
-
--- the components once the one at p has become what f says
-abbrev pub put_one : List ℕ → ℕ → Fired → List ℕ
-put_one cs p f = cond (eqb f.code 0) (put_at cs p f.comp) cs
-
--- the code of a communication: that of m, or 18 where the count is full
-abbrev pub met_code : List ℕ → Met → ℕ
-met_code cs m = cond (eqb m.code 0) (cond (ltb (count_in cs) 1_000_000) 0 18) m.code
-
--- and the components once an output at p that had waited n ticks and an input at q have become what m says
-abbrev pub put_two : List ℕ → ℕ → ℕ → ℕ → Met → List ℕ
-put_two cs p q n m = cond (eqb (met_code cs m) 0) (counted (put_at (put_at cs p m.sender) q m.receiver) 1 n) cs

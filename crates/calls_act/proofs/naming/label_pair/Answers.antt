@@ -1,18 +1,16 @@
 -- Question 8 of both positions, then what `fire` answers of the two components.
 -- By the law of the label from its components alone.
 use native.Mathlib.Omega.{arith}
-use mathlib.Core.Path.{ap, ◌∙◌}
+use mathlib.Core.Path.{ap₂, ◌∙◌}
+use Rattle.std.proofs.lemmas.Result.{err_from_is_err_and}
+use Rattle.table.specs.Fire.{together_at}
 use Rattle.table.specs.declared.State.{State}
 use Rattle.calls_act.proofs.Positions.{few-comps, comp-good, valid-parts}
-use Rattle.calls_act.specs.Labelled.{named}
-use Rattle.calls_act.proofs.Labelling.{two-past-p, two-past-q, two_at}
+use Rattle.calls_act.proofs.Labelling.{two-past, two_at}
 use Rattle.calls_act.proofs.naming.label_pair.Goals as goal
 
 pub returns-then-n-p : goal.returns-then-n-p
-returns-then-n-p c = let a = c.args in ap (named a.w.now) c.refuse.ensures ∙ two-past-p a.w.now (record { c = a.c.now; n = a.n }) c.requires a.p a.q c.if-n-p.true
-
-pub returns-then-n-q : goal.returns-then-n-q
-returns-then-n-q c = let a = c.args in ap (named a.w.now) c.refuse-then-n-q.ensures ∙ two-past-q a.w.now (record { c = a.c.now; n = a.n }) c.requires a.p a.q c.if-n-p.false c.if-n-q.true
+returns-then-n-p c = let a = c.args in two-past a.w.now (record { c = a.c.now; n = a.n }) c.requires a.p a.q c.then-n-p.either
 
 pub comp_at-requires : goal.comp_at-requires
 comp_at-requires c = let a = c.args in omega (arith, few-comps a.w.now (record { c = a.c.now; n = a.n }) c.requires)
@@ -20,13 +18,19 @@ comp_at-requires c = let a = c.args in omega (arith, few-comps a.w.now (record {
 pub comp_at-requires-2 : goal.comp_at-requires-2
 comp_at-requires-2 c = let a = c.args in omega (arith, few-comps a.w.now (record { c = a.c.now; n = a.n }) c.requires)
 
-pub fire_pair-m-requires : goal.fire_pair-m-requires
-fire_pair-m-requires c =
+pub fire_pair-requires : goal.fire_pair-requires
+fire_pair-requires c =
     let a = c.args in
     let st : State = record { c = a.c.now; n = a.n } in
     ((valid-parts a.w.now st c.requires).0, rw c.comp_at.ensures (comp-good a.w.now st c.requires a.p c.if-n-p.false), rw c.comp_at-2.ensures (comp-good a.w.now st c.requires a.q c.if-n-q.false))
 
+pub returns-in_err-m : goal.returns-in_err-m
+returns-in_err-m c =
+    let a = c.args in
+    let p = err_from_is_err_and c.from_residual.result c.from_residual.ensures.1 in
+    rw (p.1, p.2) (two_at a.w.now (record { c = a.c.now; n = a.n }) c.requires a.p a.q _ c.if-n-p.false c.if-n-q.false (c.in_err-m.ensures ∙ ap₂ (together_at a.w.now) c.comp_at.ensures c.comp_at-2.ensures))
+
 pub returns : goal.returns
 returns c =
     let a = c.args in
-    two_at a.w.now (record { c = a.c.now; n = a.n }) c.requires a.p a.q c.fire_pair-m.result c.if-n-p.false c.if-n-q.false (rw (c.comp_at.ensures, c.comp_at-2.ensures) at c.fire_pair-m.ensures)
+    two_at a.w.now (record { c = a.c.now; n = a.n }) c.requires a.p a.q _ c.if-n-p.false c.if-n-q.false (c.in_ok-m.ensures ∙ ap₂ (together_at a.w.now) c.comp_at.ensures c.comp_at-2.ensures)
