@@ -5,7 +5,8 @@ use native.Mathlib.Omega.{arith}
 use native.Mathlib.Numerals.{add-one}
 use mathlib.Core.List.{List, [], ◌∷◌, ◌++◌, flat_map}
 use mathlib.Core.Bool.{Bool, true, false, cond, ◌&&◌, ◌||◌, false≢true}
-use mathlib.Core.Path.{◌≡◌, refl, sym, ap, ◌∙◌}
+use mathlib.Core.Logic.{◌⊎◌, inl, inr}
+use mathlib.Core.Path.{◌≡◌, refl, sym, ap, subst, ◌∙◌}
 use lib.Dec.{eqb, ltb}
 use lib.ListN.{length, get_or, set, take, length-append}
 use lib.Seq.{take-suc}
@@ -48,6 +49,19 @@ leads w good i (Call d n) b e =
 
 pub leads-fit : (w : List ℕ) (c : Comp) → script_ok w ≡ true → comp_ok w c ≡ true → LeadsTo w (head_at w c.place)
 leads-fit w c good o = let b = (comp-fine w c o).place in leads w good c.place (head_at w c.place) b (part-fine w good c.place b).head
+
+-- an output and an input each lead to two places
+abbrev Forks : Head → ℕ → ℕ → Type 0
+Forks h p q = ((c : ℕ) × (t : ℕ) × (v : ℕ) × (h ≡ Out c t v p q)) ⊎ ((c : ℕ) × (t : ℕ) × (k : ℕ) × (h ≡ In c t k p q))
+
+pub two-fit : (w : List ℕ) (h : Head) (p q : ℕ) → Forks h p q → LeadsTo w h → (p < 4_096) × (q < 4_096)
+two-fit w h p q (inl e) l = subst (LeadsTo w) e.3 l
+two-fit w h p q (inr e) l = subst (LeadsTo w) e.3 l
+
+pub two-leave : (w : List ℕ) (h : Head) (p q : ℕ) → Forks h p q → leaves_one w h ≡ (one_part w p && one_part w q)
+unfolding leaves_one
+two-leave w h p q (inl e) = rw e.3
+two-leave w h p q (inr e) = rw e.3
 
 -- ── looking at one component after another ──
 pub take_more : {A : Type 0} (xs : List A) (j : ℕ) (d : A) → j < length xs → take (j + 1) xs ≡ take j xs ++ (get_or xs j d ∷ [])

@@ -19,10 +19,7 @@ use table::{Comp, Head, Script, Words, words};
 pub fn touched(l: u32, c: Comp) -> bool
     ensures { result ≡ touches l c }
 {
-    if 64 <= c.mark {
-        return c.loc == l;
-    }
-    c.mark == l
+    if c.mark < 64 { c.mark == l } else { c.loc == l }
 }
 
 fn one_part(w: &Script, place: u32) -> bool
@@ -36,10 +33,7 @@ fn both_one(w: &Script, p: u32, q: u32) -> bool
     requires { (p < 4096) × (q < 4096) }
     ensures { result ≡ (one_part w.now p && one_part w.now q) }
 {
-    if !one_part(w, p) {
-        return false;
-    }
-    one_part(w, q)
+    one_part(w, p) && one_part(w, q)
 }
 
 fn leaves_one(w: &Script, c: Comp) -> bool
@@ -50,8 +44,7 @@ fn leaves_one(w: &Script, c: Comp) -> bool
     match h {
         Head::Stop => true,
         Head::Go(_, _, p) => one_part(w, p),
-        Head::Out(_, _, _, p, q) => both_one(w, p, q),
-        Head::In(_, _, _, p, q) => both_one(w, p, q),
+        Head::Out(_, _, _, p, q) | Head::In(_, _, _, p, q) => both_one(w, p, q),
         Head::Call(d, _) => one_part(w, words::body_of(w, words::wide(d))),
     }
 }
@@ -61,15 +54,9 @@ fn stays_one(w: &Script, l: u32, c: Comp) -> bool
     ensures { result ≡ stays_one w.now l c }
 {
     if c.mark < 64 {
-        if c.mark == l {
-            return one_part(w, c.place);
-        }
-        return true;
+        return c.mark != l || one_part(w, c.place);
     }
-    if c.loc == l {
-        return leaves_one(w, c);
-    }
-    true
+    c.loc != l || leaves_one(w, c)
 }
 
 // Is it known at little cost that every component stays one? Where more than 64 have to be looked at, a copy of all components costs less, and nothing is said.
@@ -78,21 +65,15 @@ pub fn known_steady(w: &Script, c: &Words, n: usize, l: u32) -> bool
     ensures { result ≡ true → every (stays_one w.now l) (comps_of (record { c = c.entry.now; n = n })) ≡ true }
 {
     let mut left: usize = 64;
-    let mut j: usize = 0;
-    while j < n {
+    for j in 0..n {
         let x = comp_at(c, j);
         if !touched(l, x) {
-            j += 1;
             continue;
         }
-        if left == 0 {
-            return false;
-        }
-        if !stays_one(w, l, x) {
+        if left == 0 || !stays_one(w, l, x) {
             return false;
         }
         left -= 1;
-        j += 1;
     }
     true
 }

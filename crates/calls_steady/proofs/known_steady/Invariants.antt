@@ -1,5 +1,4 @@
 -- `known_steady` meets its contract. The loop's invariant: every component looked at stays one.
-use Prim.Native.Nat.{◌≤◌, ◌-◌}
 use mathlib.Core.Bool.{true}
 use mathlib.Core.Path.{◌≡◌}
 use lib.ListN.{take}
@@ -9,7 +8,4 @@ use Rattle.calls_steady.specs.Steady.{stays_one}
 use Rattle.calls_steady.proofs.known_steady.Given as goal
 
 abbrev pub invariant-loop-j : goal.invariant-loop-j
-invariant-loop-j l = (l.j ≤ l.n) × (every (stays_one l.w l.l) (take l.j (comps_of (record { c = l.c; n = l.n }))) ≡ true)
-
-abbrev pub decreases-loop-j : goal.decreases-loop-j
-decreases-loop-j l = l.n - l.j
+invariant-loop-j l = every (stays_one l.w l.l) (take l.j (comps_of (record { c = l.c; n = l.n }))) ≡ true

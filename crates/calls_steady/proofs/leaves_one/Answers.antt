@@ -3,7 +3,7 @@ use mathlib.Core.Path.{sym, ap, subst, ◌∙◌}
 use Rattle.table.specs.Words.{body_of, head_at}
 use Rattle.calls_fire.proofs.Heads.{place-fits}
 use Rattle.calls_steady.specs.Steady.{one_part, leaves_one}
-use Rattle.calls_steady.proofs.Staying.{LeadsTo, leads-fit}
+use Rattle.calls_steady.proofs.Staying.{LeadsTo, leads-fit, two-fit, two-leave}
 use Rattle.calls_steady.proofs.leaves_one.Goals as goal
 
 pub head_at-h-requires : goal.head_at-h-requires
@@ -21,13 +21,7 @@ pub both_one-requires : goal.both_one-requires
 both_one-requires c =
     let a = c.args in
     let q = c.requires in
-    subst (LeadsTo a.w.now) (sym (c.head_at-h.ensures ∙ ap (head_at a.w.now) c.wide.ensures) ∙ c.in-Out.is) (leads-fit a.w.now a.c q.0 q.1)
-
-pub both_one-requires-in-In : goal.both_one-requires-in-In
-both_one-requires-in-In c =
-    let a = c.args in
-    let q = c.requires in
-    subst (LeadsTo a.w.now) (sym (c.head_at-h.ensures ∙ ap (head_at a.w.now) c.wide.ensures) ∙ c.in-In.is) (leads-fit a.w.now a.c q.0 q.1)
+    two-fit a.w.now _ _ _ c.in-Out.is (subst (LeadsTo a.w.now) (sym (c.head_at-h.ensures ∙ ap (head_at a.w.now) c.wide.ensures)) (leads-fit a.w.now a.c q.0 q.1))
 
 pub body_of-requires : goal.body_of-requires
 body_of-requires c =
@@ -54,16 +48,9 @@ returns-in-Go c =
     c.one_part.ensures ∙ sym (ap (leaves_one a.w.now) (sym (c.head_at-h.ensures ∙ ap (head_at a.w.now) c.wide.ensures) ∙ c.in-Go.is))
 
 pub returns-in-Out : goal.returns-in-Out
-unfolding leaves_one
 returns-in-Out c =
     let a = c.args in
-    c.both_one.ensures ∙ sym (ap (leaves_one a.w.now) (sym (c.head_at-h.ensures ∙ ap (head_at a.w.now) c.wide.ensures) ∙ c.in-Out.is))
-
-pub returns-in-In : goal.returns-in-In
-unfolding leaves_one
-returns-in-In c =
-    let a = c.args in
-    c.both_one-in-In.ensures ∙ sym (ap (leaves_one a.w.now) (sym (c.head_at-h.ensures ∙ ap (head_at a.w.now) c.wide.ensures) ∙ c.in-In.is))
+    c.both_one.ensures ∙ sym (two-leave a.w.now _ _ _ c.in-Out.is) ∙ ap (leaves_one a.w.now) (c.head_at-h.ensures ∙ ap (head_at a.w.now) c.wide.ensures)
 
 pub returns-in-Call : goal.returns-in-Call
 unfolding leaves_one

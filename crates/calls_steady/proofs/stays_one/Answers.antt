@@ -11,16 +11,16 @@ one_part-requires c =
 
 pub returns-then-c-l : goal.returns-then-c-l
 unfolding stays_one
-returns-then-c-l c = rw (lt-ltb _ _ c.if-c-lt64.true, eq-eqb _ _ c.if-c-l.true) c.one_part.ensures
+returns-then-c-l c = rw (lt-ltb _ _ c.if-c-lt64.true, ne_eqb _ _ c.if-c-l.true)
 
-pub returns-then-c-lt64 : goal.returns-then-c-lt64
+pub returns-else-c-l : goal.returns-else-c-l
 unfolding stays_one
-returns-then-c-lt64 c = rw (lt-ltb _ _ c.if-c-lt64.true, ne_eqb _ _ c.if-c-l.false)
+returns-else-c-l c = rw (lt-ltb _ _ c.if-c-lt64.true, eq-eqb _ _ c.if-c-l.false) c.one_part.ensures
 
 pub returns-then-c-l-2 : goal.returns-then-c-l-2
 unfolding stays_one
-returns-then-c-l-2 c = rw (le-ltb _ _ c.if-c-lt64.false, eq-eqb _ _ c.if-c-l-2.true) c.leaves_one.ensures
+returns-then-c-l-2 c = rw (le-ltb _ _ c.if-c-lt64.false, ne_eqb _ _ c.if-c-l-2.true)
 
-pub returns : goal.returns
+pub returns-else-c-l-2 : goal.returns-else-c-l-2
 unfolding stays_one
-returns c = rw (le-ltb _ _ c.if-c-lt64.false, ne_eqb _ _ c.if-c-l-2.false)
+returns-else-c-l-2 c = rw (le-ltb _ _ c.if-c-lt64.false, eq-eqb _ _ c.if-c-l-2.false) c.leaves_one.ensures
