@@ -1,11 +1,11 @@
 -- The loops of `pass_all`: what was written and what remains are what the tick leaves.
 -- By the law of one turn (Turns); the array's first k components are those written.
-use Prim.Native.Nat.{ℕ, zero, suc, ◌+◌, ◌-◌, ◌*◌, ◌<◌, ◌≤◌}
+use Prim.Native.Nat.{ℕ, suc, ◌+◌, ◌-◌, ◌*◌, ◌<◌, ◌≤◌}
 use native.Mathlib.Omega.{arith}
 use native.Mathlib.Numerals.{add-one}
 use mathlib.Core.List.{List, [], ◌∷◌, ◌++◌, append_assoc, append-nil, flat_map}
 use mathlib.Core.Bool.{Bool, true, false}
-use mathlib.Core.Path.{◌≡◌, refl, sym, ap, ◌∙◌}
+use mathlib.Core.Path.{◌≡◌, refl, sym, ap, subst, ◌∙◌}
 use lib.Dec.{ltb}
 use lib.ListN.{length, drop, length-append, get_or-append}
 use lib.Seq.{sets, length-sets, drop-drop, drop-length}
@@ -22,7 +22,8 @@ use Rattle.table.proofs.Kept.{tick-kept, tick-grows}
 use Rattle.calls_act.proofs.Positions.{valid-parts, comp-good}
 use Rattle.calls_pass.specs.declared.Turn.{Turn}
 use Rattle.calls_steady.specs.Steady.{touches}
-use Rattle.calls_pass.specs.Turn.{step_of, turn_of, remaining}
+use Rattle.std.specs.Prelude.{Option, Some, None}
+use Rattle.calls_pass.specs.Turn.{Within, step_of, turn_of, remaining}
 use Rattle.calls_pass.specs.Passed.{passed_from, PassedHere, PassesAs}
 use Rattle.calls_pass.proofs.Turns.{turn-vals, turn-next, remaining-begin, remaining-turn, remaining-some, untouched}
 use Rattle.table.proofs.InUse.{comps-length, in_use, from-here, comp-at, valid-ledger, ledger-same, is-valid}
@@ -30,18 +31,18 @@ use Rattle.table.proofs.ValidLists.{every-all, list_from-length, list_from-at}
 use Rattle.table.proofs.Stores.{put_other, past-put, past-none, past-then, past-total, past-count, list_from-same, list_from-end, drop-from, comps-more}
 
 -- k components are written to out, i are done with, and of the next one the parts from next on are left
-pub record Passing (w : List ℕ) (l : ℕ) (st : State) (goal : List Comp) (out : List ℕ) (k i next : ℕ) : Type 0 where
+pub record Passing (w : List ℕ) (l : ℕ) (st : State) (goal : List Comp) (out : List ℕ) (k i : ℕ) (next : Option ℕ) : Type 0 where
   pub few-k : k ≤ 256
   pub few-i : i ≤ st.n
   pub size : length out ≡ state_words
-  pub part : next ≤ parts_in w
+  pub part : Within (parts_in w) next
   pub holds : list_from 0 k (comp_in out) ++ remaining w l (drop i (comps_of st)) next ≡ goal
 
-pub passing-begin : (w : List ℕ) (l : ℕ) (st : State) (out : List ℕ) (j : ℕ) → length out ≡ state_words → j ≤ st.n → j ≤ 256 → Passing w l st (passed_from w l st j out) out j j 0
+pub passing-begin : (w : List ℕ) (l : ℕ) (st : State) (out : List ℕ) (j : ℕ) → length out ≡ state_words → j ≤ st.n → j ≤ 256 → Passing w l st (passed_from w l st j out) out j j None
 passing-begin w l st out j e n b =
-    record { few-k = b; few-i = n; size = e; part = omega arith; holds = ap (λ z. list_from 0 j (comp_in out) ++ z) (remaining-begin w l (drop j (comps_of st))) }
+    record { few-k = b; few-i = n; size = e; part = tt; holds = ap (λ z. list_from 0 j (comp_in out) ++ z) (remaining-begin w l (drop j (comps_of st))) }
 
-module _ (w : List ℕ) (l : ℕ) (st : State) (goal : List Comp) (out : List ℕ) (k i next : ℕ) (v : valid w st ≡ true) (p : Passing w l st goal out k i next) (h : i < st.n) where
+module _ (w : List ℕ) (l : ℕ) (st : State) (goal : List Comp) (out : List ℕ) (k i : ℕ) (next : Option ℕ) (v : valid w st ≡ true) (p : Passing w l st goal out k i next) (h : i < st.n) where
   fine : comp_ok w (comp_in st.c i) ≡ true
   fine = comp-good w st v i h
 
@@ -51,71 +52,76 @@ module _ (w : List ℕ) (l : ℕ) (st : State) (goal : List Comp) (out : List �
   abbrev t : Turn
   t = turn_of w l (comp_in st.c i) next
 
-  pub turn-range : ((turn_of w l (comp_in st.c i) next).next ≤ parts_in w) × ((turn_of w l (comp_in st.c i) next).step ≡ step_of (turn_of w l (comp_in st.c i) next).next) × ((j : ℕ) → next ≡ suc j → (turn_of w l (comp_in st.c i) next).next ≤ j)
+  turn-range : Within (parts_in w) (turn_of w l (comp_in st.c i) next).next × ((j : ℕ) → next ≡ Some j → Within j (turn_of w l (comp_in st.c i) next).next)
   turn-range = turn-next w good l (comp_in st.c i) next fine p.part
 
-  step_small : (n : ℕ) → step_of n ≤ 1
-  step_small zero = omega arith
-  step_small (suc n) = omega arith
+  step_small : (n : Option ℕ) → step_of n ≤ 1
+  step_small None = omega arith
+  step_small (Some j) = omega arith
 
-  pub step_fits : (turn_of w l (comp_in st.c i) next).step ≤ 1
-  step_fits = rw turn-range.1 (step_small t.next)
-
-  pub passing-turn : k < 256 → Passing w l st goal (sets out (k * comp_size) (words_in (turn_of w l (comp_in st.c i) next).comp)) (k + 1) (i + (turn_of w l (comp_in st.c i) next).step) (turn_of w l (comp_in st.c i) next).next
+  passing-turn : k < 256 → Passing w l st goal (sets out (k * comp_size) (words_in (turn_of w l (comp_in st.c i) next).comp)) (k + 1) (i + step_of (turn_of w l (comp_in st.c i) next).next) (turn_of w l (comp_in st.c i) next).next
   passing-turn b = record {
     few-k = omega arith;
-    few-i = omega (arith, step_fits);
+    few-i = omega (arith, step_small t.next);
     size = length-sets out (k * comp_size) (words_in t.comp) ∙ p.size;
     part = turn-range.0;
     holds =
-        ap (λ z. z ++ remaining w l (drop (i + t.step) (comps_of st)) t.next) (comps-more out k t.comp b p.size (turn-vals w l (comp_in st.c i) next ∙ (comp-fine w _ fine).slots))
-        ∙ append_assoc (list_from 0 k (comp_in out)) (t.comp ∷ []) (remaining w l (drop (i + t.step) (comps_of st)) t.next)
+        ap (λ z. z ++ remaining w l (drop (i + step_of t.next) (comps_of st)) t.next) (comps-more out k t.comp b p.size (turn-vals w l (comp_in st.c i) next ∙ (comp-fine w _ fine).slots))
+        ∙ append_assoc (list_from 0 k (comp_in out)) (t.comp ∷ []) (remaining w l (drop (i + step_of t.next) (comps_of st)) t.next)
         ∙ ap (λ z. list_from 0 k (comp_in out) ++ z) (sym left_over)
         ∙ p.holds;
   }
     where
-      dropped : drop (i + t.step) (comps_of st) ≡ drop (step_of t.next) (comp_in st.c i ∷ drop (suc i) (comps_of st))
-      dropped = ap (λ z. drop (i + z) (comps_of st)) turn-range.1 ∙ sym (drop-drop (step_of t.next) i (comps_of st)) ∙ ap (drop (step_of t.next)) (from-here st i h)
+      dropped : drop (i + step_of t.next) (comps_of st) ≡ drop (step_of t.next) (comp_in st.c i ∷ drop (suc i) (comps_of st))
+      dropped = sym (drop-drop (step_of t.next) i (comps_of st)) ∙ ap (drop (step_of t.next)) (from-here st i h)
 
-      left_over : remaining w l (drop i (comps_of st)) next ≡ t.comp ∷ remaining w l (drop (i + t.step) (comps_of st)) t.next
+      left_over : remaining w l (drop i (comps_of st)) next ≡ t.comp ∷ remaining w l (drop (i + step_of t.next) (comps_of st)) t.next
       left_over =
           ap (λ z. remaining w l z next) (from-here st i h)
-          ∙ remaining-turn w good l (comp_in st.c i) (drop (suc i) (comps_of st)) next i fine p.part
+          ∙ remaining-turn w good l (comp_in st.c i) (drop (suc i) (comps_of st)) next fine p.part
           ∙ ap (λ z. t.comp ∷ remaining w l z t.next) (sym dropped)
 
+  -- the position afterwards, by what comes next
+  pub passing-next : (j : ℕ) → j ≡ i + step_of (turn_of w l (comp_in st.c i) next).next → k < 256 → Passing w l st goal (sets out (k * comp_size) (words_in (turn_of w l (comp_in st.c i) next).comp)) (k + 1) j (turn_of w l (comp_in st.c i) next).next
+  passing-next j e b = subst (λ z. Passing w l st goal (sets out (k * comp_size) (words_in t.comp)) (k + 1) z t.next) (sym e) (passing-turn b)
+
 -- ── the loop ends ──
-unfoldable pub rank : ℕ → ℕ
-rank zero = 8_000
-rank (suc j) = j
+unfoldable pub rank : Option ℕ → ℕ
+rank None = 8_000
+rank (Some j) = j
 
 -- how far the loop has come: components left, then parts left
-abbrev pub left_over : ℕ → ℕ → ℕ → ℕ
+abbrev pub left_over : ℕ → ℕ → Option ℕ → ℕ
 left_over n i next = (n - i) * 8_192 + rank next
 
-falls : (n i next s m : ℕ) → i < n → next ≤ 4_096 → m ≤ 4_096 → s ≡ step_of m → ((j : ℕ) → next ≡ suc j → m ≤ j) → left_over n (i + s) m < left_over n i next
+falls : (n i : ℕ) (next m : Option ℕ) → i < n → Within 4_096 next → Within 4_096 m → ((j : ℕ) → next ≡ Some j → Within j m) → left_over n (i + step_of m) m < left_over n i next
 unfolding rank
-falls n i next s zero h a b e f = omega (arith, rank-low next)
+falls n i next None h a b f = omega (arith, rank-low next)
   where
-    rank-low : (x : ℕ) → 0 ≤ rank x
+    rank-low : (x : Option ℕ) → 0 ≤ rank x
     rank-low x = omega arith
-falls n i zero s (suc m) h a b e f = rw e (omega arith)
-falls n i (suc j) s (suc m) h a b e f = rw e (omega (arith, f j refl))
+falls n i None (Some k) h a b f = omega arith
+falls n i (Some j) (Some k) h a b f = omega (arith, f j refl)
 
-pub turn-less : (w : List ℕ) (l : ℕ) (st : State) (goal : List Comp) (out : List ℕ) (k i next : ℕ) (v : valid w st ≡ true) (p : Passing w l st goal out k i next) (h : i < st.n)
-    → left_over st.n (i + (turn_of w l (comp_in st.c i) next).step) (turn_of w l (comp_in st.c i) next).next < left_over st.n i next
-turn-less w l st goal out k i next v p h =
+within-more : (m n : ℕ) (x : Option ℕ) → m ≤ n → Within m x → Within n x
+within-more m n None h w = tt
+within-more m n (Some j) h w = omega arith
+
+pub turn-less : (w : List ℕ) (l : ℕ) (st : State) (goal : List Comp) (out : List ℕ) (k i : ℕ) (next : Option ℕ) (v : valid w st ≡ true) (p : Passing w l st goal out k i next) (h : i < st.n) (j : ℕ) → j ≡ i + step_of (turn_of w l (comp_in st.c i) next).next
+    → left_over st.n j (turn_of w l (comp_in st.c i) next).next < left_over st.n i next
+turn-less w l st goal out k i next v p h j e =
     let r = turn-range w l st goal out k i next v p h in
     let s = (script-fine w (valid-parts w st v).0).parts in
-    falls st.n i next _ _ h (omega (arith, p.part)) (omega (arith, r.0)) r.1 r.2
+    rw e (falls st.n i next _ h (within-more _ _ next s p.part) (within-more _ _ _ s r.0) r.1)
 
 -- ── what the loop gives ──
-pub passing-full : (w : List ℕ) (l : ℕ) (st : State) (goal : List Comp) (out : List ℕ) (k i next : ℕ) → Passing w l st goal out k i next → i < st.n → 256 ≤ k → 256 < length goal
+pub passing-full : (w : List ℕ) (l : ℕ) (st : State) (goal : List Comp) (out : List ℕ) (k i : ℕ) (next : Option ℕ) → Passing w l st goal out k i next → i < st.n → 256 ≤ k → 256 < length goal
 passing-full w l st goal out k i next p h b =
     let e = ap length (sym p.holds) ∙ length-append (list_from 0 k (comp_in out)) _ in
     let d = ap (λ z. length (remaining w l z next)) (from-here st i h) in
     omega (arith, e, d, remaining-some w l (comp_in st.c i) (drop (suc i) (comps_of st)) next, list_from-length 0 k (comp_in out), p.few-k)
 
-pub passing-done : (w : List ℕ) (l : ℕ) (st : State) (goal : List Comp) (out : List ℕ) (k i next : ℕ) → Passing w l st goal out k i next → st.n ≤ i
+pub passing-done : (w : List ℕ) (l : ℕ) (st : State) (goal : List Comp) (out : List ℕ) (k i : ℕ) (next : Option ℕ) → Passing w l st goal out k i next → st.n ≤ i
     → (list_from 0 k (comp_in out) ≡ goal) × (k ≡ length goal)
 unfolding remaining
 passing-done w l st goal out k i next p h =
@@ -140,28 +146,28 @@ module _ (w : List ℕ) (l : ℕ) (st : State) where
     abbrev x : Comp
     x = comp_in st.c i
 
-    passing : Passing w l st all out i i 0
+    passing : Passing w l st all out i i None
     passing = record {
       few-k = omega (arith, (valid-parts w st v).1.few);
       few-i = p.few;
       size = p.size;
-      part = omega arith;
+      part = tt;
       holds = ap (λ z. list_from 0 i (comp_in out) ++ z) (remaining-begin w l (drop i (comps_of st))) ∙ p.front;
     }
 
     -- a component that becomes one other
-    pub here-turn : (turn_of w l (comp_in st.c i) 0).next ≡ 0 → PassedHere w l st (sets out (i * comp_size) (words_in (turn_of w l (comp_in st.c i) 0).comp)) (i + 1)
+    pub here-turn : (turn_of w l (comp_in st.c i) None).next ≡ None → PassedHere w l st (sets out (i * comp_size) (words_in (turn_of w l (comp_in st.c i) None).comp)) (i + 1)
     here-turn e =
-        let t = turn_of w l x 0 in
-        let q = passing-turn w l st all out i i 0 v passing h (omega (arith, (valid-parts w st v).1.few)) in
-        let s : i + t.step ≡ i + 1 = ap (λ z. i + z) ((turn-range w l st all out i i 0 v passing h).1 ∙ ap step_of e) in
+        let t = turn_of w l x None in
+        let q = passing-turn w l st all out i i None v passing h (omega (arith, (valid-parts w st v).1.few)) in
+        let s : i + step_of t.next ≡ i + 1 = ap (λ z. i + step_of z) e in
         record {
           few = omega arith;
           size = q.size;
           front =
               ap (λ z. list_from 0 (i + 1) (comp_in (sets out (i * comp_size) (words_in t.comp))) ++ z) (sym (remaining-begin w l (drop (i + 1) (comps_of st))))
-              ∙ ap (λ z. list_from 0 (i + 1) (comp_in (sets out (i * comp_size) (words_in t.comp))) ++ remaining w l (drop z (comps_of st)) 0) (sym s)
-              ∙ ap (λ z. list_from 0 (i + 1) (comp_in (sets out (i * comp_size) (words_in t.comp))) ++ remaining w l (drop (i + t.step) (comps_of st)) z) (sym e)
+              ∙ ap (λ z. list_from 0 (i + 1) (comp_in (sets out (i * comp_size) (words_in t.comp))) ++ remaining w l (drop z (comps_of st)) None) (sym s)
+              ∙ ap (λ z. list_from 0 (i + 1) (comp_in (sets out (i * comp_size) (words_in t.comp))) ++ remaining w l (drop (i + step_of t.next) (comps_of st)) z) (sym e)
               ∙ q.holds;
           rest = λ m b. put_other out i t.comp m (λ d. omega arith) ∙ p.rest m (omega arith);
           past = past-then (omega arith) p.past (past-put out st.n i t.comp h);
@@ -195,7 +201,7 @@ module _ (w : List ℕ) (l : ℕ) (st : State) where
     unfolding comps_of
     rest-same = drop-from 0 st.n i (comp_in out) ∙ list_from-same (0 + i) (st.n - i) (comp_in st.c) (comp_in out) (λ m b. p.rest m (omega arith)) ∙ sym (drop-from 0 st.n i (comp_in st.c))
 
-    pub goal-same : passed_from w l (record { c = out; n = st.n }) i out ≡ passed_all w l (comps_of st)
+    goal-same : passed_from w l (record { c = out; n = st.n }) i out ≡ passed_all w l (comps_of st)
     goal-same = ap (λ z. list_from 0 i (comp_in out) ++ passed_all w l z) rest-same ∙ p.front
 
     pub here-done : st.n ≤ i → (comps_of (record { c = out; n = st.n }) ≡ passed_all w l (comps_of st)) × (st.n ≡ length (passed_all w l (comps_of st))) × PastKept st.n st.c out
@@ -208,8 +214,13 @@ module _ (w : List ℕ) (l : ℕ) (st : State) where
         (f, sym (list_from-length 0 st.n (comp_in out)) ∙ ap length f, p.past)
 
     -- what the copy's pass leaves past the components in use
-    pub rest-past : {e : List ℕ} {k : ℕ} → k ≡ length (passed_all w l (comps_of st)) → PastKept k out e → PastKept k st.c e
+    rest-past : {e : List ℕ} {k : ℕ} → k ≡ length (passed_all w l (comps_of st)) → PastKept k out e → PastKept k st.c e
     rest-past q r = past-then (omega (arith, q, tick-grows w l (comps_of st), comps-length st)) p.past r
+
+    -- what its pass leaves is what the tick leaves
+    pub all-passed : (e : List ℕ) (r : Option ℕ) → PassesAs (passed_from w l (record { c = out; n = st.n }) i out) out e r → PassesAs (passed_all w l (comps_of st)) st.c e r
+    all-passed e None q = rw (← goal-same) q
+    all-passed e (Some k) q = let z : k ≡ length all = q.1 ∙ ap length goal-same in (q.0 ∙ goal-same, z, q.2, rest-past z q.3)
 
     -- the copy still passes question 17
     pub copy-good : valid w st ≡ true → valid w (record { c = out; n = st.n }) ≡ true
@@ -232,10 +243,7 @@ module _ (w : List ℕ) (l : ℕ) (st : State) where
             go false e = ap (comp_ok w) (p.rest m (ltb-false m i e)) ∙ comp-good w st v m c
 
 -- ── room for all ──
--- the pass over all components finds room where they are as many afterwards
-pub pass_fits : (cs : List Comp) (before out : List ℕ) (k : ℕ) → PassesAs cs before out k → length cs ≤ 256 → k ≤ 256
-pass_fits cs before out k p h = go (ltb 256 k) refl
-  where
-    go : (b : Bool) → ltb 256 k ≡ b → k ≤ 256
-    go true e = absurd (omega (arith, p.0 (ltb-true 256 k e)))
-    go false e = ltb-false 256 k e
+-- where they are few enough afterwards, the pass over all components finds room
+pub pass_fits : (cs : List Comp) (before out : List ℕ) (r : Option ℕ) → PassesAs cs before out r → length cs ≤ 256 → (comps_of (record { c = out; n = length cs }) ≡ cs) × PastKept (length cs) before out
+pass_fits cs before out None p h = absurd (omega arith)
+pass_fits cs before out (Some k) p h = (subst (λ n. comps_of (record { c = out; n = n }) ≡ cs) p.1 p.0, subst (λ n. PastKept n before out) p.1 p.3)

@@ -4,6 +4,7 @@ use Prim.Native.Nat.{ℕ, zero, suc, ◌-◌, ◌<◌, ◌≤◌}
 use native.Mathlib.Omega.{arith}
 use mathlib.Core.List.{List, [], ◌∷◌, ◌++◌, flat_map}
 use mathlib.Core.Bool.{Bool, true, false, cond, not, false≢true}
+use mathlib.Core.Logic.{◌⊎◌, inl, inr}
 use mathlib.Core.Path.{◌≡◌, refl, sym, ap, ◌∙◌}
 use lib.Dec.{eqb, ltb}
 use lib.ListN.{length, drop, length-append}
@@ -13,14 +14,15 @@ use Rattle.table.specs.declared.Head.{Head}
 use Rattle.table.specs.declared.Head.TheVariants.{Stop, Go, Out, In, Call}
 use Rattle.table.specs.Words.{parts_in, head_at, next_at}
 use Rattle.table.specs.Valid.{head_ok, next_ok, script_ok, comp_ok}
-use Rattle.table.specs.Split.{fresh, and_then, parts_from, split_at, timed, or_else, waited, passed, expired_at}
+use Rattle.table.specs.Split.{timer_in, fresh, and_then, parts_from, split_at, timed, or_else, waited, passed, expired_at}
 use Rattle.table.specs.Fire.{passed_all}
 use Rattle.table.proofs.Tests.{inner, part-fine, comp-fine}
 use Rattle.table.proofs.Places.{out-fine, in-fine}
 use Rattle.table.proofs.Kept.{pass-some}
 use Rattle.calls_steady.specs.Steady.{touches}
 use Rattle.calls_pass.specs.declared.Turn.{Turn}
-use Rattle.calls_pass.specs.Turn.{whole, step_of, part_of, else_turn, wait_turn, touched_turn, only_waits, waits_on, first_turn, turn_of, rest_of, remaining}
+use Rattle.std.specs.Prelude.{Option, Some, None, SomeIff, is_some}
+use Rattle.calls_pass.specs.Turn.{whole, place_of, Within, step_of, part_of, else_turn, wait_turn, touched_turn, only_waits, waits_on, first_turn, turn_of, rest_of, remaining}
 
 -- ── a split, part by part ──
 next_small : (w : List ℕ) (i n : ℕ) → next_ok w i n ≡ true → n ≤ i
@@ -50,21 +52,25 @@ split_step w good l vs i b =
 
 -- ── one turn ──
 -- what a turn leaves of its component: nothing, or the parts from a place on
-abbrev left_of : List ℕ → ℕ → Comp → ℕ → List Comp
-left_of w l c next = and_then (split_at w c.loc c.vals) next
+abbrev left_of : List ℕ → ℕ → Comp → Option ℕ → List Comp
+left_of w l c None = []
+left_of w l c (Some j) = split_at w c.loc c.vals j
+
+left-next : (w : List ℕ) (l : ℕ) (c : Comp) (n : ℕ) → and_then (split_at w c.loc c.vals) n ≡ left_of w l c (place_of n)
+unfolding and_then
+left-next w l c zero = refl
+left-next w l c (suc j) = refl
 
 -- a turn writes the head of what is left
-record Writes (w : List ℕ) (l : ℕ) (c : Comp) (rest : List Comp) (t : Turn) : Type 0 where
-  head : rest ≡ t.comp ∷ left_of w l c t.next
-  done : t.step ≡ step_of t.next
+abbrev Writes : List ℕ → ℕ → Comp → List Comp → Turn → Type 0
+Writes w l c rest t = rest ≡ t.comp ∷ left_of w l c t.next
 
 module _ (w : List ℕ) (good : script_ok w ≡ true) (l : ℕ) (c : Comp) where
   whole-writes : (d : Comp) → Writes w l c (d ∷ []) (whole d)
-  unfolding and_then
-  whole-writes d = record { head = refl; done = refl }
+  whole-writes d = refl
 
   part-writes : (j : ℕ) → j < parts_in w → Writes w l c (split_at w c.loc c.vals j) (part_of w c j)
-  part-writes j h = record { head = split_step w good c.loc c.vals j h; done = refl }
+  part-writes j h = split_step w good c.loc c.vals j h ∙ ap (λ z. fresh w c.loc c.vals j ∷ z) (left-next w l c (next_at w j))
 
   else-writes : (q : ℕ) → q < parts_in w → Writes w l c (or_else w c q) (else_turn w c q)
   unfolding or_else else_turn
@@ -96,88 +102,98 @@ module _ (w : List ℕ) (good : script_ok w ≡ true) (l : ℕ) (c : Comp) where
       go false x true = wait-writes (head_at w c.place) (part-fine w good c.place b).head b
       go false x false = whole-writes c
 
-  turn-writes : (next : ℕ) → comp_ok w c ≡ true → next ≤ parts_in w → Writes w l c (rest_of w l c next) (turn_of w l c next)
+  turn-writes : (next : Option ℕ) → comp_ok w c ≡ true → Within (parts_in w) next → Writes w l c (rest_of w l c next) (turn_of w l c next)
   unfolding rest_of turn_of
-  turn-writes zero f h = first-writes f
-  turn-writes (suc j) f h = part-writes j (omega arith)
+  turn-writes None f h = first-writes f
+  turn-writes (Some j) f h = part-writes j h
 
 -- ── the next part is in range, and below the place that was written ──
-pub turn-next : (w : List ℕ) → script_ok w ≡ true → (l : ℕ) (c : Comp) (next : ℕ) → comp_ok w c ≡ true → next ≤ parts_in w
-    → ((turn_of w l c next).next ≤ parts_in w) × ((turn_of w l c next).step ≡ step_of (turn_of w l c next).next) × ((j : ℕ) → next ≡ suc j → (turn_of w l c next).next ≤ j)
-turn-next w good l c next f h = (small next h, (turn-writes w good l c next f h).done, below next h)
+within-place : (m n : ℕ) → n ≤ m → Within m (place_of n)
+within-place m zero h = tt
+within-place m (suc j) h = omega arith
+
+pub turn-next : (w : List ℕ) → script_ok w ≡ true → (l : ℕ) (c : Comp) (next : Option ℕ) → comp_ok w c ≡ true → Within (parts_in w) next
+    → Within (parts_in w) (turn_of w l c next).next × ((j : ℕ) → next ≡ Some j → Within j (turn_of w l c next).next)
+turn-next w good l c next f h = (small next h, below next h)
   where
     b : c.place < parts_in w
     b = (comp-fine w c f).place
 
-    part_small : (j : ℕ) → j < parts_in w → next_at w j ≤ parts_in w
-    part_small j h = omega (arith, next_fits w good j h)
+    part_small : (j : ℕ) → j < parts_in w → Within (parts_in w) (place_of (next_at w j))
+    part_small j h = within-place (parts_in w) (next_at w j) (omega (arith, next_fits w good j h))
 
-    else-small : (q : ℕ) → q < parts_in w → (z : Bool) → (cond z (part_of w c q) (whole (timed c (less_raw c.timer)))).next ≤ parts_in w
+    else-small : (q : ℕ) → q < parts_in w → (z : Bool) → Within (parts_in w) (cond z (part_of w c q) (whole (timed c (less_raw c.timer)))).next
     else-small q h true = part_small q h
-    else-small q h false = omega arith
+    else-small q h false = tt
 
-    wait-small : (g : Head) → head_ok w c.place g ≡ true → (wait_turn w c g).next ≤ parts_in w
-    wait-small Stop e = unfold wait_turn in omega arith
-    wait-small (Go t v p) e = unfold wait_turn in omega arith
+    wait-small : (g : Head) → head_ok w c.place g ≡ true → Within (parts_in w) (wait_turn w c g).next
+    wait-small Stop e = unfold wait_turn in tt
+    wait-small (Go t v p) e = unfold wait_turn in tt
     wait-small (Out d t v p q) e = unfold wait_turn else_turn in else-small q (omega (arith, (out-fine w c.place d t v p q e).second.lesser, b)) (expired_at w c)
     wait-small (In d t k p q) e = unfold wait_turn else_turn in else-small q (omega (arith, (in-fine w c.place d t k p q e).second.lesser, b)) (expired_at w c)
-    wait-small (Call d n) e = unfold wait_turn in omega arith
+    wait-small (Call d n) e = unfold wait_turn in tt
 
-    first_small : (m x y : Bool) → (cond m (cond x (part_of w c c.place) (whole c)) (cond y (wait_turn w c (head_at w c.place)) (whole c))).next ≤ parts_in w
+    first_small : (m x y : Bool) → Within (parts_in w) (cond m (cond x (part_of w c c.place) (whole c)) (cond y (wait_turn w c (head_at w c.place)) (whole c))).next
     first_small true true y = part_small c.place b
-    first_small true false y = omega arith
+    first_small true false y = tt
     first_small false x true = wait-small (head_at w c.place) (part-fine w good c.place b).head
-    first_small false x false = omega arith
+    first_small false x false = tt
 
-    small : (n : ℕ) → n ≤ parts_in w → (turn_of w l c n).next ≤ parts_in w
-    small zero h = unfold turn_of first_turn in first_small (ltb c.mark 64) (eqb c.mark l) (eqb c.loc l)
-    small (suc j) h = unfold turn_of in part_small j (omega arith)
+    small : (n : Option ℕ) → Within (parts_in w) n → Within (parts_in w) (turn_of w l c n).next
+    small None h = unfold turn_of first_turn in first_small (ltb c.mark 64) (eqb c.mark l) (eqb c.loc l)
+    small (Some j) h = unfold turn_of in part_small j h
 
-    below : (n : ℕ) → n ≤ parts_in w → (j : ℕ) → n ≡ suc j → (turn_of w l c n).next ≤ j
-    below zero h j e = absurd (omega arith)
-    below (suc i) h j e = unfold turn_of in let m : i ≡ j = omega arith in rw (← m) (next_fits w good i (omega arith))
+    below : (n : Option ℕ) → Within (parts_in w) n → (j : ℕ) → n ≡ Some j → Within j (turn_of w l c n).next
+    below None h j e = cc
+    below (Some i) h j e = unfold turn_of in let m : i ≡ j = cc in rw (← m) (within-place i (next_at w i) (next_fits w good i h))
 
 -- ── what is left after a turn ──
-pub remaining-begin : (w : List ℕ) (l : ℕ) (cs : List Comp) → remaining w l cs 0 ≡ passed_all w l cs
+pub remaining-begin : (w : List ℕ) (l : ℕ) (cs : List Comp) → remaining w l cs None ≡ passed_all w l cs
 unfolding remaining rest_of passed_all flat_map
 remaining-begin w l [] = refl
 remaining-begin w l (c ∷ cs) = refl
 
-pub remaining-turn : (w : List ℕ) → script_ok w ≡ true → (l : ℕ) (c : Comp) (cs : List Comp) (next i : ℕ) → comp_ok w c ≡ true → next ≤ parts_in w
+pub remaining-turn : (w : List ℕ) → script_ok w ≡ true → (l : ℕ) (c : Comp) (cs : List Comp) (next : Option ℕ) → comp_ok w c ≡ true → Within (parts_in w) next
     → remaining w l (c ∷ cs) next ≡ (turn_of w l c next).comp ∷ remaining w l (drop (step_of (turn_of w l c next).next) (c ∷ cs)) (turn_of w l c next).next
 unfolding remaining
-remaining-turn w good l c cs next i f h =
-    ap (λ z. z ++ passed_all w l cs) (turn-writes w good l c next f h).head
+remaining-turn w good l c cs next f h =
+    ap (λ z. z ++ passed_all w l cs) (turn-writes w good l c next f h)
     ∙ ap (λ z. (turn_of w l c next).comp ∷ z) (go (turn_of w l c next).next)
   where
-    go : (n : ℕ) → left_of w l c n ++ passed_all w l cs ≡ remaining w l (drop (step_of n) (c ∷ cs)) n
-    go zero = unfold and_then in sym (remaining-begin w l cs)
-    go (suc j) = unfold and_then rest_of in refl
+    go : (n : Option ℕ) → left_of w l c n ++ passed_all w l cs ≡ remaining w l (drop (step_of n) (c ∷ cs)) n
+    go None = sym (remaining-begin w l cs)
+    go (Some j) = unfold rest_of in refl
 
 -- what is left is never nothing while a component is left
-pub remaining-some : (w : List ℕ) (l : ℕ) (c : Comp) (cs : List Comp) (next : ℕ) → 0 < length (remaining w l (c ∷ cs) next)
+pub remaining-some : (w : List ℕ) (l : ℕ) (c : Comp) (cs : List Comp) (next : Option ℕ) → 0 < length (remaining w l (c ∷ cs) next)
 unfolding remaining
 remaining-some w l c cs next = rw (length-append (rest_of w l c next) (passed_all w l cs)) (omega (arith, go next))
   where
-    go : (n : ℕ) → 0 < length (rest_of w l c n)
-    go zero = unfold rest_of in pass-some w l c
-    go (suc j) = unfold rest_of split_at parts_from in omega arith
+    go : (n : Option ℕ) → 0 < length (rest_of w l c n)
+    go None = unfold rest_of in pass-some w l c
+    go (Some j) = unfold rest_of split_at parts_from in omega arith
 
--- ── by the tests of the code ──
-pub step-none : (n : ℕ) → (n ≡ 0 → ⊥) → step_of n ≡ 0
-step-none zero h = absurd (h refl)
-step-none (suc n) h = refl
+-- the next part's number less one, if it can be taken
+pub place-is : (n : ℕ) (r : Option ℕ) → SomeIff r (1 ≤ n) (n - 1) → r ≡ place_of n
+place-is zero None h = refl
+place-is zero (Some j) h = absurd (omega (arith, h.0))
+place-is (suc n) None h = absurd (h (omega arith))
+place-is (suc n) (Some j) h = ap Some (omega (arith, h.1))
 
-pub turn-part : (w : List ℕ) (l : ℕ) (c : Comp) (next : ℕ) → (next ≡ 0 → ⊥) → turn_of w l c next ≡ part_of w c (next - 1)
-unfolding turn_of
-turn-part w l c zero h = absurd (h refl)
-turn-part w l c (suc j) h = ap (part_of w c) (omega arith)
+-- ── is the component done with? ──
+pub some-next : (x : Option ℕ) → is_some x ≡ false → x ≡ None
+some-next None e = refl
+some-next (Some j) e = absurd (false≢true (sym e))
+
+pub step-more : (x : Option ℕ) → is_some x ≡ true → step_of x ≡ 0
+step-more None e = absurd (false≢true e)
+step-more (Some j) e = refl
 
 -- ── the values of a component stay ──
-pub turn-vals : (w : List ℕ) (l : ℕ) (c : Comp) (next : ℕ) → length (turn_of w l c next).comp.vals ≡ length c.vals
+pub turn-vals : (w : List ℕ) (l : ℕ) (c : Comp) (next : Option ℕ) → length (turn_of w l c next).comp.vals ≡ length c.vals
 unfolding turn_of first_turn wait_turn else_turn fresh timed
-turn-vals w l c (suc j) = refl
-turn-vals w l c zero = first (ltb c.mark 64) (eqb c.mark l) (eqb c.loc l) (head_at w c.place)
+turn-vals w l c (Some j) = refl
+turn-vals w l c None = first (ltb c.mark 64) (eqb c.mark l) (eqb c.loc l) (head_at w c.place)
   where
     other : (b : Bool) (q : ℕ) → length (cond b (part_of w c q) (whole (timed c (less_raw c.timer)))).comp.vals ≡ length c.vals
     other true q = refl
@@ -237,3 +253,45 @@ waits-whole w c e = go (ltb c.mark 64) e
     go : (b : Bool) → cond b false (only_waits w c (head_at w c.place)) ≡ true → cond b (part_of w c c.place) (wait_turn w c (head_at w c.place)) ≡ whole (timed c (less_raw c.timer))
     go true e = absurd (false≢true e)
     go false e = head (head_at w c.place) e
+
+-- ── by the form of the head ──
+abbrev Silent : Head → Type 0
+Silent h = (h ≡ Stop) ⊎ ((d : ℕ) × (n : ℕ) × (h ≡ Call d n))
+
+-- an output or an input with its Q at q
+abbrev Waiting : Head → ℕ → Type 0
+Waiting h q = ((d : ℕ) × (t : ℕ) × (v : ℕ) × (p : ℕ) × (h ≡ Out d t v p q)) ⊎ ((d : ℕ) × (t : ℕ) × (k : ℕ) × (p : ℕ) × (h ≡ In d t k p q))
+
+abbrev Timed : Head → ℕ → Type 0
+Timed h t = ((v : ℕ) × (p : ℕ) × (h ≡ Go t v p)) ⊎ (((d : ℕ) × (v : ℕ) × (p : ℕ) × (q : ℕ) × (h ≡ Out d t v p q)) ⊎ ((d : ℕ) × (k : ℕ) × (p : ℕ) × (q : ℕ) × (h ≡ In d t k p q)))
+
+pub silent-timer : (h : Head) → Silent h → ◌≡◌ {A = ℕ} 0 (timer_in h)
+unfolding timer_in
+silent-timer h (inl e) = rw e
+silent-timer h (inr e) = rw e.2
+
+pub timed-timer : (h : Head) (t : ℕ) → Timed h t → t ≡ timer_in h
+unfolding timer_in
+timed-timer h t (inl e) = rw e.2
+timed-timer h t (inr (inl e)) = rw e.4
+timed-timer h t (inr (inr e)) = rw e.4
+
+pub silent-waits : (w : List ℕ) (c : Comp) (h : Head) → Silent h → false ≡ only_waits w c h
+unfolding only_waits
+silent-waits w c h (inl e) = rw e
+silent-waits w c h (inr e) = rw e.2
+
+pub waiting-waits : (w : List ℕ) (c : Comp) (h : Head) → ((d : ℕ) × (t : ℕ) × (v : ℕ) × (p : ℕ) × (q : ℕ) × (h ≡ Out d t v p q)) ⊎ ((d : ℕ) × (t : ℕ) × (k : ℕ) × (p : ℕ) × (q : ℕ) × (h ≡ In d t k p q)) → not (expired_at w c) ≡ only_waits w c h
+unfolding only_waits
+waiting-waits w c h (inl e) = rw e.5
+waiting-waits w c h (inr e) = rw e.5
+
+pub waiting-turn : (w : List ℕ) (c : Comp) (h : Head) (q : ℕ) → Waiting h q → else_turn w c q ≡ wait_turn w c h
+unfolding wait_turn
+waiting-turn w c h q (inl e) = rw e.4
+waiting-turn w c h q (inr e) = rw e.4
+
+-- its Q comes from a lesser place
+pub waiting-less : (w : List ℕ) (i q : ℕ) (h : Head) → head_ok w i h ≡ true → Waiting h q → q < i
+waiting-less w i q h o (inl e) = let f : head_ok w i (Out e.0 e.1 e.2 e.3 q) ≡ true = rw e.4 at o in omega (arith, (out-fine w i e.0 e.1 e.2 e.3 q f).second.lesser)
+waiting-less w i q h o (inr e) = let f : head_ok w i (In e.0 e.1 e.2 e.3 q) ≡ true = rw e.4 at o in omega (arith, (in-fine w i e.0 e.1 e.2 e.3 q f).second.lesser)

@@ -1,6 +1,6 @@
 -- The tick, one component written at a time: what the contracts of `pass` cite.
 -- Serves inner contracts only.
-use Rattle.std.specs.Prelude.{ℕ, zero, suc, List, [], ◌∷◌, ◌++◌, Bool, true, false, cond, not, eqb, ltb}
+use Rattle.std.specs.Prelude.{ℕ, zero, suc, ◌<◌, Option, Some, None, List, [], ◌∷◌, ◌++◌, Bool, true, false, cond, not, eqb, ltb}
 use Rattle.terms.specs.Clock.{less_raw}
 use Rattle.table.specs.declared.Comp.{Comp}
 use Rattle.table.specs.declared.Head.{Head}
@@ -12,16 +12,26 @@ use Rattle.calls_pass.specs.declared.Turn.{Turn}
 
 -- a component that is written whole, and is then done with
 abbrev pub whole : Comp → Turn
-whole d = record { comp = d; next = 0; step = 1 }
+whole d = record { comp = d; next = None }
 
--- 1 once there is no next part
-abbrev pub step_of : ℕ → ℕ
-step_of zero = 1
-step_of (suc j) = 0
+-- the place of the next part, where a part says of it 0 for none, or the place and one
+abbrev pub place_of : ℕ → Option ℕ
+place_of zero = None
+place_of (suc j) = Some j
+
+-- a place that comes next, if there is one, is below n
+abbrev pub Within : ℕ → Option ℕ → Type 0
+Within n None = Unit {0}
+Within n (Some j) = j < n
+
+-- how many components are done with by a turn after which this part comes next
+abbrev pub step_of : Option ℕ → ℕ
+step_of None = 1
+step_of (Some j) = 0
 
 -- the part of c at the place j, and then the next one
 abbrev pub part_of : List ℕ → Comp → ℕ → Turn
-part_of w c j = record { comp = fresh w c.loc c.vals j; next = next_at w j; step = step_of (next_at w j) }
+part_of w c j = record { comp = fresh w c.loc c.vals j; next = place_of (next_at w j) }
 
 -- an `in` or `out` with its Q at q
 unfoldable pub else_turn : List ℕ → Comp → ℕ → Turn
@@ -57,17 +67,17 @@ first_turn w l c =
     (cond (eqb c.mark l) (part_of w c c.place) (whole c))
     (cond (eqb c.loc l) (wait_turn w c (head_at w c.place)) (whole c))
 
--- the turn of c where the parts from the place j on are left of it, for the number j and one; 0 for the first turn
-unfoldable pub turn_of : List ℕ → ℕ → Comp → ℕ → Turn
-turn_of w l c zero = first_turn w l c
-turn_of w l c (suc j) = part_of w c j
+-- the turn of c where the parts from the place j on are left of it; or its first turn
+unfoldable pub turn_of : List ℕ → ℕ → Comp → Option ℕ → Turn
+turn_of w l c None = first_turn w l c
+turn_of w l c (Some j) = part_of w c j
 
 -- what is left to be written of c
-unfoldable pub rest_of : List ℕ → ℕ → Comp → ℕ → List Comp
-rest_of w l c zero = passed w l c
-rest_of w l c (suc j) = split_at w c.loc c.vals j
+unfoldable pub rest_of : List ℕ → ℕ → Comp → Option ℕ → List Comp
+rest_of w l c None = passed w l c
+rest_of w l c (Some j) = split_at w c.loc c.vals j
 
 -- what is left to be written of components of which the first has had its turns up to next
-unfoldable pub remaining : List ℕ → ℕ → List Comp → ℕ → List Comp
+unfoldable pub remaining : List ℕ → ℕ → List Comp → Option ℕ → List Comp
 remaining w l [] next = []
 remaining w l (c ∷ cs) next = rest_of w l c next ++ passed_all w l cs

@@ -12,10 +12,9 @@ pub mod pass;
 
 use table::Comp;
 
-// One turn of a component in a tick: the component written, the place and one of the part that comes next or 0, and 1 once it is done with.
+// One turn of a component in a tick: the component written, and the place of the part that comes next; none once it is done with.
 #[derive(Clone, Copy)]
 pub struct Turn {
     pub comp: Comp,
-    pub next: u32,
-    pub step: usize,
+    pub next: Option<u32>,
 }

@@ -1,13 +1,13 @@
 // Every component in the tick at l, one written at a time: in place as long as none splits, then out of a copy. A component that splits has a turn for each
 // of its parts.
-ghost use Rattle.std.specs.Prelude.{◌≡◌, true, ◌<◌, ◌≤◌, length};
+ghost use Rattle.std.specs.Prelude.{◌≡◌, true, ◌<◌, ◌≤◌, length, unwrap_or};
 ghost use Rattle.table.specs.Words.{state_words, parts_in, edition_in};
 ghost use Rattle.table.specs.Meaning.{comps_of};
 ghost use Rattle.table.specs.Valid.{script_ok, comp_ok, valid, head_ok};
 ghost use Rattle.table.specs.Split.{timer_in, fresh, timed, expired_at};
 ghost use Rattle.table.specs.Fire.{passed_all};
 ghost use Rattle.terms.specs.Clock.{less_raw, is_edition};
-ghost use Rattle.calls_pass.specs.Turn.{whole, part_of, else_turn, wait_turn, touched_turn, first_turn, turn_of, only_waits, waits_on};
+ghost use Rattle.calls_pass.specs.Turn.{Within, whole, part_of, else_turn, wait_turn, touched_turn, first_turn, turn_of, only_waits, waits_on};
 ghost use Rattle.calls_pass.specs.Passed.{PassesAs, passed_from, PassedHere};
 
 use super::Turn;
@@ -21,11 +21,8 @@ fn timer_in(h: Head) -> u32
     ensures { result ≡ timer_in h }
 {
     match h {
-        Head::Stop => 0,
-        Head::Go(t, _, _) => t,
-        Head::Out(_, t, _, _, _) => t,
-        Head::In(_, t, _, _, _) => t,
-        Head::Call(_, _) => 0,
+        Head::Go(t, _, _) | Head::Out(_, t, _, _, _) | Head::In(_, t, _, _, _) => t,
+        Head::Stop | Head::Call(_, _) => 0,
     }
 }
 
@@ -38,9 +35,9 @@ fn fresh_at(w: &Script, l: u32, vals: [u32; 8], place: u32) -> Comp
     Comp {
         loc: l,
         mark: 64,
-        place: place,
+        place,
         timer: timer_in(h),
-        vals: vals,
+        vals,
         wait: 0,
     }
 }
@@ -50,8 +47,7 @@ fn whole_turn(c: Comp) -> Turn
 {
     Turn {
         comp: c,
-        next: 0,
-        step: 1,
+        next: None,
     }
 }
 
@@ -59,24 +55,18 @@ fn whole_turn(c: Comp) -> Turn
 fn waited(c: Comp) -> Comp
     ensures { result ≡ timed c (less_raw c.timer) }
 {
-    let t = Timer { raw: c.timer };
-    let u = t.less_one();
-    let vals = c.vals;
+    let u = Timer { raw: c.timer }.less_one();
     Comp {
-        loc: c.loc,
-        mark: c.mark,
-        place: c.place,
         timer: u.raw,
-        vals: vals,
         wait: longer(c.wait),
+        ..c
     }
 }
 
 fn timed_turn(c: Comp) -> Turn
     ensures { result ≡ whole (timed c (less_raw c.timer)) }
 {
-    let d = waited(c);
-    whole_turn(d)
+    whole_turn(waited(c))
 }
 
 fn is_expired(w: &Script, c: Comp) -> bool
@@ -91,20 +81,9 @@ fn part_turn(w: &Script, c: Comp, place: u32) -> Turn
     requires { place < 4096 }
     ensures { result ≡ part_of w.now c place }
 {
-    let vals = c.vals;
-    let d = fresh_at(w, c.loc, vals, place);
-    let next = words::next_at(w, words::wide(place));
-    if next == 0 {
-        return Turn {
-            comp: d,
-            next: next,
-            step: 1,
-        };
-    }
     Turn {
-        comp: d,
-        next: next,
-        step: 0,
+        comp: fresh_at(w, c.loc, c.vals, place),
+        next: words::next_at(w, words::wide(place)).checked_sub(1),
     }
 }
 
@@ -125,8 +104,7 @@ fn wait_turn(w: &Script, c: Comp, h: Head) -> Turn
     match h {
         Head::Stop => whole_turn(c),
         Head::Go(_, _, _) => timed_turn(c),
-        Head::Out(_, _, _, _, q) => else_turn(w, c, q),
-        Head::In(_, _, _, _, q) => else_turn(w, c, q),
+        Head::Out(_, _, _, _, q) | Head::In(_, _, _, _, q) => else_turn(w, c, q),
         Head::Call(_, _) => whole_turn(c),
     }
 }
@@ -148,14 +126,14 @@ fn first_turn(w: &Script, l: u32, c: Comp) -> Turn
     whole_turn(c)
 }
 
-fn turn(w: &Script, l: u32, c: Comp, next: u32) -> Turn
-    requires { (script_ok w.now ≡ true) × (comp_ok w.now c ≡ true) × (next ≤ parts_in w.now) }
+fn turn(w: &Script, l: u32, c: Comp, next: Option<u32>) -> Turn
+    requires { (script_ok w.now ≡ true) × (comp_ok w.now c ≡ true) × Within (parts_in w.now) next }
     ensures { result ≡ turn_of w.now l c next }
 {
-    if next == 0 {
-        return first_turn(w, l, c);
+    match next {
+        None => first_turn(w, l, c),
+        Some(place) => part_turn(w, c, place),
     }
-    part_turn(w, c, next - 1)
 }
 
 // The first turn of a component that the tick touches. It has one caller, so that it is compiled in place there, where most time is spent.
@@ -176,11 +154,9 @@ fn only_waits(w: &Script, c: Comp, h: Head) -> bool
     ensures { result ≡ only_waits w.now c h }
 {
     match h {
-        Head::Stop => false,
         Head::Go(_, _, _) => true,
-        Head::Out(_, _, _, _, _) => !is_expired(w, c),
-        Head::In(_, _, _, _, _) => !is_expired(w, c),
-        Head::Call(_, _) => false,
+        Head::Out(_, _, _, _, _) | Head::In(_, _, _, _, _) => !is_expired(w, c),
+        Head::Stop | Head::Call(_, _) => false,
     }
 }
 
@@ -195,67 +171,61 @@ fn waits_on(w: &Script, c: Comp) -> bool
     only_waits(w, c, h)
 }
 
-// The components in place, up to the first that splits: its position, or n. One that the tick does not touch is left alone, and most of the others only wait.
-fn pass_here(w: &Script, c: &mut Words, n: usize, l: u32) -> usize
+// The components in place, up to the first that splits: its position, if one does. One that the tick does not touch is left alone, and most of the others only
+// wait.
+fn pass_here(w: &Script, c: &mut Words, n: usize, l: u32) -> Option<usize>
     requires { (valid w.now (record { c = c.now; n = n }) ≡ true) × (length c.now ≡ state_words) }
-    ensures { PassedHere w.now l (record { c = c.entry.now; n = n }) c.exit.now result }
+    ensures { PassedHere w.now l (record { c = c.entry.now; n = n }) c.exit.now (unwrap_or result n) }
 {
-    let mut i: usize = 0;
-    while i < n {
+    for i in 0..n {
         let x = comp_at(c, i);
         if !touched(l, x) {
-            i += 1;
             continue;
         }
         if waits_on(w, x) {
-            let y = waited(x);
-            put_comp(c, i, y);
-            i += 1;
+            put_comp(c, i, waited(x));
             continue;
         }
         let t = touched_turn(w, x);
-        if t.next != 0 {
-            return i;
+        if t.next.is_some() {
+            return Some(i);
         }
-        let d = t.comp;
-        put_comp(c, i, d);
-        i += 1;
+        put_comp(c, i, t.comp);
     }
-    i
+    None
 }
 
-// The components from position j on, written to out behind those that are there: how many they are with these, or 257 if there is no room for all.
-fn pass_rest(w: &Script, c: &Words, n: usize, l: u32, j: usize, out: &mut Words) -> usize
+// The components from position j on, written to out behind those that are there: how many they are with these, if there is room for all.
+fn pass_rest(w: &Script, c: &Words, n: usize, l: u32, j: usize, out: &mut Words) -> Option<usize>
     requires { (valid w.now (record { c = c.now; n = n }) ≡ true) × (length out.old ≡ state_words) × (j ≤ n) }
     ensures { PassesAs (passed_from w.now l (record { c = c.entry.now; n = n }) j out.old) out.old out.new result }
 {
     let mut k = j;
     let mut i = j;
-    let mut next: u32 = 0;
+    let mut next = None;
     while i < n {
         if 256 <= k {
-            return 257;
+            return None;
         }
-        let x = comp_at(c, i);
-        let t = turn(w, l, x, next);
-        let d = t.comp;
-        put_comp(out, k, d);
+        let t = turn(w, l, comp_at(c, i), next);
+        put_comp(out, k, t.comp);
         k += 1;
         next = t.next;
-        i += t.step;
+        if next.is_none() {
+            i += 1;
+        }
     }
-    k
+    Some(k)
 }
 
-// Every component in the tick at l, in the lent ones: how many they are, or 257 if there is no room for all, and then what the lent ones hold is of no use.
-pub fn pass_all(w: &Script, c: &mut Words, n: usize, l: u32) -> usize
+// Every component in the tick at l, in the lent ones: how many they are, if there is room for all; else what the lent ones hold is of no use.
+pub fn pass_all(w: &Script, c: &mut Words, n: usize, l: u32) -> Option<usize>
     requires { (valid w.now (record { c = c.now; n = n }) ≡ true) × (length c.now ≡ state_words) }
     ensures { PassesAs (passed_all w.now l (comps_of (record { c = c.entry.now; n = n }))) c.entry.now c.exit.now result }
 {
-    let j = pass_here(w, c, n, l);
-    if n <= j {
-        return n;
-    }
+    let Some(j) = pass_here(w, c, n, l) else {
+        return Some(n);
+    };
     let rest = *c;
     pass_rest(w, &rest, n, l, j, c)
 }

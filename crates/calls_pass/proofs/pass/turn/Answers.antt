@@ -1,19 +1,20 @@
--- `turn` meets its contract: 0 is the first turn.
-use Rattle.calls_pass.proofs.Turns.{turn-part}
+-- `turn` meets its contract: where no place is given it is the first turn.
 use native.Mathlib.Omega.{arith}
-use mathlib.Core.Path.{sym, ◌∙◌}
+use Rattle.table.specs.Words.{parts_in}
+use mathlib.Core.Path.{subst}
 use Rattle.table.proofs.Tests.{script-fine}
-use Rattle.calls_pass.specs.Turn.{turn_of}
+use Rattle.calls_pass.specs.Turn.{Within, turn_of}
 use Rattle.calls_pass.proofs.pass.turn.Goals as goal
 
-pub returns-then-next-eq0 : goal.returns-then-next-eq0
+pub returns-in-None : goal.returns-in-None
 unfolding turn_of
-returns-then-next-eq0 c = rw c.if-next-eq0.true c.first_turn.ensures
+returns-in-None c = rw c.in-None.is c.first_turn.ensures
 
 pub part_turn-requires : goal.part_turn-requires
-part_turn-requires c = omega (arith, c.requires.2, (script-fine c.args.w.now c.requires.0).parts)
+part_turn-requires c =
+    let w = c.args.w.now in
+    omega (arith, subst (Within (parts_in w)) c.in-Some.is c.requires.2, (script-fine w c.requires.0).parts)
 
-pub returns : goal.returns
-returns c =
-    let a = c.args in
-    c.part_turn.ensures ∙ sym (turn-part a.w.now a.l a.c a.next c.if-next-eq0.false)
+pub returns-in-Some : goal.returns-in-Some
+unfolding turn_of
+returns-in-Some c = rw c.in-Some.is c.part_turn.ensures
