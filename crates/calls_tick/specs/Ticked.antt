@@ -1,6 +1,8 @@
 -- What the answer of a tick stands for: document 01, *The tick at l* and *Questions, asked downward*, and document 02, R-1.
-use Rattle.std.specs.Prelude.{ℕ, ◌≤◌, List, true, ◌≡◌, leb, ltb, length}
+use Rattle.std.specs.Prelude.{ℕ, ◌≤◌, Result, Ok, Err, List, true, ◌≡◌, leb, ltb, length}
 use Rattle.terms.specs.Names.{Name}
+use Rattle.terms.specs.Refusals.{number_of}
+use Rattle.terms.specs.declared.refusal.Refusal.{Refusal}
 use Rattle.terms.specs.Terms.{Component, Context}
 use Rattle.terms.specs.Rules.{Answer, ◌>>=◌, tick}
 use Rattle.terms.specs.Rules.Answer.{refused, accepted}
@@ -31,6 +33,11 @@ tick_answer w st l = asked 17 (valid w st) (tick_rule w st l)
 
 abbrev pub refusal : ℕ → ℕ → Ticked
 refusal code n = record { code = code; n = n }
+
+-- the answer, of a refusal with the n components that there were, or of how many there are now
+abbrev pub ticked_of : ℕ → Result ℕ Refusal → Ticked
+ticked_of n (Ok k) = record { code = 0; n = k }
+ticked_of n (Err e) = refusal (number_of e) n
 
 -- the lent components afterwards, of which the answer says how many are in use
 abbrev pub left : Ticked → List ℕ → State

@@ -1,12 +1,12 @@
 // The tick at a location of a table that passes question 17, in the lent components: questions 8, 12 and 13. A refusal leaves them as they were.
-ghost use Rattle.std.specs.Prelude.{◌≡◌, true, false, ◌<◌};
+ghost use Rattle.std.specs.Prelude.{◌≡◌, true, false, ◌<◌, Ok};
 ghost use Rattle.terms.specs.Same.{every};
 ghost use Rattle.table.specs.Words.{locs_in};
 ghost use Rattle.table.specs.Meaning.{comps_of};
 ghost use Rattle.table.specs.Valid.{valid};
 ghost use Rattle.table.specs.Fire.{forced_at};
 ghost use Rattle.calls_steady.specs.Steady.{stays_one};
-ghost use Rattle.calls_tick.specs.Ticked.{tick_rule, TicksAs, refusal};
+ghost use Rattle.calls_tick.specs.Ticked.{tick_rule, TicksAs, refusal, ticked_of};
 
 use super::Ticked;
 use calls_must::forced;
@@ -14,57 +14,76 @@ use calls_pass::pass;
 use calls_steady::known_steady;
 use table::comps::sized;
 use table::{Script, Words, words};
+use terms::refusal::Refusal;
 
 pub fn refuse(code: u32, n: usize) -> Ticked
     ensures { result ≡ refusal code n }
 {
-    Ticked { code: code, n: n }
+    Ticked { code, n }
+}
+
+// The components as they were.
+fn restore(held: &Words, c: &mut Words)
+    ensures { c.new ≡ held.now }
+{
+    *c = *held;
 }
 
 // A refusal, with the components as they were.
 pub fn put_back(code: u32, n: usize, held: &Words, c: &mut Words) -> Ticked
     ensures { (result ≡ refusal code n) × (c.new ≡ held.now) }
 {
-    *c = *held;
+    restore(held, c);
     refuse(code, n)
 }
 
-// A tick that is allowed, where every component stays one: there is room for all.
-fn tick_free(w: &Script, c: &mut Words, n: usize, l: u32) -> Ticked
+// A tick that is allowed, where every component stays one: there is room for all, and as many are left as there were.
+fn tick_free(w: &Script, c: &mut Words, n: usize, l: u32)
     requires { (valid w.now (record { c = c.now; n = n }) ≡ true) × (l < locs_in w.now) × (forced_at w.now l (comps_of (record { c = c.now; n = n })) ≡ false) × (every (stays_one w.now l) (comps_of (record { c = c.now; n = n })) ≡ true) }
-    ensures { TicksAs w.now (record { c = c.entry.now; n = n }) (tick_rule w.now (record { c = c.entry.now; n = n }) l) result c.exit.now }
+    ensures { TicksAs w.now (record { c = c.entry.now; n = n }) (tick_rule w.now (record { c = c.entry.now; n = n }) l) (ticked_of n (Ok n)) c.exit.now }
 {
     sized(*c);
-    let m = pass::pass_all(w, c, n, l);
-    Ticked { code: 0, n: m }
+    pass::pass_all(w, c, n, l);
 }
 
 // A tick that is allowed: question 13, with a copy of the components kept until it is answered.
-fn tick_kept(w: &Script, c: &mut Words, n: usize, l: u32) -> Ticked
+fn tick_kept(w: &Script, c: &mut Words, n: usize, l: u32) -> Result<usize, Refusal>
     requires { (valid w.now (record { c = c.now; n = n }) ≡ true) × (l < locs_in w.now) × (forced_at w.now l (comps_of (record { c = c.now; n = n })) ≡ false) }
-    ensures { TicksAs w.now (record { c = c.entry.now; n = n }) (tick_rule w.now (record { c = c.entry.now; n = n }) l) result c.exit.now }
+    ensures { TicksAs w.now (record { c = c.entry.now; n = n }) (tick_rule w.now (record { c = c.entry.now; n = n }) l) (ticked_of n result) c.exit.now }
 {
     sized(*c);
     let held = *c;
-    let k = pass::pass_all(w, c, n, l);
-    if 256 < k {
-        return put_back(13, n, &held, c);
+    let Some(k) = pass::pass_all(w, c, n, l) else {
+        restore(&held, c);
+        return Err(Refusal::TableFull);
+    };
+    Ok(k)
+}
+
+// How many components there are after the tick.
+fn tick_by(w: &Script, c: &mut Words, n: usize, l: u32) -> Result<usize, Refusal>
+    requires { valid w.now (record { c = c.now; n = n }) ≡ true }
+    ensures { TicksAs w.now (record { c = c.entry.now; n = n }) (tick_rule w.now (record { c = c.entry.now; n = n }) l) (ticked_of n result) c.exit.now }
+{
+    if words::word(w, 1) <= l {
+        return Err(Refusal::OutOfRange);
     }
-    Ticked { code: 0, n: k }
+    if forced::forced_at(w, c, n, l) {
+        return Err(Refusal::Forced);
+    }
+    if known_steady(w, c, n, l) {
+        tick_free(w, c, n, l);
+        return Ok(n);
+    }
+    tick_kept(w, c, n, l)
 }
 
 pub fn tick_valid(w: &Script, c: &mut Words, n: usize, l: u32) -> Ticked
     requires { valid w.now (record { c = c.now; n = n }) ≡ true }
     ensures { TicksAs w.now (record { c = c.entry.now; n = n }) (tick_rule w.now (record { c = c.entry.now; n = n }) l) result c.exit.now }
 {
-    if words::word(w, 1) <= l {
-        return refuse(8, n);
+    match tick_by(w, c, n, l) {
+        Ok(m) => Ticked { code: 0, n: m },
+        Err(e) => refuse(e.number(), n),
     }
-    if forced::forced_at(w, c, n, l) {
-        return refuse(12, n);
-    }
-    if known_steady(w, c, n, l) {
-        return tick_free(w, c, n, l);
-    }
-    tick_kept(w, c, n, l)
 }

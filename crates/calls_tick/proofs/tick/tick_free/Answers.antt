@@ -10,15 +10,12 @@ use Rattle.calls_pass.proofs.Passing.{pass_fits}
 use Rattle.calls_steady.proofs.Staying.{tick-steady}
 use Rattle.calls_tick.proofs.tick.tick_free.Goals as goal
 
-pub pass_all-m-requires : goal.pass_all-m-requires
-pass_all-m-requires c = (c.requires.0, c.sized.ensures)
-
 pub returns : goal.returns
 returns c =
     let a = c.args in
     let v = c.requires in
     let st : State = record { c = a.c.now; n = a.n } in
     let s = tick-steady a.w.now a.l (comps_of st) v.3 ∙ comps-length st in
-    let k = pass_fits _ _ _ _ c.pass_all-m.ensures (omega (arith, s, few-comps a.w.now st v.0)) in
-    let p = c.pass_all-m.ensures.1 k in
-    rw (tick-done a.w.now st a.l v.0 v.1 v.2 (omega (arith, p.1))) (tick-took a.w.now st _ _ a.l v.0 v.1 p.0 p.1 (omega (arith, p.1)) p.2)
+    let few = few-comps a.w.now st v.0 in
+    let p = rw s at (pass_fits _ _ _ _ c.pass_all.ensures (omega arith)) in
+    rw (tick-done a.w.now st a.l v.0 v.1 v.2 (omega arith)) (tick-took a.w.now st _ a.n a.l v.0 v.1 p.0 (omega arith) (omega arith) p.1)
