@@ -3,4 +3,3 @@ pub mod Queues
 pub mod Sweeping
 pub mod Going
 pub mod Tallying
-pub mod Performing

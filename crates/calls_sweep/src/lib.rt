@@ -6,7 +6,6 @@
 //
 //   proofs/Sweeps    the sweep on the table stands for the sweep of the rules
 //   proofs/Queues    the chains of positions that hear a channel
-//   proofs/Performing  what an action leaves where it fits
 //   proofs/Sweeping  one position of the sweep in code
 //   proofs/Going     the loop over the positions
 //   proofs/Tallying  waits, total and count after the sweep are those of its actions one by one

@@ -46,32 +46,34 @@ fn act_by(w: &Script, x: Option<u8>, c: Comp, h: Head) -> Option<Act>
     None
 }
 
+// What is refused stays as it is.
 fn perform(w: &Script, a: Act, c: Comp, e: Comp) -> Visit
     requires { (script_ok w.now ≡ true) × (comp_ok w.now c ≡ true) × (comp_ok w.now e ≡ true) }
     ensures { Performed w.now (Some a) c e result }
 {
+    let stays = Visit { x: c, y: e };
     match a {
-        Act::Calls => {
-            let f = fire::fire_call(w, c);
-            Visit {
+        Act::Calls => fire::fire_call(w, c).map_or(
+            stays,
+            |f| Visit {
                 x: f.comp,
                 y: f.comp,
-            }
-        }
-        Act::Moves => {
-            let f = fire::fire_move(w, c);
-            Visit {
+            },
+        ),
+        Act::Moves => fire::fire_move(w, c).map_or(
+            stays,
+            |f| Visit {
                 x: f.comp,
                 y: f.comp,
-            }
-        }
-        Act::Sends => {
-            let m = fire::fire_pair(w, c, e);
-            Visit {
+            },
+        ),
+        Act::Sends => fire::fire_pair(w, c, e).map_or(
+            stays,
+            |m| Visit {
                 x: m.sender,
                 y: m.receiver,
-            }
-        }
+            },
+        ),
     }
 }
 
