@@ -1,14 +1,12 @@
 -- The step on a valid table stands for the step of the rules, with questions 15, 18 and 13.
 -- By the law of the sweep (Sweeps) and that of its waits (Tallying), that of the tick's pass, and that a step never meets question 12.
-use Prim.Native.Nat.{ℕ, suc, ◌+◌, ◌<◌, ◌≤◌, min}
+use Prim.Native.Nat.{ℕ, ◌+◌, ◌<◌, ◌≤◌}
 use native.Mathlib.Omega.{arith}
-use native.Mathlib.Numerals.{add-one}
-use mathlib.Core.List.{List, [], ◌∷◌, ◌++◌, map, append_assoc}
+use mathlib.Core.List.{List, ◌++◌, map}
 use mathlib.Core.Bool.{true}
 use mathlib.Core.Path.{◌≡◌, refl, sym, ap, ap₂, subst, ◌∙◌}
 use lib.Dec.{leb}
-use lib.ListN.{length, get_or, set, take, drop, length-map, length-take, take-append-drop}
-use lib.Seq.{take-suc, drop-cons, set_at}
+use lib.ListN.{length, take, drop, length-map, take-append-drop}
 use borrow.Author.Tests.{lt-ltb, le-ltb, le-leb, lt-leb}
 use Rattle.terms.specs.Same.{every}
 use Rattle.terms.specs.Rules.{◌>>=◌}
@@ -169,14 +167,3 @@ module _ (w : List ℕ) (st : State) (l : ℕ) (v : valid w st ≡ true) (after 
 pub step-out : (w : List ℕ) (st : State) (l size : ℕ) → locs_in w ≤ l → step_rule w st l size ≡ refused 8
 unfolding step_rule
 step-out w st l size h = rw (le-ltb l (locs_in w) h)
-
--- ── writing the records ──
-pub put-more : (acts before now : List (List ℕ)) (j : ℕ) → j < length acts → j < length before → length now ≡ length before → now ≡ take j acts ++ drop j before
-    → set now j (get_or acts j []) ≡ take (j + 1) acts ++ drop (j + 1) before
-put-more acts before now j h b n e =
-    ap (λ z. set z j (get_or acts j [])) (e ∙ ap (λ z. take j acts ++ z) (drop-cons before j [] b))
-    ∙ set_at (take j acts) (get_or before j []) (drop (suc j) before) (get_or acts j []) j (length-take j acts ∙ small)
-    ∙ sym (ap (λ z. take z acts ++ drop z before) (add-one j) ∙ ap (λ z. z ++ drop (suc j) before) (take-suc acts j [] h) ∙ append_assoc (take j acts) (get_or acts j [] ∷ []) (drop (suc j) before))
-  where
-    small : min j (length acts) ≡ j
-    small = omega arith

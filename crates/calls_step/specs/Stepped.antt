@@ -1,6 +1,8 @@
 -- What the answer of a step stands for: document 01, *The other calls* and *Questions, asked downward*, and document 02, R-1.
-use Rattle.std.specs.Prelude.{ℕ, ◌≤◌, List, ◌++◌, map, ◌≡◌, true, leb, ltb, length, drop}
+use Rattle.std.specs.Prelude.{ℕ, ◌≤◌, Result, Ok, Err, List, ◌++◌, map, ◌≡◌, true, leb, ltb, length, drop}
 use Rattle.terms.specs.Names.{Name}
+use Rattle.terms.specs.Refusals.{number_of}
+use Rattle.terms.specs.declared.refusal.Refusal.{Refusal}
 use Rattle.terms.specs.Terms.{Component, Context}
 use Rattle.terms.specs.Rules.{Answer, Action, ◌>>=◌}
 use Rattle.terms.specs.Rules.Answer.{refused, accepted}
@@ -14,6 +16,7 @@ use Rattle.table.specs.Valid.{valid}
 use Rattle.calls_act.specs.Acted.{asked}
 use Rattle.calls_tick.specs.Ticked.{room}
 use Rattle.calls_step.specs.declared.Stepped.{Stepped}
+use Rattle.calls_step.specs.declared.Done.{Done}
 use Rattle.calls_sweep.specs.Sweep.{rec_of}
 
 -- the actions of a step, the components after its tick, and what is kept beside them
@@ -44,6 +47,16 @@ step_answer w st l size = asked 17 (valid w st) (step_rule w st l size)
 
 abbrev pub refusal : ℕ → ℕ → Stepped
 refusal code n = record { code = code; count = 0; n = n }
+
+-- the answer, of a refusal with the n components that there were, or of what an accepted step gives
+abbrev pub stepped_of : ℕ → Result Done Refusal → Stepped
+stepped_of n (Ok d) = record { code = 0; count = d.count; n = d.n }
+stepped_of n (Err e) = refusal (number_of e) n
+
+-- the components once those of a refused step are put back
+abbrev pub put_back : {A : Type 0} → Result A Refusal → List ℕ → List ℕ → List ℕ
+put_back (Ok d) before after = after
+put_back (Err e) before after = before
 
 -- the lent components afterwards, of which the answer says how many are in use
 abbrev pub left : Stepped → List ℕ → State

@@ -17,3 +17,10 @@ pub struct Stepped {
     pub count: usize,
     pub n: usize,
 }
+
+// What an accepted step gives: how many actions, and how many components there are after it.
+#[derive(Clone, Copy)]
+pub struct Done {
+    pub count: usize,
+    pub n: usize,
+}

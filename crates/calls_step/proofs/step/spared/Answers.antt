@@ -1,14 +1,7 @@
 -- `spared` meets its contract: with less room than positions nothing is said.
 use native.Mathlib.Omega.{arith}
-use mathlib.Core.Bool.{false≢true}
 use Rattle.calls_act.proofs.Positions.{few-comps}
 use Rattle.calls_step.proofs.step.spared.Goals as goal
-
-pub returns-then-size-n : goal.returns-then-size-n
-returns-then-size-n c = λ e. absurd (false≢true e)
-
-pub returns-then-messages : goal.returns-then-messages
-returns-then-messages c = λ e. absurd (false≢true e)
 
 pub returns : goal.returns
 returns c = λ e.

@@ -19,8 +19,8 @@ count_messages-requires c =
     let s = c.sweep-s.ensures in
     fits-now a.w.now st a.l v.0 _ _ _ _ _ _ s (omega (arith, v.3, sent-few a.w.now st a.l v.0 _ _ _ _ _ _ s))
 
-pub pass_all-k-requires : goal.pass_all-k-requires
-pass_all-k-requires c =
+pub pass_all-requires : goal.pass_all-requires
+pass_all-requires c =
     let a = c.args in
     let v = c.requires in
     let st : State = record { c = a.c.now; n = a.n } in
@@ -36,8 +36,8 @@ returns c =
     let s = c.sweep-s.ensures in
     let h : count_in a.c.now + c.sweep-s.result.sent ≤ 1_000_000 = omega (arith, v.3, sent-few a.w.now st a.l v.0 _ _ _ _ _ _ s) in
     let z = step-steady a.w.now st a.l v.0 _ _ _ _ _ _ s v.1 v.4 in
-    let e = rw c.count_messages.ensures at c.pass_all-k.ensures in
-    let k = pass_fits _ _ _ _ e (omega (arith, z, few-comps a.w.now st v.0)) in
-    let p = e.1 k in
-    rw (step-done a.w.now st a.l v.0 _ _ _ _ _ _ s v.1 (length a.records.now) (omega (arith, s.few, v.2)) h (omega (arith, p.1)))
-    (step-took a.w.now st a.l v.0 _ _ _ _ _ _ s v.1 h _ _ _ _ p.0 p.1 (omega (arith, p.1)) p.2 (written a.w.now st a.l v.0 _ _ _ _ _ _ s v.1))
+    let e = rw c.count_messages.ensures at c.pass_all.ensures in
+    let few = few-comps a.w.now st v.0 in
+    let p = rw z at (pass_fits _ _ _ _ e (omega arith)) in
+    rw (step-done a.w.now st a.l v.0 _ _ _ _ _ _ s v.1 (length a.records.now) (omega (arith, s.few, v.2)) h (omega arith))
+    (step-took a.w.now st a.l v.0 _ _ _ _ _ _ s v.1 h _ a.n _ _ p.0 (omega arith) (omega arith) p.1 (written a.w.now st a.l v.0 _ _ _ _ _ _ s v.1))
