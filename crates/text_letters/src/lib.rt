@@ -1,11 +1,13 @@
-// Layer 2, reading and writing: bytes, numbers, names and lists of names, put into a lent buffer from a place on.
+// Layer 2, reading and writing: bytes, numbers, names and lists of names, put on a page.
 //
-// Each function returns the place after what it put; what lies past the buffer's end is counted and dropped.
+// A page is a lent buffer and the place of the next byte. What lies past the buffer's end is counted and dropped.
 //
 // specs/Put       bytes put into a buffer
+// specs/Page      bytes put on a page
 // specs/Forms     the bytes of timers, lists and fields
 //
-// proofs/Puts     bytes put one after the other
+// proofs/Puts     bytes put one after the other into a buffer
+// proofs/Pages    the same on a page
 // proofs/Numbers  digits as the code puts them
 // proofs/Letters  the letters of a name by its words
 // proofs/Lists    names between brackets
@@ -17,179 +19,168 @@ ghost use Rattle.terms.specs.Clock.{ticks_of};
 ghost use Rattle.text.specs.Tokens.{digits};
 ghost use Rattle.table.specs.Words.{four_bytes, strip, name_at};
 ghost use Rattle.table.specs.Tests.{key_name};
-ghost use Rattle.text_letters.specs.Put.{Wrote};
+ghost use Rattle.text_letters.specs.Page.{Adds};
 ghost use Rattle.text_letters.specs.Forms.{timer_text, listed, fields_text};
 
 use table::words::key_at;
 use table::{Key, Script};
 
-// One byte.
-pub fn put(b: u8, buf: &mut [u8], at: usize) -> usize
-    ensures { Wrote buf.old at (b ∷ []) buf.new result }
+// The bytes that are written to, and the place in them of the next byte, which is also the number of all that were put.
+#[derive(Drop)]
+pub struct Page<'a> {
+    buf: &'a mut [u8],
+    pub at: usize,
+}
+
+// The number of letters of a word that is a name's last one: the zeros after them are no letters.
+fn letters_of(x: u32) -> usize
+    ensures few { result ≤ 4 }
+    ensures all { strip (four_bytes x []) ≡ take result (four_bytes x []) }
 {
-    if at < buf.len() {
-        buf[at] = b;
-        return at + 1;
+    match x {
+        0 => 0,
+        1..=255 => 1,
+        256..=65535 => 2,
+        65536..=16777215 => 3,
+        _ => 4,
     }
-    if at < 9223372036854775808 {
-        return at + 1;
+}
+
+impl<'a> Page<'a> {
+    // The lent bytes from the first one on.
+    pub fn new(buf: &'a mut [u8]) -> Page<'a>
+        ensures same_bytes { result.buf.ghost_name ≡ buf.entry.ghost_name }
+        ensures begins { (result.buf.now ≡ buf.old) × (result.at ≡ 0) }
+    {
+        Page { buf, at: 0 }
     }
-    at
-}
 
-// All bytes of s.
-pub fn put_all(s: &[u8], buf: &mut [u8], at: usize) -> usize
-    ensures { Wrote buf.old at s.now buf.new result }
-{
-    let mut a = at;
-    let mut i = 0;
-    while i < s.len() {
-        a = put(s[i], buf, a);
-        i += 1;
-    }
-    a
-}
-
-// ` | `, which stands between parts and between components.
-pub fn put_bar(buf: &mut [u8], at: usize) -> usize
-    ensures { Wrote buf.old at (bytes " | ") buf.new result }
-{
-    put_all(b" | ", buf, at)
-}
-
-// ` .` and a line feed, which end a line.
-pub fn put_end(buf: &mut [u8], at: usize) -> usize
-    ensures { Wrote buf.old at (bytes " .\n") buf.new result }
-{
-    put_all(b" .\n", buf, at)
-}
-
-// ── numbers ──
-fn digit(n: u32) -> u8
-    requires { n < 10 }
-    ensures { result ≡ 48 + n }
-{
-    48 + n as u8
-}
-
-// The digits of n, the last one apart.
-pub fn put_number(n: u32, buf: &mut [u8], at: usize) -> usize
-    ensures { Wrote buf.old at (digits n) buf.new result }
-{
-    if n < 10 {
-        return put(digit(n), buf, at);
-    }
-    let a = put_number(n / 10, buf, at);
-    put(digit(n % 10), buf, a)
-}
-
-pub fn put_timer(t: u32, buf: &mut [u8], at: usize) -> usize
-    ensures { Wrote buf.old at (timer_text (ticks_of t)) buf.new result }
-{
-    if t <= 1000000 {
-        return put_number(t, buf, at);
-    }
-    put_all(b"inf", buf, at)
-}
-
-// ── names ──
-fn low(x: u32) -> u8
-    ensures { result ≡ x % 256 }
-{
-    (x % 256) as u8
-}
-
-// The four letters of a word.
-fn put_four(x: u32, buf: &mut [u8], at: usize) -> usize
-    ensures { Wrote buf.old at (four_bytes x []) buf.new result }
-{
-    let a = put(low(x), buf, at);
-    let b = put(low(x / 256), buf, a);
-    let c = put(low(x / 65536), buf, b);
-    put(low(x / 16777216), buf, c)
-}
-
-// The letters of a name's last word: the zeros after them are no letters.
-fn put_last(x: u32, buf: &mut [u8], at: usize) -> usize
-    ensures { Wrote buf.old at (strip (four_bytes x [])) buf.new result }
-{
-    if x == 0 {
-        return at;
-    }
-    let a = put(low(x), buf, at);
-    if x < 256 {
-        return a;
-    }
-    let b = put(low(x / 256), buf, a);
-    if x < 65536 {
-        return b;
-    }
-    let c = put(low(x / 65536), buf, b);
-    if x < 16777216 {
-        return c;
-    }
-    put(low(x / 16777216), buf, c)
-}
-
-// The letters of a name's last two words.
-fn put_two(x: u32, y: u32, buf: &mut [u8], at: usize) -> usize
-    ensures { Wrote buf.old at (strip (four_bytes x (four_bytes y []))) buf.new result }
-{
-    if y == 0 {
-        return put_last(x, buf, at);
-    }
-    let a = put_four(x, buf, at);
-    put_last(y, buf, a)
-}
-
-// The letters of a name.
-pub fn put_key(k: Key, buf: &mut [u8], at: usize) -> usize
-    ensures { Wrote buf.old at (key_name k) buf.new result }
-{
-    if k.c == 0 {
-        if k.d == 0 {
-            return put_two(k.a, k.b, buf, at);
+    // One byte.
+    pub fn put(&mut self, b: u8)
+        ensures { Adds self.old (b ∷ []) self.new }
+    {
+        if self.at < self.buf.len() {
+            self.buf[self.at] = b;
+            self.at += 1;
+        } else if self.at < 9223372036854775808 {
+            self.at += 1;
         }
     }
-    let a = put_four(k.a, buf, at);
-    let b = put_four(k.b, buf, a);
-    put_two(k.c, k.d, buf, b)
-}
 
-// The name that stands at the word o.
-pub fn put_name(w: &Script, o: usize, buf: &mut [u8], at: usize) -> usize
-    ensures { Wrote buf.old at (name_at w.now o) buf.new result }
-{
-    let k = key_at(w, o);
-    put_key(k, buf, at)
-}
-
-// Nothing, or `(x1,..)`: the n names that stand at the words o.
-pub fn put_list(w: &Script, o: &[usize; 4], n: usize, buf: &mut [u8], at: usize) -> usize
-    requires { (n ≤ 4) × (length o.now ≡ 4) }
-    ensures { Wrote buf.old at (listed (map (name_at w.now) (take n o.now))) buf.new result }
-{
-    if n == 0 {
-        return at;
+    // All bytes of s.
+    pub fn put_all(&mut self, s: &[u8])
+        ensures { Adds self.old s.now self.new }
+    {
+        for &b in s {
+            self.put(b);
+        }
     }
-    let mut sign = b'(';
-    let mut a = at;
-    let mut k = 0;
-    while k < n {
-        a = put(sign, buf, a);
-        a = put_name(w, o[k], buf, a);
-        sign = b',';
-        k += 1;
-    }
-    put(b')', buf, a)
-}
 
-// `t,x,`, where the name x stands at the word o.
-pub fn put_fields(w: &Script, t: u32, o: usize, buf: &mut [u8], at: usize) -> usize
-    ensures { Wrote buf.old at (fields_text (ticks_of t) (name_at w.now o)) buf.new result }
-{
-    let a = put_timer(t, buf, at);
-    let b = put(b',', buf, a);
-    let c = put_name(w, o, buf, b);
-    put(b',', buf, c)
+    // ` | `, which stands between parts and between components.
+    pub fn put_bar(&mut self)
+        ensures { Adds self.old (bytes " | ") self.new }
+    {
+        self.put_all(b" | ");
+    }
+
+    // ` .` and a line feed, which end a line.
+    pub fn put_end(&mut self)
+        ensures { Adds self.old (bytes " .\n") self.new }
+    {
+        self.put_all(b" .\n");
+    }
+
+    // The digits of n, the last one apart.
+    pub fn put_number(&mut self, n: u32)
+        ensures { Adds self.old (digits n) self.new }
+    {
+        if n < 10 {
+            self.put(b'0' + n as u8);
+        } else {
+            self.put_number(n / 10);
+            self.put(b'0' + (n % 10) as u8);
+        }
+    }
+
+    pub fn put_timer(&mut self, t: u32)
+        ensures { Adds self.old (timer_text (ticks_of t)) self.new }
+    {
+        if t <= 1000000 {
+            self.put_number(t);
+        } else {
+            self.put_all(b"inf");
+        }
+    }
+
+    // The four letters of a word.
+    fn put_four(&mut self, x: u32)
+        ensures { Adds self.old (four_bytes x []) self.new }
+    {
+        self.put_all(&x.to_le_bytes());
+    }
+
+    // The letters of a name's last word.
+    fn put_last(&mut self, x: u32)
+        ensures { Adds self.old (strip (four_bytes x [])) self.new }
+    {
+        self.put_all(&x.to_le_bytes()[..letters_of(x)]);
+    }
+
+    // The letters of a name's last two words.
+    fn put_two(&mut self, x: u32, y: u32)
+        ensures { Adds self.old (strip (four_bytes x (four_bytes y []))) self.new }
+    {
+        if y == 0 {
+            self.put_last(x);
+        } else {
+            self.put_four(x);
+            self.put_last(y);
+        }
+    }
+
+    // The letters of a name.
+    pub fn put_key(&mut self, k: Key)
+        ensures { Adds self.old (key_name k) self.new }
+    {
+        if k.c == 0 && k.d == 0 {
+            self.put_two(k.a, k.b);
+        } else {
+            self.put_four(k.a);
+            self.put_four(k.b);
+            self.put_two(k.c, k.d);
+        }
+    }
+
+    // The name that stands at the word o.
+    pub fn put_name(&mut self, w: &Script, o: usize)
+        ensures { Adds self.old (name_at w.now o) self.new }
+    {
+        self.put_key(key_at(w, o));
+    }
+
+    // Nothing, or `(x1,..)`: the names that stand at the words of the list.
+    pub fn put_list(&mut self, w: &Script, words: &[usize])
+        ensures { Adds self.old (listed (map (name_at w.now) words.now)) self.new }
+    {
+        if words.is_empty() {
+            return;
+        }
+        let mut sign = b'(';
+        for &o in words {
+            self.put(sign);
+            self.put_name(w, o);
+            sign = b',';
+        }
+        self.put(b')');
+    }
+
+    // `t,x,`, where the name x stands at the word o.
+    pub fn put_fields(&mut self, w: &Script, t: u32, o: usize)
+        ensures { Adds self.old (fields_text (ticks_of t) (name_at w.now o)) self.new }
+    {
+        self.put_timer(t);
+        self.put(b',');
+        self.put_name(w, o);
+        self.put(b',');
+    }
 }

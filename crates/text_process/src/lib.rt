@@ -1,4 +1,4 @@
-// Layer 2, reading and writing: parts and processes of a table as text, in a lent buffer.
+// Layer 2, reading and writing: parts and processes of a table as text, on a page.
 //
 // A part is written up to its first process, then the processes of it, which part writer and process writer write in turn. The place in the
 // table is the falling number. Values are eight numbers: below 64 the location that a slot holds, else its own name is written.
@@ -16,7 +16,7 @@ ghost use Rattle.terms.specs.Names.{bytes};
 ghost use Rattle.terms.specs.Clock.{ticks_of};
 ghost use Rattle.table.specs.Words.{name_at, chan_name, def_name, names_at, arg_at};
 ghost use Rattle.table.specs.Valid.{ref_ok};
-ghost use Rattle.text_letters.specs.Put.{Wrote};
+ghost use Rattle.text_letters.specs.Page.{Adds};
 ghost use Rattle.text_letters.specs.Forms.{listed, fields_text};
 ghost use Rattle.text_process.specs.Forms.{value_text, open_text, part_text, process_text};
 ghost use Rattle.text_process.specs.Values.{Places, value_seen, part_seen, process_seen};
@@ -26,7 +26,7 @@ use table::{
     CHANNELS, Head, IDENTIFIERS, LOCATIONS, NAME_SIZE, OWNS, ROW_SIZE, SLOT_FIELD, Script,
     TIMER_FIELD,
 };
-use text_letters::{put, put_all, put_bar, put_fields, put_list, put_name};
+use text_letters::Page;
 
 // Where the name stands that a value at the part i is written as.
 fn value_at(w: &Script, i: usize, vals: &[u32; 8], v: u32) -> usize
@@ -71,42 +71,41 @@ fn arg_name(w: &Script, i: usize, vals: &[u32; 8], k: usize) -> usize
 }
 
 // `go(t,x,`, where the name x stands at the word o.
-fn open_one(w: &Script, t: u32, o: usize, buf: &mut [u8], at: usize) -> usize
-    ensures { Wrote buf.old at (bytes "go(" ++ fields_text (ticks_of t) (name_at w.now o)) buf.new result }
+fn open_one(w: &Script, t: u32, o: usize, page: &mut Page)
+    ensures { Adds page.old (bytes "go(" ++ fields_text (ticks_of t) (name_at w.now o)) page.new }
 {
-    let a = put_all(b"go(", buf, at);
-    put_fields(w, t, o, buf, a)
+    page.put_all(b"go(");
+    page.put_fields(w, t, o);
 }
 
 // The word s, which is `out(` or `in(`, then `c,t,x,`, where the name x stands at the word o.
-fn open_two(w: &Script, s: &[u8], c: u32, t: u32, o: usize, buf: &mut [u8], at: usize) -> usize
-    ensures { Wrote buf.old at (s.now ++ (chan_name w.now c ++ (44 ∷ fields_text (ticks_of t) (name_at w.now o)))) buf.new result }
+fn open_two(w: &Script, s: &[u8], c: u32, t: u32, o: usize, page: &mut Page)
+    ensures { Adds page.old (s.now ++ (chan_name w.now c ++ (44 ∷ fields_text (ticks_of t) (name_at w.now o)))) page.new }
 {
-    let a = put_all(s, buf, at);
-    let b = put_name(w, CHANNELS + wide(c) * NAME_SIZE, buf, a);
-    let d = put(b',', buf, b);
-    put_fields(w, t, o, buf, d)
+    page.put_all(s);
+    page.put_name(w, CHANNELS + wide(c) * NAME_SIZE);
+    page.put(b',');
+    page.put_fields(w, t, o);
 }
 
-// A call of the definition d with the n names that stand at the words o.
-fn put_call(w: &Script, d: u32, o: &[usize; 4], n: usize, buf: &mut [u8], at: usize) -> usize
-    requires { (n ≤ 4) × (length o.now ≡ 4) }
-    ensures { Wrote buf.old at (def_name w.now d ++ listed (map (name_at w.now) (take n o.now))) buf.new result }
+// A call of the definition d with the names that stand at the words of the list.
+fn put_call(w: &Script, d: u32, words: &[usize], page: &mut Page)
+    ensures { Adds page.old (def_name w.now d ++ listed (map (name_at w.now) words.now)) page.new }
 {
-    let a = put_name(w, IDENTIFIERS + wide(d) * ROW_SIZE, buf, at);
-    put_list(w, o, n, buf, a)
+    page.put_name(w, IDENTIFIERS + wide(d) * ROW_SIZE);
+    page.put_list(w, words);
 }
 
 // The part at i with the timer t, up to its first process.
-fn put_open(w: &Script, i: usize, t: u32, vals: &[u32; 8], buf: &mut [u8], at: usize) -> usize
+fn put_open(w: &Script, i: usize, t: u32, vals: &[u32; 8], page: &mut Page)
     requires { Places w.now i vals.now }
-    ensures { Wrote buf.old at (open_text (part_seen w.now i t vals.now)) buf.new result }
+    ensures { Adds page.old (open_text (part_seen w.now i t vals.now)) page.new }
 {
     match head_at(w, i) {
-        Head::Stop => put_all(b"stop", buf, at),
-        Head::Go(_, v, _) => open_one(w, t, value_at(w, i, vals, v), buf, at),
-        Head::Out(c, _, v, _, _) => open_two(w, b"out(", c, t, value_at(w, i, vals, v), buf, at),
-        Head::In(c, _, _, _, _) => open_two(w, b"in(", c, t, OWNS + i * ROW_SIZE, buf, at),
+        Head::Stop => page.put_all(b"stop"),
+        Head::Go(_, v, _) => open_one(w, t, value_at(w, i, vals, v), page),
+        Head::Out(c, _, v, _, _) => open_two(w, b"out(", c, t, value_at(w, i, vals, v), page),
+        Head::In(c, _, _, _, _) => open_two(w, b"in(", c, t, OWNS + i * ROW_SIZE, page),
         Head::Call(d, n) => {
             let o = [
                 arg_name(w, i, vals, 0),
@@ -114,56 +113,55 @@ fn put_open(w: &Script, i: usize, t: u32, vals: &[u32; 8], buf: &mut [u8], at: u
                 arg_name(w, i, vals, 2),
                 arg_name(w, i, vals, 3),
             ];
-            put_call(w, d, &o, wide(n), buf, at)
+            put_call(w, d, &o[..wide(n)], page);
         }
     }
 }
 
 // The part at i with the timer t.
 #[cycle(write_part_write_process)]
-pub fn write_part(w: &Script, i: usize, t: u32, vals: &[u32; 8], buf: &mut [u8], at: usize) -> usize
+pub fn write_part(w: &Script, i: usize, t: u32, vals: &[u32; 8], page: &mut Page)
     requires { Places w.now i vals.now }
-    ensures { Wrote buf.old at (part_text (part_seen w.now i t vals.now)) buf.new result }
+    ensures { Adds page.old (part_text (part_seen w.now i t vals.now)) page.new }
 {
-    let a = put_open(w, i, t, vals, buf, at);
+    put_open(w, i, t, vals, page);
     match head_at(w, i) {
-        Head::Stop => a,
+        Head::Stop => {}
         Head::Go(_, _, p) => {
-            let b = write_process(w, wide(p), vals, buf, a);
-            put(b')', buf, b)
+            write_process(w, wide(p), vals, page);
+            page.put(b')');
         }
         Head::Out(_, _, _, p, q) => {
-            let b = write_process(w, wide(p), vals, buf, a);
-            let c = put(b',', buf, b);
-            let d = write_process(w, wide(q), vals, buf, c);
-            put(b')', buf, d)
+            write_process(w, wide(p), vals, page);
+            page.put(b',');
+            write_process(w, wide(q), vals, page);
+            page.put(b')');
         }
         Head::In(_, _, k, p, q) => {
             let inner = without(vals, k);
-            let b = write_process(w, wide(p), &inner, buf, a);
-            let c = put(b',', buf, b);
-            let d = write_process(w, wide(q), vals, buf, c);
-            put(b')', buf, d)
+            write_process(w, wide(p), &inner, page);
+            page.put(b',');
+            write_process(w, wide(q), vals, page);
+            page.put(b')');
         }
-        Head::Call(_, _) => a,
+        Head::Call(_, _) => {}
     }
 }
 
 // The process at i, part by part.
 #[cycle(write_part_write_process)]
-pub fn write_process(w: &Script, i: usize, vals: &[u32; 8], buf: &mut [u8], at: usize) -> usize
+pub fn write_process(w: &Script, i: usize, vals: &[u32; 8], page: &mut Page)
     requires { Places w.now i vals.now }
-    ensures { Wrote buf.old at (process_text (process_seen w.now i vals.now)) buf.new result }
+    ensures { Adds page.old (process_text (process_seen w.now i vals.now)) page.new }
 {
     let mut j = i;
-    let mut a = at;
     loop {
-        a = write_part(w, j, field(w, j, TIMER_FIELD), vals, buf, a);
+        write_part(w, j, field(w, j, TIMER_FIELD), vals, page);
         let n = wide(next_at(w, j));
         if n == 0 {
-            return a;
+            return;
         }
-        a = put_bar(buf, a);
+        page.put_bar();
         j = n - 1;
     }
 }

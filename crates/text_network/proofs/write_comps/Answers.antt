@@ -2,56 +2,43 @@
 -- Idea: what is left to put is the components from the position on.
 use native.Mathlib.Omega.{arith}
 use mathlib.Core.Path.{refl, sym}
-use Rattle.text_letters.proofs.Puts.{begun, step, last, then, same, left_as}
+use Rattle.text_letters.proofs.Pages.{begun, step, last, then, same, left_as}
 use Rattle.table.specs.declared.State.{State}
 use Rattle.table.proofs.InUse.{valid-script, valid-state}
 use Rattle.text_network.proofs.Networks.{comps-first, comps-next, comps-end, comp-good}
 use Rattle.text_network.proofs.write_comps.Goals as goal
 
-pub write_comp-a-requires : goal.write_comp-a-requires
-write_comp-a-requires c =
+pub write_comp-requires : goal.write_comp-requires
+write_comp-requires c =
     let k = c.args in
     let v = c.requires in
     let st : State = record { c = k.c.now; n = k.n } in
     let g = comp-good k.w.now st 0 (valid-state k.w.now st v.0).some v.0 v.1 in
-    (valid-script k.w.now st v.0, rw c.comp_at-first.ensures g.0, rw c.comp_at-first.ensures g.1)
+    (valid-script k.w.now st v.0, rw c.comp_at.ensures g.0, rw c.comp_at.ensures g.1)
 
 pub loop-k-init : goal.loop-k-init
-loop-k-init c =
-    let k = c.args in
-    (omega (arith, (valid-state k.w.now (record { c = k.c.now; n = k.n }) c.requires.0).some), refl, begun)
+loop-k-init c = begun
 
-pub comp_at-x-requires : goal.comp_at-x-requires
-comp_at-x-requires c =
+pub comp_at-requires-in-loop-k : goal.comp_at-requires-in-loop-k
+comp_at-requires-in-loop-k c =
     let k = c.args in
     omega (arith, c.loop-k-test.true, (valid-state k.w.now (record { c = k.c.now; n = k.n }) c.requires.0).few)
 
-pub write_comp-a-requires-in-loop-k : goal.write_comp-a-requires-in-loop-k
-write_comp-a-requires-in-loop-k c =
+pub write_comp-requires-in-loop-k : goal.write_comp-requires-in-loop-k
+write_comp-requires-in-loop-k c =
     let k = c.args in
     let v = c.requires in
     let st : State = record { c = k.c.now; n = k.n } in
     let g = comp-good k.w.now st c.loop-k.k c.loop-k-test.true v.0 v.1 in
-    (valid-script k.w.now st v.0, rw c.comp_at-x.ensures g.0, rw c.comp_at-x.ensures g.1)
-
-pub overflow_add-k : goal.overflow_add-k
-overflow_add-k c =
-    let k = c.args in
-    omega (arith, c.loop-k-test.true, (valid-state k.w.now (record { c = k.c.now; n = k.n }) c.requires.0).few)
+    (valid-script k.w.now st v.0, rw c.comp_at-in-loop-k.ensures g.0, rw c.comp_at-in-loop-k.ensures g.1)
 
 pub loop-k-preserved : goal.loop-k-preserved
 loop-k-preserved c =
     let k = c.args in
     let l = c.loop-k in
     let st : State = record { c = k.c.now; n = k.n } in
-    let e = rw c.comp_at-x.ensures at c.write_comp-a-in-loop-k.ensures in (
-      omega arith,
-      omega (arith, l.invariant.1, c.put_bar-a.auto, c.write_comp-a-in-loop-k.auto),
-      step (step (left_as (comps-next k.w.now st l.k c.loop-k-test.true) l.invariant.2) c.put_bar-a.ensures) e,
-    )
-
-pub shape_of-buf : goal.shape_of-buf
-shape_of-buf c = omega (arith, c.write_comp-a.auto, c.loop-k.invariant.1, c.put_end.auto)
+    let e = rw c.comp_at-in-loop-k.ensures at c.write_comp-in-loop-k.ensures in
+    step (step (left_as (comps-next k.w.now st l.k c.loop-k-test.true) l.invariant) c.put_bar.ensures) e
 
 pub returns : goal.returns
 returns c =
@@ -59,5 +46,5 @@ returns c =
     let l = c.loop-k in
     let st : State = record { c = k.c.now; n = k.n } in
     let f = valid-state k.w.now st c.requires.0 in
-    let e = rw c.comp_at-first.ensures at c.write_comp-a.ensures in
-    same (sym (comps-first k.w.now st f.some)) (then e (last (left_as (comps-end k.w.now st l.k (omega arith)) l.invariant.2) c.put_end.ensures))
+    let e = rw c.comp_at.ensures at c.write_comp.ensures in
+    same (sym (comps-first k.w.now st f.some)) (then e (last (left_as (comps-end k.w.now st l.k (omega arith)) l.invariant) c.put_end.ensures))

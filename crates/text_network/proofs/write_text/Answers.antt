@@ -1,13 +1,14 @@
 -- The definitions and then the components are the whole text.
 -- By what each writes.
-use Rattle.text_letters.proofs.Puts.{then, same}
+use borrow.Author.Rules.{rules}
+use Rattle.text_letters.proofs.Pages.{then, same}
 use Rattle.table.proofs.InUse.{valid-script}
 use Rattle.text_network.proofs.Networks.{text-is}
 use Rattle.text_network.proofs.write_text.Goals as goal
 
-pub write_defs-a-requires : goal.write_defs-a-requires
-write_defs-a-requires c = valid-script c.args.w.now (record { c = c.args.c.now; n = c.args.n }) c.requires.0
+pub write_defs-requires : goal.write_defs-requires
+write_defs-requires c = valid-script c.args.w.now (record { c = c.args.c.now; n = c.args.n }) c.requires.0
 
 pub returns : goal.returns
 returns c =
-    same (text-is c.args.w.now (record { c = c.args.c.now; n = c.args.n })) (then c.write_defs-a.ensures c.write_comps.ensures)
+    let e = same (text-is c.args.w.now (record { c = c.args.c.now; n = c.args.n })) (then c.write_defs.ensures c.write_comps.ensures) in let f = e.wrote in search rules

@@ -3,10 +3,9 @@
 -- the process at n, where n is the place m
 use Prim.Native.Nat.{◌+◌, ◌*◌, ◌≤◌}
 use mathlib.Core.Path.{◌≡◌}
-use lib.ListN.{length}
 use Rattle.text_process.specs.Forms.{process_text}
 use Rattle.text_process.specs.Values.{Places, process_seen}
-use Rattle.text_letters.proofs.Puts.{Left}
+use Rattle.text_letters.proofs.Pages.{LeftOf}
 use Rattle.text_process.proofs.+write_part_write_process.Given as goal
 
 abbrev pub decreases-write_process : goal.decreases-write_process
@@ -16,7 +15,7 @@ abbrev pub decreases-write_part : goal.decreases-write_part
 decreases-write_part l = 2 * l.i
 
 abbrev pub invariant-write_process-loop-i : goal.invariant-write_process-loop-i
-invariant-write_process-loop-i l = Places l.w l.j l.vals × (l.j ≤ l.i) × (length l.buf ≡ length l.initial.buf) × Left l.initial.buf l.at (process_text (process_seen l.w l.i l.vals)) l.buf l.a (process_text (process_seen l.w l.j l.vals))
+invariant-write_process-loop-i l = Places l.w l.j l.vals × (l.j ≤ l.i) × LeftOf l.initial.page (process_text (process_seen l.w l.i l.vals)) l.page (process_text (process_seen l.w l.j l.vals))
 
 abbrev pub decreases-write_process-loop-i : goal.decreases-write_process-loop-i
 decreases-write_process-loop-i l = l.j

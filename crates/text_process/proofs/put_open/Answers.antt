@@ -2,7 +2,8 @@
 -- By the law of each head.
 use native.Mathlib.Omega.{arith}
 use mathlib.Core.Path.{refl, sym, ◌∙◌}
-use Rattle.text_letters.proofs.Puts.{same}
+use lib.Seq.{length-take-le}
+use Rattle.text_letters.proofs.Pages.{same}
 use Rattle.text_process.proofs.Heads.{place-small, open-stop, open-go, open-out, open_in, open-call, call-few}
 use Rattle.text_process.proofs.Heads.Named.{none, more}
 use borrow.Author.Rules.{rules}
@@ -35,10 +36,15 @@ arg_name-requires-in-Call-2 c = (place-small c.requires, omega arith, c.requires
 pub arg_name-requires-in-Call-3 : goal.arg_name-requires-in-Call-3
 arg_name-requires-in-Call-3 c = (place-small c.requires, omega arith, c.requires.slots)
 
-pub put_call-requires : goal.put_call-requires
-put_call-requires c =
+pub slice_bounds-o-end : goal.slice_bounds-o-end
+slice_bounds-o-end c =
     let k = c.args in
-    (omega (arith, c.wide.ensures, call-few k.w.now k.i k.vals.now c.requires (sym c.head_at.ensures ∙ c.in-Call.is)), refl)
+    omega (arith, c.wide.ensures, call-few k.w.now k.i k.vals.now c.requires (sym c.head_at.ensures ∙ c.in-Call.is))
+
+pub slice_bounds-put_call-end : goal.slice_bounds-put_call-end
+slice_bounds-put_call-end c =
+    let k = c.args in
+    sym (length-take-le _ _ (omega (arith, c.wide.ensures, call-few k.w.now k.i k.vals.now c.requires (sym c.head_at.ensures ∙ c.in-Call.is))))
 
 pub returns-in-Stop : goal.returns-in-Stop
 returns-in-Stop c =
