@@ -8,7 +8,7 @@ use mathlib.Core.Bool.{Bool, true, false, cond, false≢true}
 use mathlib.Core.Path.{◌≡◌, refl, ap, sym, ◌∙◌}
 use lib.Dec.{eqb, leb, ltb}
 use lib.ListN.{length, get_or, take, drop, length-map, length-append, length-take, drop_of_length-le}
-use lib.Seq.{drop-cons, get_or-take, take_at}
+use lib.Seq.{drop-cons, take_at, take-length}
 use borrow.Author.Tests.{eq-eqb, ne_eqb}
 use Rattle.terms.specs.Names.{bytes, same_name}
 use Rattle.terms.specs.Terms.{Component, Label}
@@ -71,29 +71,24 @@ unfolding spaced
 spaced-append [] ys = refl
 spaced-append (x ∷ xs) ys = ap (λ z. 32 ∷ z) (ap (λ z. label_text x ++ z) (spaced-append xs ys) ∙ sym (append_assoc (label_text x) (spaced xs) (spaced ys)))
 
-module _ (w : List ℕ) (st : State) (records : List (List ℕ)) (n : ℕ) where
+module _ (w : List ℕ) (st : State) (records : List (List ℕ)) where
   -- what is left to put from the record j on
   abbrev pub rest : ℕ → List ℕ
-  rest j = spaced (flat_map (label_in w st) (drop j (take n records)))
+  rest j = spaced (flat_map (label_in w st) (drop j records))
 
-  size : n ≤ length records → length (take n records) ≡ n
-  size h = simp length-take (omega arith)
-
-  pub rest-next : (j : ℕ) → j < n → n ≤ length records → rest j ≡ spaced (label_in w st (get_or records j [])) ++ rest (j + 1)
+  pub rest-next : (j : ℕ) → j < length records → rest j ≡ spaced (label_in w st (get_or records j [])) ++ rest (j + 1)
   unfolding flat_map
-  rest-next j h k =
-      ap (λ z. spaced (flat_map (label_in w st) z)) (drop-cons (take n records) j [] (omega (arith, size k)) ∙ ap (λ z. z ∷ drop (suc j) (take n records)) (get_or-take n records j [] h))
-      ∙ spaced-append (label_in w st (get_or records j [])) (flat_map (label_in w st) (drop (suc j) (take n records)))
+  rest-next j h =
+      ap (λ z. spaced (flat_map (label_in w st) z)) (drop-cons records j [] h)
+      ∙ spaced-append (label_in w st (get_or records j [])) (flat_map (label_in w st) (drop (suc j) records))
       ∙ ap (λ m. spaced (label_in w st (get_or records j [])) ++ rest m) (sym (add-one j))
 
-  pub rest_end : (j : ℕ) → n ≤ j → rest j ≡ []
+  pub rest_end : (j : ℕ) → length records ≤ j → rest j ≡ []
   unfolding flat_map spaced
-  rest_end j h =
-      let few : length (take n records) ≤ j = simp length-take (omega arith) in
-      rw (drop_of_length-le (take n records) few)
+  rest_end j h = rw (drop_of_length-le records h)
 
-  pub fires-at : (j : ℕ) → j < n → n ≤ length records → every (may_fire w st) (take n records) ≡ true → may_fire w st (get_or records j []) ≡ true
-  fires-at j h k e = ap (may_fire w st) (sym (get_or-take n records j [] h)) ∙ every-get_or (may_fire w st) (take n records) [] j e (omega (arith, size k))
+  pub fires-at : (j : ℕ) → j < length records → every (may_fire w st) records ≡ true → may_fire w st (get_or records j []) ≡ true
+  fires-at j h e = every-get_or (may_fire w st) records [] j e h
 
 -- ── the records of a step ──
 -- the rules answer a record as they answer its action
@@ -119,6 +114,10 @@ module _ (w : List ℕ) (st : State) (l : ℕ) (records : List (List ℕ)) (n : 
 
   pub held-labels : flat_map (label_in w st) (take n records) ≡ step_labels w st l
   held-labels = ap (flat_map (label_in w st)) h.actions ∙ labels-of w st _ ∙ sym before.labels
+
+  -- the same of the records alone
+  pub held-front : Holds w st l (take n records) (length (take n records))
+  held-front = record { good = h.good; within = omega arith; actions = take-length (take n records) ∙ h.actions }
 
   pub held-fire : every (may_fire w st) (take n records) ≡ true
   held-fire = ap (every (may_fire w st)) h.actions ∙ fires-of w st _ ∙ before.fire

@@ -1,7 +1,7 @@
 -- The label of an action that is accepted.
 -- By what the answer of an action stands for.
-use Rattle.calls_act.specs.Acted.{action_allowed}
-use Rattle.text_letters.proofs.Puts.{then, same}
+use Rattle.text_letters.proofs.Pages.{then, same}
+use Rattle.run_line.specs.Records.{answer_by}
 use Rattle.run_line.proofs.Lines.{action-text}
 use Rattle.run_line.proofs.put_action.Goals as goal
 
@@ -9,4 +9,4 @@ pub returns : goal.returns
 returns c =
     let k = c.args in
     let e = rw (c.wide.ensures, c.wide-2.ensures) at c.label_at-r.ensures in
-    same (action-text k.w.now (action_allowed k.w.now (record { c = k.c.now; n = k.n }) k.kind k.p k.q) c.label_at-r.result e c.requires.1) (then c.put-a.ensures c.put_label.ensures)
+    same (action-text k.w.now (answer_by k.w.now (record { c = k.c.now; n = k.n }) k.e.now) c.label_at-r.result e c.requires.1) (then c.put.ensures c.put_label.ensures)

@@ -1,6 +1,6 @@
 -- A label by its kind.
 -- By what a label in numbers stands for.
-use Rattle.text_letters.proofs.Puts.{same}
+use Rattle.text_letters.proofs.Pages.{same}
 use Rattle.run_line.proofs.Lines.{label-call, label-move, label-sent}
 use Rattle.run_line.proofs.put_label.Goals as goal
 
@@ -11,5 +11,5 @@ pub returns-then-x-eq2 : goal.returns-then-x-eq2
 returns-then-x-eq2 c =
     same (label-move c.args.w.now c.args.x _ c.if-x-eq1.false c.if-x-eq2.true c.wide-then-x-eq2.ensures) c.put_named-then-x-eq2.ensures
 
-pub returns : goal.returns
-returns c = same (label-sent c.args.w.now c.args.x c.if-x-eq1.false c.if-x-eq2.false) c.put_sent.ensures
+pub returns-else-x-eq2 : goal.returns-else-x-eq2
+returns-else-x-eq2 c = same (label-sent c.args.w.now c.args.x c.if-x-eq1.false c.if-x-eq2.false) c.put_sent.ensures
