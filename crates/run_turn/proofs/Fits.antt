@@ -3,6 +3,7 @@ use Prim.Native.Nat.{ℕ, zero, suc, ◌+◌, ◌/◌, ◌≤◌, ◌<◌}
 use native.Mathlib.Omega.{arith}
 use mathlib.Core.List.{List}
 use mathlib.Core.Bool.{Bool, true, false}
+use Rattle.std.specs.Prelude.{Option, Some, None}
 use mathlib.Core.Path.{◌≡◌}
 use lib.Dec.{leb, ltb}
 use lib.ListN.{length, length-append}
@@ -20,11 +21,11 @@ use Rattle.table.specs.Valid.{valid}
 use Rattle.calls_act.specs.Acted.{asked}
 use Rattle.calls_tick.specs.Ticked.{room}
 use Rattle.calls_step.specs.Stepped.{step_of, step_counted}
+use Rattle.text_letters.specs.declared.Page.{Page}
 use Rattle.text_letters.specs.Put.{Wrote}
 use Rattle.text_letters.proofs.Puts.{after-most}
 use Rattle.run_line.specs.Line.{line_text, step_labels}
 use Rattle.run_line.proofs.Fits.{line-short}
-use Rattle.run_turn.specs.declared.Turned.{Turned}
 use Rattle.run_turn.specs.Turn.{refused_text, Turn, turn_of}
 use Rattle.run_turn.specs.Turned.{TurnIs}
 
@@ -51,17 +52,20 @@ refused-ends n h x = ends 36 x (refused-short n h)
 
 -- ── a step: refused by question 18 or 13, or a line ──
 module _ (w : List ℕ) (st : State) (l : ℕ) (good : valid w st ≡ true) where
-  pub turn-ends : (d e : List ℕ) (at : ℕ) (r : Turned) → TurnIs w (turn_of (context_of w) (loc_name w l) (counted_of w st)) d at e r → r.at ≤ at + 13_329
+  pub turn-ends : (p q : Page) (r : Option State) → TurnIs w (turn_of (context_of w) (loc_name w l) (counted_of w st)) p q r → q.at ≤ p.at + 13_329
   unfolding turn_of step_counted room
-  turn-ends d e at r t = by-step _ (step-accepted (context_of w) (loc_name w l) (net_of w st))
+  turn-ends p q r t = by-step _ (step-accepted (context_of w) (loc_name w l) (net_of w st))
     where
       turned : Tally → List Component → Turn
       turned u ds = record { line = line_text (loc_name w l) (step_labels w st l); net = record { comps = ds; tally = u } }
 
-      go : (x y : Bool) (cs : List Component) (xs : List Action) (u : Tally) → TurnIs w (asked 18 x (asked 13 y (accepted cs) >>= λ ds. accepted (step_of xs ds u)) >>= λ s. accepted (turned s.tally s.comps)) d at e r → r.at ≤ at + 13_329
-      go true true cs xs u s = ends 13_329 s.wrote (line-short w st good l)
-      go true false cs xs u s = omega (arith, refused-ends 13 (omega arith) s.wrote)
-      go false y cs xs u s = omega (arith, refused-ends 18 (omega arith) s.wrote)
+      go : (o : Option State) (x y : Bool) (cs : List Component) (xs : List Action) (u : Tally) → TurnIs w (asked 18 x (asked 13 y (accepted cs) >>= λ ds. accepted (step_of xs ds u)) >>= λ s. accepted (turned s.tally s.comps)) p q o → q.at ≤ p.at + 13_329
+      go (Some a) true true cs xs u s = ends 13_329 s.wrote.wrote (line-short w st good l)
+      go None true false cs xs u s = omega (arith, refused-ends 13 (omega arith) s.wrote)
+      go None true true cs xs u s = elim s [ ]
+      go (Some a) false y cs xs u s = elim s [ ]
+      go (Some a) true false cs xs u s = elim s [ ]
+      go None false y cs xs u s = omega (arith, refused-ends 18 (omega arith) s.wrote)
 
-      by-step : (x : Swept) → step (context_of w) (loc_name w l) (net_of w st) ≡ accepted x → r.at ≤ at + 13_329
-      by-step x f = go (countable (fires (context_of w) (loc_name w l) (net_of w st)).actions (tally_of st).count) (leb (length x.comps) 256) x.comps x.actions (step_tally (context_of w) (loc_name w l) (net_of w st) (tally_of st)) (rw f at t)
+      by-step : (x : Swept) → step (context_of w) (loc_name w l) (net_of w st) ≡ accepted x → q.at ≤ p.at + 13_329
+      by-step x f = go r (countable (fires (context_of w) (loc_name w l) (net_of w st)).actions (tally_of st).count) (leb (length x.comps) 256) x.comps x.actions (step_tally (context_of w) (loc_name w l) (net_of w st) (tally_of st)) (rw f at t)

@@ -3,6 +3,7 @@ use Prim.Native.Nat.{ℕ, ◌≤◌, ◌<◌}
 use native.Mathlib.Omega.{arith}
 use mathlib.Core.Bool.{Bool, true, false}
 use mathlib.Core.List.{List, flat_map}
+use Rattle.std.specs.Prelude.{Some, None}
 use mathlib.Core.Path.{◌≡◌, refl, ap, ap₂}
 use borrow.Author.Tests.{le-leb, lt-ltb}
 use lib.Dec.{leb}
@@ -23,8 +24,9 @@ use Rattle.calls_act.specs.Acted.{asked}
 use Rattle.calls_tick.specs.Ticked.{room}
 use Rattle.calls_step.specs.declared.Stepped.{Stepped}
 use Rattle.calls_step.specs.Stepped.{Step, step_of, step_counted, step_rule, step_answer, left, StepsAs}
-use Rattle.text_letters.specs.Put.{Wrote}
-use Rattle.text_letters.proofs.Puts.{same}
+use Rattle.text_letters.specs.declared.Page.{Page}
+use Rattle.text_letters.specs.Page.{Adds}
+use Rattle.text_letters.proofs.Pages.{same}
 use Rattle.run_line.specs.Line.{line_text, step_labels}
 use Rattle.run_line.proofs.Fits.{fires-few}
 use Rattle.run_turn.specs.Turn.{refused_text, Turn, turn_of}
@@ -67,21 +69,21 @@ module _ (w : List ℕ) (st : State) (l : ℕ) (good : valid w st ≡ true) (inl
           let cs = flat_map (pass D (λ m. same_name m N) N) (fires D N (net_of w st)).comps in
           rw e (h (countable (fires D N (net_of w st)).actions (tally_of st).count) (leb (length cs) 256) cs (fires D N (net_of w st)).actions (step_tally D N (net_of w st) (tally_of st)))
 
-      module _ {d e : List ℕ} {at a : ℕ} where
-        pub turn_stopped : (any : State) → (r.code ≡ 0 → ⊥) → Wrote d at (refused_text r.code) e a → TurnIs w (turn_of D N K) d at e (record { code = r.code; at = a; state = any })
+      module _ {p q : Page} where
+        pub turn_stopped : (r.code ≡ 0 → ⊥) → Adds p (refused_text r.code) q → TurnIs w (turn_of D N K) p q None
         unfolding turn_of turned
-        turn_stopped any n b = go (step_counted D N K) here
+        turn_stopped n b = go (step_counted D N K) here
           where
-            go : (x : Answer Step) → StepsAs w st x r ds before after → TurnIs w (x >>= λ s. accepted (turned (line_text N (fires D N (net_of w st)).labels) s)) d at e (record { code = r.code; at = a; state = any })
-            go (refused m) s = record { code = n; wrote = same (ap refused_text (ap (λ x. x.code) s.0)) b }
+            go : (x : Answer Step) → StepsAs w st x r ds before after → TurnIs w (x >>= λ s. accepted (turned (line_text N (fires D N (net_of w st)).labels) s)) p q None
+            go (refused m) s = same (ap refused_text (ap (λ x. x.code) s.0)) b
             go (accepted x) s = absurd (n s.code)
 
-        pub turn-went : r.code ≡ 0 → Wrote d at (line_text N (step_labels w st l)) e a → TurnIs w (turn_of D N K) d at e (record { code = 0; at = a; state = left r ds })
+        pub turn-went : r.code ≡ 0 → Adds p (line_text N (step_labels w st l)) q → TurnIs w (turn_of D N K) p q (Some (left r ds))
         unfolding turn_of turned
-        turn-went z b = by-step (λ x. StepsAs w st x r ds before after → TurnIs w (x >>= λ s. accepted (turned (line_text N (step_labels w st l)) s)) d at e (record { code = 0; at = a; state = left r ds })) go here
+        turn-went z b = by-step (λ x. StepsAs w st x r ds before after → TurnIs w (x >>= λ s. accepted (turned (line_text N (step_labels w st l)) s)) p q (Some (left r ds))) go here
           where
             go : (x y : Bool) (cs : List Component) (xs : List Action) (u : Tally) → StepsAs w st (asked 18 x (asked 13 y (accepted cs) >>= λ ds. accepted (step_of xs ds u))) r ds before after
-                → TurnIs w (asked 18 x (asked 13 y (accepted cs) >>= λ ds. accepted (step_of xs ds u)) >>= λ s. accepted (turned (line_text N (step_labels w st l)) s)) d at e (record { code = 0; at = a; state = left r ds })
-            go true true cs xs u s = record { code = refl; net = ap₂ (λ cs t. record { comps = cs; tally = t }) s.comps s.tally; good = s.good; wrote = b }
+                → TurnIs w (asked 18 x (asked 13 y (accepted cs) >>= λ ds. accepted (step_of xs ds u)) >>= λ s. accepted (turned (line_text N (step_labels w st l)) s)) p q (Some (left r ds))
+            go true true cs xs u s = record { net = ap₂ (λ cs t. record { comps = cs; tally = t }) s.comps s.tally; good = s.good; wrote = b }
             go true false cs xs u s = let h : r.code ≡ 13 = ap (λ x. x.code) s.0 in absurd (omega arith)
             go false y cs xs u s = let h : r.code ≡ 18 = ap (λ x. x.code) s.0 in absurd (omega arith)

@@ -7,7 +7,7 @@
 #![tactic(auto)]
 
 ghost use Rattle.std.specs.Prelude.{true, ◌≡◌, ◌<◌};
-ghost use Rattle.text_letters.specs.Put.{Wrote};
+ghost use Rattle.text_letters.specs.Page.{Adds};
 ghost use Rattle.table.specs.Words.{locs_in, loc_name};
 ghost use Rattle.table.specs.Meaning.{context_of, counted_of};
 ghost use Rattle.table.specs.Valid.{valid};
@@ -17,46 +17,30 @@ ghost use Rattle.run_turn.specs.Turned.{TurnIs};
 use calls_step::step::step_valid;
 use run_line::put_line;
 use table::{Script, State};
-use text_letters::{put, put_all, put_number};
-
-// After a step: 0 or the number of its refusal, the place behind what was written, and the components.
-#[derive(Drop)]
-pub struct Turned {
-    pub code: u32,
-    pub at: usize,
-    pub state: State,
-}
+use text_letters::Page;
 
 // `refused N`
-pub fn put_refused(n: u32, buf: &mut [u8], at: usize) -> usize
-    ensures { Wrote buf.old at (refused_text n) buf.new result }
+pub fn put_refused(n: u32, page: &mut Page)
+    ensures { Adds page.old (refused_text n) page.new }
 {
-    let a = put_all(b"refused ", buf, at);
-    let b = put_number(n, buf, a);
-    put(b'\n', buf, b)
+    page.put_all(b"refused ");
+    page.put_number(n);
+    page.put(b'\n');
 }
 
-// The step at the location l, and its line or its refusal.
-pub fn turn(w: &Script, st: State, l: u32, buf: &mut [u8], at: usize) -> Turned
+// The step at the location l, and its line or its refusal: the components after it, or none if it is refused.
+pub fn turn(w: &Script, st: State, l: u32, page: &mut Page) -> Option<State>
     requires { (valid w.now st ≡ true) × (l < locs_in w.now) }
-    ensures { TurnIs w.now (turn_of (context_of w.now) (loc_name w.now l) (counted_of w.now st)) buf.old at buf.new result }
+    ensures { TurnIs w.now (turn_of (context_of w.now) (loc_name w.now l) (counted_of w.now st)) page.old page.new result }
 {
     let mut records = [[0; 3]; 256];
     let mut next = State { c: st.c, n: st.n };
     let s = step_valid(w, &mut next.c, st.n, l, &mut records);
     if s.code != 0 {
-        let a = put_refused(s.code, buf, at);
-        return Turned {
-            code: s.code,
-            at: a,
-            state: st,
-        };
+        put_refused(s.code, page);
+        return None;
     }
-    let b = put_line(w, &st.c, st.n, l, &records, s.count, buf, at);
+    put_line(w, &st.c, st.n, l, &records[..s.count], page);
     next.n = s.n;
-    Turned {
-        code: 0,
-        at: b,
-        state: next,
-    }
+    Some(next)
 }
