@@ -20,7 +20,9 @@ use Rattle.table.proofs.InUse.{valid-ledger}
 use Rattle.calls_act.specs.Acted.{asked}
 use Rattle.terms.specs.Same.{every}
 use Rattle.text.specs.Write.{write}
+use Rattle.text_letters.specs.declared.Page.{Page}
 use Rattle.text_letters.specs.Put.{Wrote}
+use Rattle.text_letters.specs.Page.{Adds}
 use Rattle.text_letters.proofs.Puts.{after-room, after-full, over-whole}
 use Rattle.run_turn.proofs.Fits.{ends, refused-short}
 use Rattle.run_print.specs.Print.{shown, mean_line, ended, ending, printout}
@@ -40,8 +42,8 @@ ending-few : (w : List ℕ) (st : State) → valid w st ≡ true → length (end
 unfolding ending tally_of
 ending-few w st v = shown-few (context_of w) (net_of w st) (tally_of st) (mean-short (total_in st.c) (count_in st.c) (valid-ledger w st v).within)
 
-pub ending-ends : {d e : List ℕ} {at r : ℕ} (w : List ℕ) (st : State) → valid w st ≡ true → Wrote d at (ending (context_of w) (counted_of w st)) e r → r ≤ at + 65_544
-ending-ends w st v x = ends 65_544 x (ending-few w st v)
+pub ending-ends : {p q : Page} (w : List ℕ) (st : State) → valid w st ≡ true → Adds p (ending (context_of w) (counted_of w st)) q → q.at ≤ p.at + 65_544
+ending-ends w st v x = ends 65_544 x.wrote (ending-few w st v)
 
 -- ── the whole, with what `printout` promises of r: the first r bytes of a buffer of that many are the printout ──
 pub stands : (d s e : List ℕ) (r : ℕ) → Wrote d 0 (printout s) e r → r ≤ 3_477_768 → 3_477_768 ≤ length d → length d ≤ 9_223_372_036_854_775_808

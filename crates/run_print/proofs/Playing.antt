@@ -2,6 +2,7 @@
 use Prim.Native.Nat.{ℕ, zero, suc, ◌+◌, ◌-◌, ◌≤◌, ◌<◌}
 use native.Mathlib.Omega.{arith}
 use native.Mathlib.Numerals.{add-one}
+use Rattle.std.specs.Prelude.{Option, Some, None}
 use mathlib.Core.Bool.{Bool, true, false, cond}
 use mathlib.Core.List.{List, [], ◌∷◌, ◌++◌, append-nil}
 use mathlib.Core.Path.{◌≡◌, refl, sym, ap, ap₂, subst, ◌∙◌}
@@ -25,21 +26,21 @@ use Rattle.text_build.specs.Rows.{locs_of}
 use Rattle.calls_act.specs.Acted.{asked}
 use Rattle.calls_act.proofs.Positions.{valid-parts, comp-good}
 use Rattle.text_write.specs.declared.Written.{Written}
-use Rattle.text_letters.specs.Put.{Wrote}
+use Rattle.text_letters.specs.declared.Page.{Page}
+use Rattle.text_letters.specs.Page.{Adds}
 use Rattle.text_network.specs.Text.{text_of, no_mark}
 use Rattle.text_write.specs.Answer.{write_answer, Answers}
-use Rattle.text_letters.proofs.Puts.{Left, begun, last, left_as}
+use Rattle.text_letters.proofs.Pages.{LeftOf, begun, last, left_as}
 use Rattle.text_answer.proofs.All.{took-all}
 use Rattle.text_answer.specs.declared.Settings.{Settings}
 use Rattle.text_answer.specs.declared.Reading.{Reading}
 use Rattle.text_answer.specs.Answer.{locations_in, refusal, ReadsAnswer}
 use Rattle.text_read.proofs.Numbers.{Among, among}
-use Rattle.run_turn.specs.declared.Turned.{Turned}
 use Rattle.run_turn.specs.Turn.{refused_text, Turn, turn_of}
 use Rattle.run_turn.specs.Turned.{TurnIs}
 use Rattle.run_print.specs.Print.{shown, mean_line, ended, ending, followed, playing, four, print_settings, print_context, printed, printout}
 use Rattle.run_print.specs.Rounds.{copies, remaining}
-use Rattle.text_letters.proofs.Puts.{step as put_step}
+use Rattle.text_letters.proofs.Pages.{step as put_step}
 
 -- ── a valid network has at least one location, and at most 64 ──
 pub locs-few : (w : List ℕ) (st : State) → valid w st ≡ true → locs_in w ≤ 64
@@ -151,49 +152,49 @@ module _ (w : List ℕ) where
   unfolding locs_of
   loc-at l h = get_or-list_from (loc_name w) [] 0 (locs_in w) l h ∙ ap (loc_name w) (omega arith)
 
-  -- what is left to write, in front of which the buffer holds what was printed
-  abbrev pub Playing : List ℕ → List ℕ → List ℕ → ℕ → State → ℕ → ℕ → Type 0
-  Playing d whole e at st round l = Left d 0 whole e at (playing (context_of w) (remaining (4 - round) l (locs_of w)) (counted_of w st))
+  -- what is left to put on the page q of the whole that began on p
+  abbrev pub Playing : Page → List ℕ → Page → State → ℕ → ℕ → Type 0
+  Playing p whole q st round l = LeftOf p whole q (playing (context_of w) (remaining (4 - round) l (locs_of w)) (counted_of w st))
 
-  pub play-first : (d : List ℕ) (st : State) → Playing d (playing (context_of w) (four (locs_of w)) (counted_of w st)) d 0 st 0 0
-  play-first d st = left_as (ap (λ ls. playing (context_of w) ls (counted_of w st)) (sym (all-rounds (locs_of w)))) begun
+  pub play-first : (p : Page) (st : State) → Playing p (playing (context_of w) (four (locs_of w)) (counted_of w st)) p st 0 0
+  play-first p st = left_as (ap (λ ls. playing (context_of w) ls (counted_of w st)) (sym (all-rounds (locs_of w)))) begun
 
-  module _ {d whole e : List ℕ} {at : ℕ} (st : State) (round l : ℕ) (some : round < 4) (inl : l < locs_in w) (p : Playing d whole e at st round l) where
+  -- a round is over
+  pub play-next : {p q : Page} {whole : List ℕ} (st : State) (round l : ℕ) → round < 4 → locs_in w ≤ l → Playing p whole q st round l → Playing p whole q st (round + 1) 0
+  play-next st round l some h p =
+      let m : 4 - (round + 1) ≡ 3 - round = omega arith in
+      let k : 4 - round ≡ suc (3 - round) = omega arith in
+      left_as (ap (λ ls. playing (context_of w) ls (counted_of w st)) (ap (λ m. remaining m l (locs_of w)) k ∙ remaining-over (3 - round) l (locs_of w) (omega (arith, locs-length)) ∙ ap (λ n. remaining n 0 (locs_of w)) (sym m))) p
+
+  module _ {p q : Page} {whole : List ℕ} (st : State) (round l : ℕ) (some : round < 4) (inl : l < locs_in w) (k : Playing p whole q st round l) where
     rounds-left : 4 - round ≡ suc (3 - round)
     rounds-left = omega arith
 
-    now-left : Left d 0 whole e at (followed (turn_of (context_of w) (loc_name w l) (counted_of w st)) (playing (context_of w) (remaining (4 - round) (l + 1) (locs_of w))))
+    now-left : LeftOf p whole q (followed (turn_of (context_of w) (loc_name w l) (counted_of w st)) (playing (context_of w) (remaining (4 - round) (l + 1) (locs_of w))))
     unfolding playing
     now-left =
-        left_as (ap (λ ls. playing (context_of w) ls (counted_of w st)) (ap (λ m. remaining m l (locs_of w)) rounds-left ∙ remaining-next (3 - round) l (locs_of w) (omega (arith, locs-length)) ∙ ap (λ x. x ∷ remaining (suc (3 - round)) (l + 1) (locs_of w)) (loc-at l inl) ∙ ap (λ m. loc_name w l ∷ remaining m (l + 1) (locs_of w)) (sym rounds-left))) p
+        left_as (ap (λ ls. playing (context_of w) ls (counted_of w st)) (ap (λ m. remaining m l (locs_of w)) rounds-left ∙ remaining-next (3 - round) l (locs_of w) (omega (arith, locs-length)) ∙ ap (λ x. x ∷ remaining (suc (3 - round)) (l + 1) (locs_of w)) (loc-at l inl) ∙ ap (λ m. loc_name w l ∷ remaining m (l + 1) (locs_of w)) (sym rounds-left))) k
 
-    module _ {e' : List ℕ} (r : Turned) (t : TurnIs w (turn_of (context_of w) (loc_name w l) (counted_of w st)) e at e' r) where
+    module _ {q' : Page} where
       -- refused
-      pub play-stopped : (r.code ≡ 0 → ⊥) → Wrote d 0 whole e' r.at
-      play-stopped n = go (turn_of (context_of w) (loc_name w l) (counted_of w st)) now-left t
+      pub play-stopped : TurnIs w (turn_of (context_of w) (loc_name w l) (counted_of w st)) q q' None → Adds p whole q'
+      play-stopped t = go (turn_of (context_of w) (loc_name w l) (counted_of w st)) now-left t
         where
-          go : (x : Answer Turn) → Left d 0 whole e at (followed x (playing (context_of w) (remaining (4 - round) (l + 1) (locs_of w)))) → TurnIs w x e at e' r → Wrote d 0 whole e' r.at
-          go (refused m) k s = last k s.wrote
-          go (accepted u) k s = absurd (n s.code)
+          go : (x : Answer Turn) → LeftOf p whole q (followed x (playing (context_of w) (remaining (4 - round) (l + 1) (locs_of w)))) → TurnIs w x q q' None → Adds p whole q'
+          go (refused m) k s = last k s
+          go (accepted u) k s = elim s [ ]
 
-      module _ (z : r.code ≡ 0) where
-        pub play-on : (valid w r.state ≡ true) × Playing d whole e' r.at r.state round (l + 1)
-        play-on = go (turn_of (context_of w) (loc_name w l) (counted_of w st)) now-left t
-          where
-            go : (x : Answer Turn) → Left d 0 whole e at (followed x (playing (context_of w) (remaining (4 - round) (l + 1) (locs_of w)))) → TurnIs w x e at e' r → (valid w r.state ≡ true) × Playing d whole e' r.at r.state round (l + 1)
-            go (refused m) k s = absurd (s.code z)
-            go (accepted u) k s = (s.good, left_as (ap (playing (context_of w) (remaining (4 - round) (l + 1) (locs_of w))) (sym s.net)) (put_step k s.wrote))
-
-        -- the round is over
-        pub play-next : l + 1 ≡ locs_in w → Playing d whole e' r.at r.state (round + 1) 0
-        play-next h =
-            let m : 4 - (round + 1) ≡ 3 - round = omega arith in
-            left_as (ap (λ ls. playing (context_of w) ls (counted_of w r.state)) (ap (λ m. remaining m (l + 1) (locs_of w)) rounds-left ∙ remaining-over (3 - round) (l + 1) (locs_of w) (omega (arith, locs-length)) ∙ ap (λ n. remaining n 0 (locs_of w)) (sym m))) play-on.1
+      pub play-on : (st' : State) → TurnIs w (turn_of (context_of w) (loc_name w l) (counted_of w st)) q q' (Some st') → (valid w st' ≡ true) × Playing p whole q' st' round (l + 1)
+      play-on st' t = go (turn_of (context_of w) (loc_name w l) (counted_of w st)) now-left t
+        where
+          go : (x : Answer Turn) → LeftOf p whole q (followed x (playing (context_of w) (remaining (4 - round) (l + 1) (locs_of w)))) → TurnIs w x q q' (Some st') → (valid w st' ≡ true) × Playing p whole q' st' round (l + 1)
+          go (refused m) k s = elim s [ ]
+          go (accepted u) k s = (s.good, left_as (ap (playing (context_of w) (remaining (4 - round) (l + 1) (locs_of w))) (sym s.net)) (put_step k s.wrote))
 
   -- all rounds are over
-  pub play-end : {d whole e e' : List ℕ} {at r : ℕ} (st : State) (round l : ℕ) → 4 ≤ round → Playing d whole e at st round l → Wrote e at (ending (context_of w) (counted_of w st)) e' r → Wrote d 0 whole e' r
+  pub play-end : {p q r : Page} {whole : List ℕ} (st : State) (round l : ℕ) → 4 ≤ round → Playing p whole q st round l → Adds q (ending (context_of w) (counted_of w st)) r → Adds p whole r
   unfolding playing remaining
-  play-end st round l h p b = let m : 4 - round ≡ 0 = omega arith in last (left_as (ap (λ n. playing (context_of w) (remaining n l (locs_of w)) (counted_of w st)) m) p) b
+  play-end st round l h k b = let m : 4 - round ≡ 0 = omega arith in last (left_as (ap (λ n. playing (context_of w) (remaining n l (locs_of w)) (counted_of w st)) m) k) b
 
 -- ── the whole ──
 -- what is given is an edition with all rights
