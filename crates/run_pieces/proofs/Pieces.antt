@@ -1,6 +1,7 @@
 -- The pieces joined are the printout; and the ways of the code to the pieces.
 use Prim.Native.Nat.{ℕ, zero, suc, ◌+◌, ◌-◌, ◌≤◌, ◌<◌}
 use native.Mathlib.Omega.{arith}
+use Rattle.std.specs.Prelude.{Option, Some, None}
 use mathlib.Core.Bool.{Bool, true, false, cond}
 use mathlib.Core.List.{List, [], ◌∷◌, ◌++◌, append-nil, flatten}
 use mathlib.Core.Path.{◌≡◌, refl, sym, ap, ap₂, subst, ◌∙◌}
@@ -33,9 +34,10 @@ use Rattle.text_build.specs.Rows.{locs_of}
 use Rattle.text_answer.proofs.All.{took-all}
 use Rattle.text_answer.specs.declared.Reading.{Reading}
 use Rattle.text_answer.specs.Answer.{locations_in, ReadsAnswer}
+use Rattle.text_letters.specs.declared.Page.{Page}
 use Rattle.text_letters.specs.Put.{Wrote}
+use Rattle.text_letters.proofs.Pages.{from_start}
 use Rattle.text_letters.proofs.Puts.{after-room, after-full, over-whole}
-use Rattle.run_turn.specs.declared.Turned.{Turned}
 use Rattle.run_turn.specs.Turn.{refused_text, Turn, turn_of}
 use Rattle.run_turn.specs.Turned.{TurnIs}
 use Rattle.run_turn.proofs.Fits.{ends, refused-ends, turn-ends}
@@ -204,45 +206,49 @@ module _ (w : List ℕ) (c : Progress) (live : c.over ≡ false) (ok : ProgressO
           left-now (omega arith)
           ∙ ap (λ ls. playing_pieces (context_of w) ls (counted_of w c.state)) (ap (λ m. remaining m c.l (locs_of w)) rounds-left ∙ remaining-next (3 - c.round) c.l (locs_of w) (omega (arith, locs-length w, inl)) ∙ ap (λ x. x ∷ remaining (suc (3 - c.round)) (c.l + 1) (locs_of w)) (loc-at w c.l inl) ∙ ap (λ m. loc_name w c.l ∷ remaining m (c.l + 1) (locs_of w)) (sym rounds-left))
 
-      module _ (d e : List ℕ) (r : Turned) (t : TurnIs w (turn_of (context_of w) (loc_name w c.l) (counted_of w c.state)) d 0 e r) (k : length d ≡ 65_536) where
-        few : r.at ≤ 65_536
-        few = omega (arith, turn-ends w c.state c.l (ok.1 z).0 d e 0 r t)
+      module _ {d : List ℕ} (p q : Page) (start : (p.buf.now ≡ d) × (p.at ≡ 0)) (k : length d ≡ 65_536) where
+        abbrev Now : Answer Turn
+        Now = turn_of (context_of w) (loc_name w c.l) (counted_of w c.state)
 
-        past : drop r.at e ≡ drop r.at d
-        past = go (turn_of (context_of w) (loc_name w c.l) (counted_of w c.state)) t
+        few : (r : Option State) → TurnIs w Now p q r → q.at ≤ 65_536
+        few r t = omega (arith, start.1, turn-ends w c.state c.l (ok.1 z).0 p q r t)
+
+        -- refused
+        pub piece-stopped : (x : Progress) → TurnIs w Now p q None → x ≡ over c → PieceIs w c d q.buf.now (record { len = q.at; next = x })
+        piece-stopped x t g = go Now step-now t (few None t)
           where
-            go : (y : Answer Turn) → TurnIs w y d 0 e r → drop r.at e ≡ drop r.at d
-            go (refused m) s = (fronted s.wrote few k).1
-            go (accepted u) s = (fronted s.wrote few k).1
+            go : (y : Answer Turn) → pieces_left_by c.code w c ≡ followed_pieces y On → TurnIs w y p q None → q.at ≤ 65_536 → PieceIs w c d q.buf.now (record { len = q.at; next = x })
+            go (refused m) l s h = let f = fronted (from_start start s) h k in last (refused_text m) x l g h f.0 f.1
+            go (accepted u) l s h = elim s [ ]
 
-        pub piece-stopped : (x : Progress) → (r.code ≡ 0 → ⊥) → x ≡ over c → PieceIs w c d e (record { len = r.at; next = x })
-        piece-stopped x n g = last (take r.at e) x (step-now ∙ go (turn_of (context_of w) (loc_name w c.l) (counted_of w c.state)) t) g few refl past
-          where
-            go : (y : Answer Turn) → TurnIs w y d 0 e r → followed_pieces y On ≡ take r.at e ∷ []
-            go (refused m) s = ap (λ q. q ∷ []) (sym (fronted s.wrote few k).0)
-            go (accepted u) s = absurd (n s.code)
+        module _ (st : State) (t : TurnIs w Now p q (Some st)) where
+          record Gone : Type 0 where
+            first : pieces_left_by c.code w c ≡ take q.at q.buf.now ∷ On (counted_of w st)
+            good : valid w st ≡ true
+            past : drop q.at q.buf.now ≡ drop q.at d
 
-        module _ (o : r.code ≡ 0) where
-          went : (pieces_left_by c.code w c ≡ take r.at e ∷ On (counted_of w r.state)) × (valid w r.state ≡ true)
-          went = let g = go (turn_of (context_of w) (loc_name w c.l) (counted_of w c.state)) t in (step-now ∙ g.0, g.1)
+          gone : Gone
+          gone = go Now step-now t (few (Some st) t)
             where
-              go : (y : Answer Turn) → TurnIs w y d 0 e r → (followed_pieces y On ≡ take r.at e ∷ On (counted_of w r.state)) × (valid w r.state ≡ true)
-              go (refused m) s = absurd (s.code o)
-              go (accepted u) s = (ap (λ q. q ∷ On u.net) (sym (fronted s.wrote few k).0) ∙ ap (λ q. take r.at e ∷ On q) (sym s.net), s.good)
+              go : (y : Answer Turn) → pieces_left_by c.code w c ≡ followed_pieces y On → TurnIs w y p q (Some st) → q.at ≤ 65_536 → Gone
+              go (refused m) l s h = elim s [ ]
+              go (accepted u) l s h =
+                  let f = fronted (from_start start s.wrote) h k in
+                  record { first = l ∙ ap (λ y. y ∷ On u.net) (sym f.0) ∙ ap (λ y. take q.at q.buf.now ∷ On y) (sym s.net); good = s.good; past = f.1 }
 
-          pub piece-on : (x : Progress) → (c.l + 1 ≡ locs_in w → ⊥) → x ≡ before c.round (c.l + 1) r.state → PieceIs w c d e (record { len = r.at; next = x })
-          piece-on x n g = rw g (more (before c.round (c.l + 1) r.state) (went.0 ∙ ap (λ q. take r.at e ∷ q) (left-before w c.round (c.l + 1) r.state (omega arith))) few past (omega arith, λ q. (went.1, omega (arith, inl, n), omega arith)))
+          pub piece-on : (x : Progress) → (c.l + 1 ≡ locs_in w → ⊥) → x ≡ before c.round (c.l + 1) st → PieceIs w c d q.buf.now (record { len = q.at; next = x })
+          piece-on x n g = rw g (more (before c.round (c.l + 1) st) (gone.first ∙ ap (λ y. take q.at q.buf.now ∷ y) (left-before w c.round (c.l + 1) st (omega arith))) (few (Some st) t) gone.past (omega arith, λ y. (gone.good, omega (arith, inl, n), omega arith)))
 
           -- the round is over
-          pub piece-next : (x : Progress) → c.l + 1 ≡ locs_in w → x ≡ before (c.round + 1) 0 r.state → PieceIs w c d e (record { len = r.at; next = x })
+          pub piece-next : (x : Progress) → c.l + 1 ≡ locs_in w → x ≡ before (c.round + 1) 0 st → PieceIs w c d q.buf.now (record { len = q.at; next = x })
           piece-next x h g =
               let m : 4 - (c.round + 1) ≡ 3 - c.round = omega arith in
               rw g
-              (more (before (c.round + 1) 0 r.state)
-              (went.0 ∙ ap (λ ls. take r.at e ∷ playing_pieces (context_of w) ls (counted_of w r.state)) (ap (λ m. remaining m (c.l + 1) (locs_of w)) rounds-left ∙ remaining-over (3 - c.round) (c.l + 1) (locs_of w) (omega (arith, locs-length w)) ∙ ap (λ n. remaining n 0 (locs_of w)) (sym m)) ∙ ap (λ q. take r.at e ∷ q) (left-before w (c.round + 1) 0 r.state (omega arith)))
-              few
-              past
-              (omega arith, λ q. (went.1, omega (arith, inl), omega arith)))
+              (more (before (c.round + 1) 0 st)
+              (gone.first ∙ ap (λ ls. take q.at q.buf.now ∷ playing_pieces (context_of w) ls (counted_of w st)) (ap (λ m. remaining m (c.l + 1) (locs_of w)) rounds-left ∙ remaining-over (3 - c.round) (c.l + 1) (locs_of w) (omega (arith, locs-length w)) ∙ ap (λ n. remaining n 0 (locs_of w)) (sym m)) ∙ ap (λ y. take q.at q.buf.now ∷ y) (left-before w (c.round + 1) 0 st (omega arith)))
+              (few (Some st) t)
+              gone.past
+              (omega arith, λ y. (gone.good, omega (arith, inl), omega arith)))
 
 -- ── the whole ──
 module _ (s u w v : List ℕ) (r : Reading) (x : ReadsAnswer s print_settings (read_under 1 s) u w v r) where

@@ -16,6 +16,7 @@ use run_turn::{put_refused, turn};
 use table::words::{wide, word};
 use table::{Script, State};
 use text_answer::given::all_rights;
+use text_letters::Page;
 use text_write::Written;
 
 // How far a printout by pieces is: over; or a refusal is next, by its number; or the step at the location l in a round, or after four rounds the network,
@@ -70,10 +71,11 @@ fn put_ending(w: &Script, st: &State, buf: &mut [u8]) -> Written
 {
     let r = text_write::write(w, &st.c, st.n, buf);
     if r.code != 0 {
-        let a = put_refused(r.code, buf, 0);
+        let mut page = Page::new(buf);
+        put_refused(r.code, &mut page);
         return Written {
             code: r.code,
-            len: a,
+            len: page.at,
         };
     }
     r
@@ -85,9 +87,13 @@ fn last_piece(w: &Script, c: Progress, buf: &mut [u8]) -> Piece
     ensures { PieceIs w.now c buf.old buf.new result }
 {
     if 5 <= c.round {
-        let b = put_mean(&c.state.c, buf, 0);
+        let mut page = Page::new(buf);
+        put_mean(&c.state.c, &mut page);
         let e = finished(c);
-        return Piece { len: b, next: e };
+        return Piece {
+            len: page.at,
+            next: e,
+        };
     }
     let r = put_ending(w, &c.state, buf);
     if r.code != 0 {
@@ -126,9 +132,13 @@ pub fn next_piece(w: &Script, c: Progress, buf: &mut [u8]) -> Piece
     ensures { PieceIs w.now c buf.old buf.new result }
 {
     if c.code != 0 {
-        let a = put_refused(c.code, buf, 0);
+        let mut page = Page::new(buf);
+        put_refused(c.code, &mut page);
         let e = finished(c);
-        return Piece { len: a, next: e };
+        return Piece {
+            len: page.at,
+            next: e,
+        };
     }
     if 4 <= c.round {
         return last_piece(w, c, buf);
@@ -138,17 +148,25 @@ pub fn next_piece(w: &Script, c: Progress, buf: &mut [u8]) -> Piece
         c: held,
         n: c.state.n,
     };
-    let t = turn(w, st, c.l as u32, buf, 0);
-    if t.code != 0 {
+    let mut page = Page::new(buf);
+    let Some(next) = turn(w, st, c.l as u32, &mut page) else {
         let e = finished(c);
-        return Piece { len: t.at, next: e };
-    }
-    let next = t.state;
+        return Piece {
+            len: page.at,
+            next: e,
+        };
+    };
     let n = wide(word(w, 1));
     if c.l + 1 == n {
         let e = before_step(c.round + 1, 0, next);
-        return Piece { len: t.at, next: e };
+        return Piece {
+            len: page.at,
+            next: e,
+        };
     }
     let e = before_step(c.round, c.l + 1, next);
-    Piece { len: t.at, next: e }
+    Piece {
+        len: page.at,
+        next: e,
+    }
 }

@@ -4,6 +4,7 @@ use Prim.Native.Nat.{ℕ}
 use mathlib.Core.List.{List, [], ◌∷◌, ◌++◌}
 use mathlib.Core.Path.{◌≡◌, refl, ◌∙◌}
 use Rattle.text_letters.specs.declared.Page.{Page}
+use Rattle.text_letters.specs.Put.{Wrote}
 use Rattle.text_letters.specs.Page.{Adds}
 use Rattle.text_letters.proofs.Puts as puts
 use Rattle.text_letters.proofs.Puts.{Left}
@@ -37,3 +38,7 @@ last x y = record { same_bytes = y.same_bytes ∙ x.same_bytes; wrote = puts.las
 
 pub done : {p q : Page} {s : List ℕ} → LeftOf p s q [] → Adds p s q
 done x = last x nothing
+
+-- ── from the first of the lent bytes on ──
+pub from_start : {p q : Page} {d s : List ℕ} → (p.buf.now ≡ d) × (p.at ≡ 0) → Adds p s q → Wrote d 0 s q.buf.now q.at
+from_start b x = rw b.1 at (rw b.0 at x.wrote)

@@ -1,13 +1,16 @@
 -- The network is refused, or written.
 use native.Mathlib.Omega.{arith}
 use mathlib.Core.Path.{◌∙◌}
+use borrow.Author.Rules.{rules}
+use Rattle.text_letters.proofs.Pages.{from_start}
 use Rattle.run_pieces.proofs.Pieces.{front-refused, front-written}
 use Rattle.run_pieces.proofs.put_ending.Goals as goal
 
 pub returns-then-r-ne0 : goal.returns-then-r-ne0
 returns-then-r-ne0 c =
     let p = c.requires in
-    front-refused _ _ p.0 p.1 _ c.write-r.ensures c.if-r-ne0.true (c.buf-1.given ∙ p.1) c.put_refused-a.ensures
+    let k = front-refused _ _ p.0 p.1 _ c.write-r.ensures c.if-r-ne0.true (omega (arith, p.1, c.write-r.auto)) (from_start c.new-page.ensures.begins c.put_refused.ensures) in
+    search rules
 
 pub returns : goal.returns
 returns c =
