@@ -2,9 +2,9 @@
 -- Idea: what was put into bytes that hold it whole is the text itself and its length.
 use Prim.Native.Nat.{ℕ, ◌≤◌, ◌<◌}
 use native.Mathlib.Omega.{arith}
-use mathlib.Core.List.{List}
+use mathlib.Core.List.{List, ◌++◌}
 use mathlib.Core.Path.{◌≡◌, refl, ap, sym, subst, ◌∙◌}
-use lib.ListN.{length, take}
+use lib.ListN.{length, take, drop}
 use lib.Seq.{take_at}
 use borrow.Author.Tests.{le-leb, lt-leb}
 use Rattle.terms.specs.Rules.{Answer}
@@ -20,9 +20,9 @@ module _ (s d : List ℕ) where
   unfolding holding
   too_long h = rw (lt-leb (length s) (length d) h) (record { code = refl; len = refl; bytes = refl })
 
-  pub given : (n : ℕ) {e : List ℕ} {r : ℕ} → n ≡ length s → n ≤ length d → length d ≤ 9_223_372_036_854_775_808 → Wrote d 0 s e r → Answers (holding s (length d)) d (record { code = 0; len = n }) e
+  pub given : {e : List ℕ} → length s ≤ length d → e ≡ s ++ drop (length s) d → Answers (holding s (length d)) d (record { code = 0; len = length s }) e
   unfolding holding
-  given n m h k x = rw (le-leb (length s) (length d) (omega arith)) (record { code = refl; len = m; bytes = x.bytes ∙ over-whole d s (omega arith) k })
+  given h x = rw (le-leb (length s) (length d) h) (record { code = refl; len = refl; bytes = x })
 
 -- what was put from the start on into bytes that hold it
 pub record Stands (s e : List ℕ) (r : ℕ) : Type 0 where
@@ -38,10 +38,6 @@ stands {d} {s} {e} {r} x h k =
 pub handed : {d s e b f : List ℕ} {r : ℕ} {x : Written} → Wrote d 0 s e r → length s ≤ length d → length d ≤ 9_223_372_036_854_775_808
     → Answers (holding (take r e) (length b)) b x f → Answers (holding s (length b)) b x f
 handed {d} {s} {e} {b} {f} {r} {x} h l k a = subst (λ t. Answers (holding t (length b)) b x f) (stands h l k).text a
-
--- it is as long as was put, and so no longer than the bytes
-pub fits : {d s e : List ℕ} {r : ℕ} → Wrote d 0 s e r → length s ≤ length d → length d ≤ 9_223_372_036_854_775_808 → r ≤ length d
-fits {d} {s} {e} {r} h l k = let n = (stands h l k).long in omega arith
 
 -- ── refusals ──
 -- a refusal leaves the bytes as they were

@@ -10,7 +10,7 @@
 
 #![tactic(auto)]
 
-ghost use Rattle.std.specs.Prelude.{◌≡◌, ◌≤◌, ◌+◌, ◌*◌, length, take};
+ghost use Rattle.std.specs.Prelude.{◌≡◌, ◌≤◌, ◌+◌, ◌*◌, length};
 ghost use Rattle.table.specs.Words.{name_at, name_size, chans_at, word, locs_in, chans_in, loc_name, chan_name};
 ghost use Rattle.table.specs.Fire.{label_of};
 ghost use Rattle.calls_fire.specs.Fired.{tag_of};
@@ -25,7 +25,7 @@ use run_line::{put_label, put_line};
 use table::words::{wide, word};
 use table::{CHANNELS, LOCATIONS, NAME_SIZE, Script, Words};
 use table_valid::is_valid;
-use text_letters::{put_all, put_name};
+use text_letters::Page;
 use text_write::Written;
 
 // How many: 0 or the number of the question answered by no, and the number, which is 0 with a refusal.
@@ -63,16 +63,18 @@ pub fn channels(w: &Script, c: &Words, n: usize) -> Counted
     count_at(w, c, n, 2)
 }
 
-// The first k bytes of s to the front of the lent bytes, or 15.
-fn give(s: &[u8], k: usize, buf: &mut [u8]) -> Written
-    requires { k ≤ length s.now }
-    ensures { Answers (holding (take k s.now) (length buf.old)) buf.old result buf.new }
+// The bytes of s to the front of the lent bytes, or 15.
+fn give(s: &[u8], buf: &mut [u8]) -> Written
+    ensures { Answers (holding s.now (length buf.old)) buf.old result buf.new }
 {
-    if buf.len() < k {
+    if buf.len() < s.len() {
         return Written { code: 15, len: 0 };
     }
-    put_all(&s[..k], buf, 0);
-    Written { code: 0, len: k }
+    buf[..s.len()].copy_from_slice(s);
+    Written {
+        code: 0,
+        len: s.len(),
+    }
 }
 
 // The name that stands at the word o, or 15. A name has at most 16 bytes.
@@ -80,8 +82,9 @@ fn give_name(w: &Script, o: usize, buf: &mut [u8]) -> Written
     ensures { Answers (holding (name_at w.now o) (length buf.old)) buf.old result buf.new }
 {
     let mut text = [0; 16];
-    let k = put_name(w, o, &mut text, 0);
-    give(&text, k, buf)
+    let mut page = Page::new(&mut text);
+    page.put_name(w, o);
+    give(page.text(), buf)
 }
 
 // The name numbered k of a sort whose number the word i holds and whose names begin at the word o: questions 17, 8, 15.
@@ -117,8 +120,9 @@ fn give_label(w: &Script, x: Label, buf: &mut [u8]) -> Written
     ensures { Answers (holding (label_text (label_of w.now (tag_of x))) (length buf.old)) buf.old result buf.new }
 {
     let mut text = [0; 51];
-    let k = put_label(w, x, &mut text, 0);
-    give(&text, k, buf)
+    let mut page = Page::new(&mut text);
+    put_label(w, x, &mut page);
+    give(page.text(), buf)
 }
 
 // The label of an action: questions 17, 8 to 11 and 20 as for the action itself, 15; not 18, for nothing is counted. Asked of the network before a step, the records of the step have the
@@ -166,6 +170,7 @@ pub fn step_line(w: &Script, c: &Words, n: usize, l: u32, buf: &mut [u8]) -> Wri
         };
     }
     let mut text = [0; 13329];
-    let k = put_line(w, c, n, l, &records, s.count, &mut text, 0);
-    give(&text, k, buf)
+    let mut page = Page::new(&mut text);
+    put_line(w, c, n, l, &records[..s.count], &mut page);
+    give(page.text(), buf)
 }

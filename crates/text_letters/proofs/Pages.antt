@@ -1,7 +1,7 @@
 -- Bytes put on a page one after the other: two texts in a row are one text, and a text is put in steps.
 -- By the laws of bytes put into a buffer (proofs/Puts).
 use Prim.Native.Nat.{ℕ}
-use mathlib.Core.List.{List, [], ◌∷◌, ◌++◌}
+use mathlib.Core.List.{List, [], ◌++◌}
 use mathlib.Core.Path.{◌≡◌, refl, ◌∙◌}
 use Rattle.text_letters.specs.declared.Page.{Page}
 use Rattle.text_letters.specs.Put.{Wrote}

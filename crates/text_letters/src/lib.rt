@@ -55,6 +55,13 @@ impl<'a> Page<'a> {
         Page { buf, at: 0 }
     }
 
+    // What was put, as far as it fits.
+    pub fn text(&self) -> &[u8]
+        ensures { result.now ≡ take self.now.at self.now.buf.now }
+    {
+        &self.buf[..self.at.min(self.buf.len())]
+    }
+
     // One byte.
     pub fn put(&mut self, b: u8)
         ensures { Adds self.old (b ∷ []) self.new }

@@ -2,10 +2,11 @@
 -- By the law of a line made from the step, and the law that a line has at most 13,329 bytes.
 use native.Mathlib.Omega.{arith}
 use mathlib.Core.Path.{sym, ◌∙◌}
-use Rattle.run_line.proofs.Lines.{step-holds}
+use Rattle.text_letters.proofs.Pages.{from_start}
+use Rattle.run_line.proofs.Lines.{held-front, step-holds}
 use Rattle.run_line.proofs.Fits.{line-short}
 use Rattle.host.specs.Shown.{line_answer}
-use Rattle.host.proofs.Given.{fits, handed, refuses, answers-as}
+use Rattle.host.proofs.Given.{handed, refuses, answers-as}
 use Rattle.host.proofs.Lined.{asked-first, line_refused, line_taken}
 use Rattle.host.proofs.step_line.Goals as goal
 
@@ -21,20 +22,15 @@ returns-then-s-ne0 c =
     let v = sym c.is_valid.ensures ∙ c.if-not-is_valid.false in
     answers-as (line_refused _ _ _ _ _ _ _ _ (asked-first _ _ _ 0 _ _ _ _ v c.step_valid-s.ensures) c.if-s-ne0.true) (refuses _ _)
 
-pub put_line-k-requires : goal.put_line-k-requires
-put_line-k-requires c =
+pub put_line-requires : goal.put_line-requires
+put_line-requires c =
     let v = sym c.is_valid.ensures ∙ c.if-not-is_valid.false in
     let z = c.if-s-ne0.false in
-    step-holds _ _ _ _ _ _ _ _ (asked-first _ _ _ 0 _ _ _ _ v c.step_valid-s.ensures) (omega arith)
-
-pub give-requires : goal.give-requires
-give-requires c =
-    let v = sym c.is_valid.ensures ∙ c.if-not-is_valid.false in
-    let h = fits c.put_line-k.ensures (line-short _ _ v _) (omega arith) in
-    omega (arith, h, c.put_line-k.auto)
+    held-front _ _ _ _ _ (step-holds _ _ _ _ _ _ _ _ (asked-first _ _ _ 0 _ _ _ _ v c.step_valid-s.ensures) (omega arith))
 
 pub returns : goal.returns
 returns c =
     let v = sym c.is_valid.ensures ∙ c.if-not-is_valid.false in
     let z = c.if-s-ne0.false in
-    answers-as (line_taken _ _ _ _ _ _ _ _ (asked-first _ _ _ 0 _ _ _ _ v c.step_valid-s.ensures) (omega arith)) (handed c.put_line-k.ensures (line-short _ _ v _) (omega arith) c.give.ensures)
+    let told = rw c.text.ensures at c.give.ensures in
+    answers-as (line_taken _ _ _ _ _ _ _ _ (asked-first _ _ _ 0 _ _ _ _ v c.step_valid-s.ensures) (omega arith)) (handed (from_start c.new-page.ensures.begins c.put_line.ensures) (line-short _ _ v _) (omega arith) told)

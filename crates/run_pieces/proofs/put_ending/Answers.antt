@@ -1,6 +1,5 @@
 -- The network is refused, or written.
 use native.Mathlib.Omega.{arith}
-use mathlib.Core.Path.{◌∙◌}
 use borrow.Author.Rules.{rules}
 use Rattle.text_letters.proofs.Pages.{from_start}
 use Rattle.run_pieces.proofs.Pieces.{front-refused, front-written}

@@ -1,7 +1,7 @@
 -- The first component, each other one after ` | `, and the line's end.
 -- Idea: what is left to put is the components from the position on.
 use native.Mathlib.Omega.{arith}
-use mathlib.Core.Path.{refl, sym}
+use mathlib.Core.Path.{sym}
 use Rattle.text_letters.proofs.Pages.{begun, step, last, then, same, left_as}
 use Rattle.table.specs.declared.State.{State}
 use Rattle.table.proofs.InUse.{valid-script, valid-state}

@@ -7,4 +7,3 @@ use Rattle.text_network.proofs.write_comps.Given as goal
 
 abbrev pub invariant-loop-k : goal.invariant-loop-k
 invariant-loop-k l = LeftOf l.initial.page (barred (left l.w (record { c = l.c; n = l.n }) 1)) l.page (barred (left l.w (record { c = l.c; n = l.n }) l.k))
-

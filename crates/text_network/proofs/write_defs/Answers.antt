@@ -1,9 +1,7 @@
 -- Each definition in order.
 -- Idea: what is left to put is the definitions from the number on.
 use native.Mathlib.Omega.{arith}
-use mathlib.Core.Path.{refl, ◌∙◌}
 use Rattle.table.specs.Words.{defs_in}
-use Rattle.table.proofs.Tests.{script-fine}
 use Rattle.text_letters.proofs.Pages.{begun, step, done, left_as}
 use Rattle.text_network.proofs.Networks.{defs-next, defs-end, defs-all}
 use Rattle.text_network.proofs.write_defs.Goals as goal

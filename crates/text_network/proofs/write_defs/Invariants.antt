@@ -9,4 +9,3 @@ use Rattle.text_network.proofs.write_defs.Given as goal
 
 abbrev pub invariant-loop-d : goal.invariant-loop-d
 invariant-loop-d l = LeftOf l.initial.page (defs_text (defs_of l.w)) l.page (defs_text (list_from l.d (defs_in l.w - l.d) (def_of l.w)))
-

@@ -4,7 +4,7 @@
 use Prim.Native.Nat.{◌-◌, suc}
 use native.Mathlib.Omega.{arith}
 use mathlib.Core.List.{List}
-use mathlib.Core.Path.{◌≡◌, refl, ap, sym, ◌∙◌}
+use mathlib.Core.Path.{◌≡◌, ap, sym, ◌∙◌}
 use Rattle.table.specs.Words.{next_at}
 use Rattle.text_letters.specs.declared.Page.{Page}
 use Rattle.text_letters.specs.Page.{Adds}

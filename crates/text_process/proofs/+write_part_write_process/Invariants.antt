@@ -2,7 +2,6 @@
 -- Both fall by the place: twice the place for a part, and one more for a process, since a process begins with the part at its own place.
 -- the process at n, where n is the place m
 use Prim.Native.Nat.{◌+◌, ◌*◌, ◌≤◌}
-use mathlib.Core.Path.{◌≡◌}
 use Rattle.text_process.specs.Forms.{process_text}
 use Rattle.text_process.specs.Values.{Places, process_seen}
 use Rattle.text_letters.proofs.Pages.{LeftOf}

@@ -1,7 +1,7 @@
 -- A part up to its first process, by its head.
 -- By the law of each head.
 use native.Mathlib.Omega.{arith}
-use mathlib.Core.Path.{refl, sym, ◌∙◌}
+use mathlib.Core.Path.{sym, ◌∙◌}
 use lib.Seq.{length-take-le}
 use Rattle.text_letters.proofs.Pages.{same}
 use Rattle.text_process.proofs.Heads.{place-small, open-stop, open-go, open-out, open_in, open-call, call-few}

@@ -1,6 +1,5 @@
 -- The digits of a number: those of a tenth of it, and one more.
 -- By the laws of digits.
-use native.Mathlib.Omega.{arith}
 use mathlib.Core.Path.{sym}
 use Rattle.text_letters.proofs.Pages.{then, same}
 use Rattle.text.proofs.Digits.{digits-one}

@@ -1,6 +1,5 @@
 -- All bytes of a slice, one after the other.
 -- Idea: what is left to put is what is left of the slice.
-use native.Mathlib.Omega.{arith}
 use native.Mathlib.Numerals.{add-one}
 use mathlib.Core.Path.{ap, sym}
 use lib.ListN.{drop, drop_of_length-le}
