@@ -31,6 +31,7 @@ use calls_step::{Stepped, step};
 use calls_tick::{Ticked, tick};
 use table::{Script, Words};
 use table_valid::is_valid;
+use terms::refusal::Refusal;
 
 // How many calls of a list were made, and the number of components after them.
 #[derive(Clone, Copy)]
@@ -39,7 +40,8 @@ pub struct Ran {
     pub n: usize,
 }
 
-// After a text and a list of calls: the code of the reading, how many calls were made, and the number of components after them.
+// After a text and a list of calls: the code of the reading, how many calls were made, and the number of components after them. The code is the number that
+// the C interface's `Reading` has: a refusal is had back from it by a look-up alone, so that it stays a number beside the others.
 #[derive(Clone, Copy)]
 pub struct RanText {
     pub code: u32,
@@ -55,7 +57,7 @@ pub fn action(w: &Script, c: &mut Words, n: usize, kind: u32, p: usize, q: usize
     if is_valid(w, c, n) {
         return act::act_valid(w, c, n, kind, p, q);
     }
-    act::refuse(17)
+    act::refuse(Refusal::NotValid.number())
 }
 
 // The tick at the location numbered l: questions 17, 8, 12, 13.
@@ -65,7 +67,7 @@ pub fn tick_at(w: &Script, c: &mut Words, n: usize, l: u32) -> Ticked
     if is_valid(w, c, n) {
         return tick::tick_valid(w, c, n, l);
     }
-    tick::refuse(17, n)
+    tick::refuse(Refusal::NotValid.number(), n)
 }
 
 // The step at the location numbered l: questions 17, 8, 15, 18, 13. The records of its actions stand in front of what was in the buffer.
@@ -75,7 +77,7 @@ pub fn step_at(w: &Script, c: &mut Words, n: usize, l: u32, records: &mut [[u32;
     if is_valid(w, c, n) {
         return step::step_valid(w, c, n, l, records);
     }
-    step::refuse(17, n)
+    step::refuse(Refusal::NotValid.number(), n)
 }
 
 // Does the location numbered l conform to the single-outcome profile? Questions 17 and 8; a no is no refusal.
@@ -85,7 +87,7 @@ pub fn conforms(w: &Script, c: &Words, n: usize, l: u32) -> Tested
     if is_valid(w, c, n) {
         return outward::test_valid(w, c, n, l);
     }
-    outward::refuse(17)
+    outward::refuse(Refusal::NotValid.number())
 }
 
 // The step at the location numbered l, where it conforms: questions 17, 8, 26, and then as the step's, 15, 18, 13.
@@ -101,7 +103,7 @@ pub fn step_conforming(
     if is_valid(w, c, n) {
         return outward::step_conforming_valid(w, c, n, l, records);
     }
-    step::refuse(17, n)
+    step::refuse(Refusal::NotValid.number(), n)
 }
 
 // The locations where the tick is not allowed: question 17 first.
@@ -112,7 +114,7 @@ pub fn forced_report(w: &Script, c: &Words, n: usize) -> Report
         return forced::forced_valid(w, c, n);
     }
     Report {
-        code: 17,
+        code: Refusal::NotValid.number(),
         set: 0,
         count: 0,
         lowest: 0,

@@ -11,6 +11,7 @@ use calls_act::act;
 use calls_tick::{Ticked, tick};
 use table::{Script, Words, words};
 use table_valid::is_valid;
+use terms::refusal::Refusal;
 use text_answer::Settings;
 
 // One call of a list: 4 and a location for a tick, else the kind and the positions of an action. Question 17 was answered before.
@@ -19,13 +20,13 @@ fn call(w: &Script, good: bool, c: &mut Words, n: usize, kind: u32, p: u32, q: u
     ensures { DoesAs w.now (record { c = c.entry.now; n = n }) (answer_to w.now (record { c = c.entry.now; n = n }) (given_by (kind ∷ p ∷ q ∷ []))) result.code (left result c.exit.now) }
 {
     if !good {
-        return tick::refuse(17, n);
+        return tick::refuse(Refusal::NotValid.number(), n);
     }
     if kind == 4 {
         return tick::tick_valid(w, c, n, p);
     }
     let r = act::act_valid(w, c, n, kind, words::wide(p), words::wide(q));
-    Ticked { code: r.code, n: n }
+    Ticked { code: r.code, n }
 }
 
 // The calls of a list one after another, as many as there are codes for; a code is 0, or the number of the question answered by no. Question 17 is asked
@@ -34,22 +35,16 @@ pub fn run(w: &Script, c: &mut Words, n: usize, calls: &[[u32; 3]], codes: &mut 
     ensures runs { RunsAs w.now (record { c = c.entry.now; n = n }) calls.now codes.old codes.new result.done (record { c = c.exit.now; n = result.n }) }
     ensures done { result.done ≡ min (length calls.now) (length codes.old) }
 {
-    let number = calls.len();
-    let room = codes.len();
     let good = is_valid(w, c, n);
+    let done = calls.len().min(codes.len());
     let mut k = n;
-    let mut j: usize = 0;
-    while j < number {
-        if room <= j {
-            return Ran { done: j, n: k };
-        }
-        let e = calls[j];
-        let r = call(w, good, c, k, e[0], e[1], e[2]);
+    for j in 0..done {
+        let [kind, p, q] = calls[j];
+        let r = call(w, good, c, k, kind, p, q);
         codes[j] = r.code;
         k = r.n;
-        j += 1;
     }
-    Ran { done: j, n: k }
+    Ran { done, n: k }
 }
 
 // A text, and then the calls of a list one after another from its network, in the lent components: the reading's refusal, or what `run` gives, with demand 3.

@@ -16,4 +16,4 @@ pub returns : goal.returns
 unfolding forced_report
 returns c =
     let v = sym c.is_valid.ensures ∙ c.if-is_valid.false in
-    rw v
+    rw (v, c.number.ensures)

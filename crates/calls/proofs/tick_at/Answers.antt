@@ -16,4 +16,4 @@ pub returns : goal.returns
 unfolding tick_answer
 returns c =
     let v = sym c.is_valid.ensures ∙ c.if-is_valid.false in
-    rw v (c.refuse.ensures, refl)
+    rw v (rw c.number.ensures at c.refuse.ensures, refl)

@@ -12,7 +12,7 @@ use Rattle.calls.proofs.run.call.Goals as goal
 pub returns-then-not-good : goal.returns-then-not-good
 returns-then-not-good c =
     let a = c.args in
-    refused-17 a.w.now (record { c = a.c.now; n = a.n }) (a.kind ∷ a.p ∷ a.q ∷ []) c.refuse.result (failed c.if-not-good.true c.requires) c.refuse.ensures
+    refused-17 a.w.now (record { c = a.c.now; n = a.n }) (a.kind ∷ a.p ∷ a.q ∷ []) c.refuse.result (failed c.if-not-good.true c.requires) (rw c.number.ensures at c.refuse.ensures)
 
 pub tick_valid-requires : goal.tick_valid-requires
 tick_valid-requires c = passed c.if-not-good.false c.requires
