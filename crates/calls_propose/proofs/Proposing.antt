@@ -39,7 +39,7 @@ use Rattle.calls_act.proofs.Positions.{valid-parts}
 use Rattle.calls_tick.specs.declared.Ticked.{Ticked}
 use Rattle.calls_tick.specs.Ticked.{room, tick_counted, tick_rule, TicksAs}
 use Rattle.calls_propose.specs.declared.Record.{Record}
-use Rattle.calls_propose.specs.Proposed.{here_only, record_rule, records_rule, propose_rule, propose_answer, so_far, Next, begun, fired_next, ticked_last}
+use Rattle.calls_propose.specs.Proposed.{here_only, record_rule, records_rule, propose_rule, propose_answer, so_far, Next, begun, fired_next, fired_all, ticked_last}
 
 -- ── the answer so far ──
 pub far_none : (w : List ℕ) (k : ℕ) (st : State) → (k ≡ 0 → ⊥) → so_far w k st ≡ refused k
@@ -216,10 +216,6 @@ module _ (w : List ℕ) (l : ℕ) (st : State) (cs : List ℕ) where
         go (accepted cs) m h = record { code = h.code; comps = h.comps; tally = h.tally; good = h.good; grows = h.grows; past = others-then h.grows k h.past }
 
 -- ── the list ──
--- the actions of a list more
-unfoldable pub fired_all : List ℕ → ℕ → List Record → Answer Counted → Answer Counted
-fired_all w l rs x = x >>= records_rule (context_of w) (loc_name w l) rs
-
 abbrev pub zero-record : Record
 zero-record = record { kind = 0; p = 0; q = 0 }
 
@@ -246,6 +242,13 @@ all-fired w l rs x i h = rw (drop_of_length-le rs h) (same x)
 pub none-fired : (w : List ℕ) (l : ℕ) (rs : List Record) (k : ℕ) (st : State) → (k ≡ 0 → ⊥) → fired_all w l rs (so_far w k st) ≡ so_far w k st
 unfolding fired_all
 none-fired w l rs k st h = rw (far_none w k st h)
+
+-- a no of what was fired is one of all
+pub fired-no : (w : List ℕ) (l : ℕ) (st : State) (rs : List Record) (x y : Answer Counted) (k : ℕ) (cs : List ℕ) → (k ≡ 0 → ⊥) → fired_all w l rs x ≡ y → so_far w k (after st cs) ≡ x → Next w l st y k cs
+fired-no w l st rs x y k cs h e f = record {
+  far = sym (none-fired w l rs k (after st cs) h) ∙ ap (fired_all w l rs) f ∙ e;
+  held = λ z. absurd (h z);
+}
 
 -- the parts together are the proposal
 pub proposal-is : (w : List ℕ) (st : State) (l : ℕ) (rs : List Record) → ticked_last w l (fired_all w l rs (begun w st l)) ≡ propose_answer w st l rs

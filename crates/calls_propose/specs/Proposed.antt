@@ -1,6 +1,6 @@
 -- The proposal by the rules: document 01, *The other calls* and *Questions, asked downward*, and document 02, R-1. The actions of a list in order, each on what those
 -- before it left and firing at the location, then the tick; the first no ends it.
-use Rattle.std.specs.Prelude.{ℕ, ◌<◌, List, [], ◌∷◌, true, cond, ◌≡◌, eqb, ltb}
+use Rattle.std.specs.Prelude.{ℕ, ◌<◌, List, [], ◌∷◌, true, cond, ◌≡◌, eqb, ltb, Result, Ok, Err}
 use Rattle.terms.specs.Names.{Name, same_name}
 use Rattle.terms.specs.Terms.{Context, fires_at}
 use Rattle.terms.specs.Rules.{Answer, Action, ◌>>=◌}
@@ -58,6 +58,16 @@ pub record Next (w : List ℕ) (l : ℕ) (st : State) (x : Answer Counted) (k : 
   pub far : so_far w k (after st cs) ≡ x
   pub held : k ≡ 0 → Held w l st cs
 
+-- 0, or the number of the question answered by no
+abbrev pub code_by : Result (Unit {0}) ℕ → ℕ
+code_by (Ok u) = 0
+code_by (Err k) = k
+
+-- a no has a number that is not 0
+abbrev pub Numbered : Result (Unit {0}) ℕ → Type 0
+Numbered (Ok u) = Unit {0}
+Numbered (Err k) = k ≡ 0 → ⊥
+
 -- before the first action
 unfoldable pub begun : List ℕ → State → ℕ → Answer Counted
 begun w st l = asked 17 (valid w st) (asked 8 (ltb l (locs_in w)) (accepted (counted_of w st)))
@@ -65,6 +75,10 @@ begun w st l = asked 17 (valid w st) (asked 8 (ltb l (locs_in w)) (accepted (cou
 -- one action more
 unfoldable pub fired_next : List ℕ → ℕ → Record → Answer Counted → Answer Counted
 fired_next w l r x = x >>= record_rule (context_of w) (loc_name w l) r
+
+-- the actions of a list more
+unfoldable pub fired_all : List ℕ → ℕ → List Record → Answer Counted → Answer Counted
+fired_all w l rs x = x >>= records_rule (context_of w) (loc_name w l) rs
 
 -- the tick after the last action
 unfoldable pub ticked_last : List ℕ → ℕ → Answer Counted → Answer Counted
