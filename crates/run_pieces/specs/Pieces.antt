@@ -1,23 +1,24 @@
 -- The printout by pieces: one for each step, then one for the network and one for the mean; a refusal is the last. Joined they are the printout (proofs/Pieces).
-use Rattle.std.specs.Prelude.{ℕ, zero, suc, ◌-◌, ◌≤◌, ◌<◌, List, [], ◌∷◌, true, cond, ◌≡◌, leb, take, drop}
+use Rattle.std.specs.Prelude.{ℕ, zero, suc, ◌-◌, ◌≤◌, ◌<◌, List, [], ◌∷◌, true, ◌≡◌, take, drop}
 use Rattle.terms.specs.Names.{Name}
-use Rattle.terms.specs.Terms.{Context, Network}
+use Rattle.terms.specs.Terms.{Context, Network as Net}
 use Rattle.terms.specs.Rules.{Answer}
 use Rattle.terms.specs.Rules.Answer.{refused, accepted}
 use Rattle.waits.specs.Waits.{Tally, begun}
 use Rattle.waits.specs.Counted.{Counted}
 use Rattle.text.specs.Questions.{form, read}
+use Rattle.table.specs.declared.State.{State}
 use Rattle.table.specs.Words.{locs_in}
-use Rattle.table.specs.Meaning.{context_of, tally_of, counted_of}
+use Rattle.table.specs.Meaning.{context_of, net_of, tally_of, counted_of}
 use Rattle.table.specs.Valid.{valid}
 use Rattle.text_build.specs.Rows.{locs_of}
+use Rattle.text_answer.specs.declared.Reading.{Reading}
 use Rattle.text_answer.specs.Answer.{locations_in}
 use Rattle.run_pieces.specs.declared.Progress.{Progress}
+use Rattle.run_pieces.specs.declared.Progress.TheVariants.{Refused, Step, Network, Mean, Over}
 use Rattle.run_pieces.specs.declared.Piece.{Piece}
 use Rattle.run_turn.specs.Turn.{Turn, refused_text, turn_of}
-use Rattle.run_print.specs.Print.{shown, shown_text, mean_line, four, print_context}
-use Rattle.text_write.specs.declared.Written.{Written}
-use Rattle.text_write.specs.Answer.{code_of}
+use Rattle.run_print.specs.Print.{shown, mean_line, four, print_context}
 use Rattle.run_print.specs.Rounds.{remaining}
 
 -- after a step: its line and the pieces that follow, or the refusal
@@ -35,7 +36,7 @@ unfoldable pub playing_pieces : Context → List Name → Counted → List (List
 playing_pieces d [] k = ended_pieces (shown d k.comps) k.tally
 playing_pieces d (l ∷ ls) k = followed_pieces (turn_of d l k) (playing_pieces d ls)
 
-abbrev pub pieces_of : List Name → Answer Network → List (List ℕ)
+abbrev pub pieces_of : List Name → Answer Net → List (List ℕ)
 pieces_of ls (refused n) = refused_text n ∷ []
 pieces_of ls (accepted m) = playing_pieces (print_context m) (four ls) (record { comps = m.comps; tally = begun m.comps })
 
@@ -43,25 +44,29 @@ unfoldable pub pieces : List ℕ → List (List ℕ)
 pieces s = pieces_of (locations_in (form s)) (read s)
 
 -- ── where a printout by pieces stands ──
--- the pieces that are left: none, or a refusal, or those of the steps that are left with the network, or after the network the mean
-abbrev pub pieces_left_by : ℕ → List ℕ → Progress → List (List ℕ)
-pieces_left_by zero w c =
-    cond (leb 5 c.round) (mean_line (tally_of c.state) ∷ []) (playing_pieces (context_of w) (remaining (4 - c.round) c.l (locs_of w)) (counted_of w c.state))
-pieces_left_by (suc n) w c = refused_text (suc n) ∷ []
-
+-- the pieces that are left: a refusal; or those of the steps that are left with the network; or the network and the mean; or the mean; or none
 abbrev pub pieces_left : List ℕ → Progress → List (List ℕ)
-pieces_left w c = cond c.over [] (pieces_left_by c.code w c)
+pieces_left w (Refused n) = refused_text n ∷ []
+pieces_left w (Step round l st) = playing_pieces (context_of w) (remaining (4 - round) l (locs_of w)) (counted_of w st)
+pieces_left w (Network st) = ended_pieces (shown (context_of w) (net_of w st)) (tally_of st)
+pieces_left w (Mean st) = mean_line (tally_of st) ∷ []
+pieces_left w Over = []
 
--- the refusal has a question's number, or the next step can be made
+-- the refusal has a question's number, or the next step can be made, or the network has passed question 17
 abbrev pub ProgressOk : List ℕ → Progress → Type 0
-ProgressOk w c = (c.code < 16) × (c.code ≡ 0 → (valid w c.state ≡ true) × (c.l < locs_in w) × (c.round ≤ 5))
+ProgressOk w (Refused n) = n < 16
+ProgressOk w (Step round l st) = (valid w st ≡ true) × (l < locs_in w) × (round < 4)
+ProgressOk w (Network st) = valid w st ≡ true
+ProgressOk w (Mean st) = valid w st ≡ true
+ProgressOk w Over = Unit {0}
 
--- the network x or its refusal stands at the front of the buffer e, which was d before; the bytes past it are as they were
-pub record EndingIs (x : Answer (List ℕ)) (d e : List ℕ) (r : Written) : Type 0 where
-  pub code : r.code ≡ code_of x
-  pub few : r.len ≤ 65_536
-  pub front : take r.len e ≡ shown_text x
-  pub past : drop r.len e ≡ drop r.len d
+-- before the first piece: the refusal to read, or the first step
+abbrev pub first_by : ℕ → State → Progress
+first_by zero st = Step 0 0 st
+first_by (suc n) st = Refused (suc n)
+
+abbrev pub first_of : Reading → Progress
+first_of r = first_by r.code r.state
 
 -- the first piece of those that are left stands at the front of the buffer e, which was d before; the bytes past it are as they were
 pub record PieceIs (w : List ℕ) (c : Progress) (d e : List ℕ) (r : Piece) : Type 0 where

@@ -42,10 +42,9 @@ fn show<W: Write>(to: &mut W, w: &Script, start: Progress, buf: &mut [u8]) -> io
         (λ _. (k : ℕ) × Appends (W.contents to.old) (W.contents to.new) (take k (flatten (pieces_left w.now start)))) }
 {
     let mut now = start;
-    while !now.over {
-        let p = run_pieces::next_piece(w, now, buf);
-        run_emit::emit(to, &buf[..p.len])?;
-        now = p.next;
+    while let Some(piece) = run_pieces::next_piece(w, now, buf) {
+        run_emit::emit(to, &buf[..piece.len])?;
+        now = piece.next;
     }
     Ok(())
 }
