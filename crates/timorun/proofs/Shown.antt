@@ -5,6 +5,9 @@ use Rattle.std.proofs.lemmas.List.{take-append-le}
 use Rattle.std.specs.Io.KnownBytes.{Appends, Consumes, IsAtEnd}
 use Rattle.std.specs.declared.option.Option.{Option}
 use mathlib.Core.List.{flatten}
+use Rattle.run_pieces.specs.declared.Progress.{Progress}
+use Rattle.run_pieces.specs.declared.Progress.TheVariants.{Over}
+use Rattle.run_pieces.specs.Pieces.{pieces_left}
 
 -- One piece more was written.
 pub piece_more : (all done x : List ℕ) (xs ys : List (List ℕ)) → xs ≡ x ∷ ys → all ≡ done ++ flatten xs → all ≡ (done ++ x) ++ flatten ys
@@ -29,10 +32,10 @@ of_read (Some xs) (Some ys) bs n P moved few end p = subst P (sym (go (eq-or-lt_
     go (inl e) = ap (take n) moved ∙ take-append-le n bs ys (le_of_eq (sym e)) ∙ take_all n bs few
     go (inr h) = ap (take n) (moved ∙ ap (λ l. bs ++ l) (end h) ∙ append-nil bs) ∙ take_all n bs few
 
--- Nothing is left where all was written.
-pub nothing_left : (over : Bool) (xs : List (List ℕ)) → over ≡ true → flatten (cond over [] xs) ≡ []
+-- Nothing is left of a printout that is over.
+pub nothing_left : (w : List ℕ) (now : Progress) → now ≡ Over → flatten (pieces_left w now) ≡ []
 unfolding flatten
-nothing_left over xs h = ap (λ b. flatten (cond b [] xs)) h
+nothing_left w now e = ap (λ c. flatten (pieces_left w c)) e
 
 -- What was written of a text that was read so, whole and up to a failed write; f is what it should come to.
 pub wrote_all : (a b o p : Option (List ℕ)) (bs out : List ℕ) (n : ℕ) (f : List ℕ → List ℕ) → Consumes a b bs → length bs ≤ n → (length bs < n → IsAtEnd b) → out ≡ f bs

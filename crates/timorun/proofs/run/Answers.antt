@@ -11,7 +11,7 @@ returns-clause-printed g c =
     let text = take c.in-Ok.n c.read_input.new.buf in
     let few : length text ≤ 65_536 = search rules in
     let short : length text < 65_536 → c.in-Ok.n < length c.read_input.new.buf = λ h. search rules in
-    told_ok _ _ _ _ _ _ c.map_err.ensures.cases c.show.ensures (wrote_all _ _ _ _ text _ 65_536 printout read.bytes few (λ h. read.end (short h)) (ap flatten c.begin-start.ensures.2 ∙ sym (joined text)))
+    told_ok _ _ _ _ _ _ c.map_err.ensures.cases c.show.ensures (wrote_all _ _ _ _ text _ 65_536 printout read.bytes few (λ h. read.end (short h)) (ap flatten c.begin-start.ensures.1 ∙ sym (joined text)))
 
 pub returns-clause-not_written : goal.returns-clause-not_written
 returns-clause-not_written g c e =
@@ -19,4 +19,4 @@ returns-clause-not_written g c e =
     let text = take c.in-Ok.n c.read_input.new.buf in
     let few : length text ≤ 65_536 = search rules in
     let short : length text < 65_536 → c.in-Ok.n < length c.read_input.new.buf = λ h. search rules in
-    wrote_some _ _ _ _ text _ 65_536 printout read.bytes few (λ h. read.end (short h)) (ap flatten c.begin-start.ensures.2 ∙ sym (joined text)) (told_err _ _ _ _ _ c.map_err.ensures.cases c.show.ensures _ e)
+    wrote_some _ _ _ _ text _ 65_536 printout read.bytes few (λ h. read.end (short h)) (ap flatten c.begin-start.ensures.1 ∙ sym (joined text)) (told_err _ _ _ _ _ c.map_err.ensures.cases c.show.ensures _ e)
