@@ -5,11 +5,11 @@ use native.Mathlib.Omega.{arith}
 use mathlib.Core.Bool.{Bool, true, false, cond, ◌||◌}
 use mathlib.Core.List.{List, [], ◌∷◌}
 use mathlib.Core.Path.{◌≡◌, refl, ap, sym, ◌∙◌}
-use lib.ListN.{length, drop}
+use lib.ListN.{length}
 use Rattle.terms.specs.Names.{Name, bytes, same_name}
 use Rattle.terms.specs.Terms.Value.{loc, var}
 use Rattle.terms.specs.Letters.{is_small, is_location, is_identifier}
-use Rattle.text.specs.Tokens.{Token, lex, number, is_ticks, opens, closes, comma}
+use Rattle.text.specs.Tokens.{Token, number, is_ticks, opens, closes, comma}
 use Rattle.text.specs.Syntax.Span.{exactly, forever}
 use Rattle.text.specs.Grammar.{Rest, Reader, bind, when, the, a_word, named, next, more, joined, sep_by, bracketed, list_of, a_timer, a_value, Head, head_of, ◌>>◌}
 use Rattle.text.specs.Grammar.Rest.{ok, bad}
@@ -20,10 +20,8 @@ use Rattle.text_words.specs.Sorts.{is_timer}
 use Rattle.text_words.proofs.WordSorts.{identifier-is}
 use Rattle.text_parts.specs.Openings.{leaf, single, double, comm_open, open_form, an_opening, field_form, go_form, pair_form, comm_form}
 use Rattle.text_parts.specs.Counting.{names_form, names_count, list_count}
-use Rattle.text_parts.specs.Answers.{listed}
-use Rattle.text_parts.specs.declared.Names.{Names}
 use Rattle.text.proofs.Exact.{clash}
-use Rattle.text_parts.proofs.Rests.{mapped-same, mapped-bind, mapped-give, bind-same, mapped-less, next-yes, next-no, ended_is, ended-zero}
+use Rattle.text_parts.proofs.Rests.{mapped-same, mapped-bind, mapped-give, bind-same, mapped-less, next-yes, next-no}
 
 -- ── a timer, a value: a word that passes a test ──
 timer-field : (ts : List Token) → skim a_timer ts ≡ skim (named is_timer) ts
@@ -285,11 +283,3 @@ opening-by ts w us h e g = ap (λ k. open_form k us) g ∙ sym (ap (λ x. bind x
 pub opening-none : (ts : List Token) → a_word ts ≡ bad → bad ≡ an_opening ts
 unfolding an_opening
 opening-none ts e = sym (ap (λ x. bind x (λ w. open_form (head_of w))) e)
-
--- ── the end of a call's opening, by the names' end ──
-module _ (s : List ℕ) (ts : List Token) (r : Names) (e : listed s r ≡ list_count is_identifier ts) where
-  pub call_none : r.end ≡ 0 → bad ≡ open_form calls ts
-  call_none z = sym (ap (λ y. bind (mapped (λ u. r.count) y) (λ n us. ok leaf us)) (ended-zero s r.end z)) ∙ call-open ts (listed s r) e
-
-  pub call-done : (r.end ≡ 0 → ⊥) → ok leaf (lex (drop r.end s)) ≡ open_form calls ts
-  call-done n = sym (ap (λ y. bind (mapped (λ u. r.count) y) (λ n us. ok leaf us)) (ended_is s r.end n)) ∙ call-open ts (listed s r) e

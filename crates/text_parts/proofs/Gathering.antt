@@ -10,10 +10,10 @@ use Rattle.text.specs.Tokens.{Token, lex}
 use Rattle.text.specs.Grammar.{Rest, Reader, bind, the, next}
 use Rattle.text.specs.Grammar.Rest.{ok, bad}
 use Rattle.text.proofs.Unbounded.{Less, the-less}
-use Rattle.text_words.specs.Bytes.{ended, mapped}
+use Rattle.text_words.specs.Bytes.{mapped}
 use Rattle.text_words.proofs.Positions.{bytes-fall}
-use Rattle.text_parts.specs.Answers.{after}
-use Rattle.text_parts.proofs.Rests.{mapped-same, next-yes, next-no, ended-not, ended_is, ended-zero}
+use Rattle.text.proofs.Exact.{clash}
+use Rattle.text_parts.proofs.Rests.{mapped-same, next-yes, next-no}
 
 -- the numbers of one thing x, and of those after the sign c if it comes next
 abbrev pub more_of : {C : Type 0} → (C → C → C) → ℕ → Reader C → Bool → C → Reader C
@@ -41,53 +41,59 @@ module _ {C : Type 0} (l : Adding C) (s : List ℕ) where
   pub gathered-first : (at : ℕ) (a : C) → ((y : C) → l.up_to a (l.cap y) ≡ l.cap y) → Gathered l s at at a
   gathered-first at a unit = mapped-same _ _ (l.M (lex (drop at s))) unit
 
-  -- one more was read: z, with a joined; then the sign was looked for, and q is behind it or 0
-  module _ (at here : ℕ) (a : C) (i : Gathered l s at here a) (z : Rest C) (p : z ≡ mapped (l.up_to a) (mapped l.cap (l.A (lex (drop here s))))) (q : ℕ) (e : ended s q ≡ after z (the l.c)) where
+  module _ (at here : ℕ) (a : C) (i : Gathered l s at here a) where
     abbrev Hs : List Token
     Hs = lex (drop here s)
 
     M-at : (x : Rest C) → l.A Hs ≡ x → l.M Hs ≡ bind x (λ x us. more_of l.join l.c l.M (next l.c us) x us)
     M-at x h = l.M-is Hs ∙ ap (λ x. bind x (λ x us. more_of l.join l.c l.M (next l.c us) x us)) h
 
-    pub gathered-end : q ≡ 0 → z ≡ mapped l.cap (l.M (lex (drop at s)))
-    gathered-end z0 = go (l.A Hs) refl ∙ i
+    -- nothing was read
+    pub gathered-bad : bad ≡ mapped l.cap (l.A Hs) → bad ≡ mapped l.cap (l.M (lex (drop at s)))
+    gathered-bad p = go (l.A Hs) refl p ∙ i
       where
-        go : (x : Rest C) → l.A Hs ≡ x → z ≡ mapped (λ y. l.up_to a (l.cap y)) (l.M Hs)
-        go (ok x us) h =
-            let g : z ≡ ok (l.up_to a (l.cap x)) us = p ∙ ap (λ w. mapped (l.up_to a) (mapped l.cap w)) h in
-            let b : the l.c us ≡ bad = sym (ap (λ y. after y (the l.c)) g) ∙ sym e ∙ ended-zero s q z0 in
-            g ∙ sym (ap (mapped (λ y. l.up_to a (l.cap y))) (M-at (ok x us) h ∙ ap (λ y. more_of l.join l.c l.M y x us) (next-no l.c us b)))
-        go bad h = p ∙ ap (λ w. mapped (l.up_to a) (mapped l.cap w)) h ∙ sym (ap (mapped (λ y. l.up_to a (l.cap y))) (M-at bad h))
+        go : (x : Rest C) → l.A Hs ≡ x → bad ≡ mapped l.cap x → bad ≡ mapped (λ y. l.up_to a (l.cap y)) (l.M Hs)
+        go (ok x us) h p = clash p
+        go bad h p = sym (ap (mapped (λ y. l.up_to a (l.cap y))) (M-at bad h))
 
-    module _ (m : q ≡ 0 → ⊥) where
+    -- b was read, up to r; then the sign was looked for
+    module _ (b : C) (r : ℕ) (p : ok b (lex (drop r s)) ≡ mapped l.cap (l.A Hs)) where
+      abbrev Rs : List Token
+      Rs = lex (drop r s)
+
       record Turn : Type 0 where
         count : C
-        left : List Token
-        was : l.A Hs ≡ ok count left
-        sign : the l.c left ≡ ok tt (lex (drop q s))
-        is : z ≡ ok (l.up_to a (l.cap count)) left
+        was : l.A Hs ≡ ok count Rs
+        is : b ≡ l.cap count
 
       turn : Turn
-      turn = go (l.A Hs) refl
+      turn = go (l.A Hs) refl p
         where
-          go : (x : Rest C) → l.A Hs ≡ x → Turn
-          go (ok x us) h =
-              let g : z ≡ ok (l.up_to a (l.cap x)) us = p ∙ ap (λ w. mapped (l.up_to a) (mapped l.cap w)) h in
-              record { count = x; left = us; was = h; sign = sym (ap (λ y. after y (the l.c)) g) ∙ sym e ∙ ended_is s q m; is = g }
-          go bad h = ended-not s q m (e ∙ ap (λ y. after y (the l.c)) (p ∙ ap (λ w. mapped (l.up_to a) (mapped l.cap w)) h))
+          go : (x : Rest C) → l.A Hs ≡ x → ok b Rs ≡ mapped l.cap x → Turn
+          go (ok x us) h p = let j : us ≡ Rs = cc in record { count = x; was = h ∙ ap (ok x) j; is = cc }
+          go bad h p = clash (sym p)
 
-      pub turn-falls : length s - q < length s - here
-      turn-falls = let t = turn in bytes-fall s here q (omega (arith, l.less Hs t.count t.left t.was, the-less l.c t.left tt (lex (drop q s)) t.sign))
-
-      -- b is what z holds
-      pub gathered-on : (b : C) → ((x : C) (us : List Token) → z ≡ ok x us → b ≡ x) → Gathered l s at q b
-      gathered-on b holds =
+      -- it is not there
+      pub gathered-end : bad ≡ the l.c Rs → ok (l.up_to a b) Rs ≡ mapped l.cap (l.M (lex (drop at s)))
+      gathered-end e =
           let t = turn in
-          sym (ap (mapped (λ y. l.up_to a (l.cap y)))
-          (M-at (ok t.count t.left) t.was ∙ ap (λ y. more_of l.join l.c l.M y t.count t.left) (next-yes l.c t.left t.sign) ∙ ap (λ x. bind x (λ u ts. bind (l.M ts) (λ y us. ok (l.join t.count y) us))) t.sign)
-          ∙ go t.count (holds _ _ t.is) (l.M (lex (drop q s))))
+          ap (λ b. ok (l.up_to a b) Rs) t.is
+          ∙ sym (ap (mapped (λ y. l.up_to a (l.cap y))) (M-at (ok t.count Rs) t.was ∙ ap (λ y. more_of l.join l.c l.M y t.count Rs) (next-no l.c Rs (sym e))))
           ∙ i
-        where
-          go : (x : C) → b ≡ l.up_to a (l.cap x) → (w : Rest C) → mapped (λ y. l.up_to a (l.cap y)) (bind w (λ y us. ok (l.join x y) us)) ≡ mapped (λ y. l.up_to b (l.cap y)) w
-          go x h (ok y us) = ap (λ n. ok n us) (sym (l.on a x y) ∙ ap (λ b. l.up_to b (l.cap y)) (sym h))
-          go x h bad = refl
+
+      -- q is behind it
+      module _ (q : ℕ) (e : ok tt (lex (drop q s)) ≡ the l.c Rs) where
+        pub turn-falls : length s - q < length s - here
+        turn-falls = let t = turn in bytes-fall s here q (omega (arith, l.less Hs t.count Rs t.was, the-less l.c Rs tt (lex (drop q s)) (sym e)))
+
+        pub gathered-on : Gathered l s at q (l.up_to a b)
+        gathered-on =
+            let t = turn in
+            sym (ap (mapped (λ y. l.up_to a (l.cap y)))
+            (M-at (ok t.count Rs) t.was ∙ ap (λ y. more_of l.join l.c l.M y t.count Rs) (next-yes l.c Rs (sym e)) ∙ ap (λ x. bind x (λ u ts. bind (l.M ts) (λ y us. ok (l.join t.count y) us))) (sym e))
+            ∙ go t.count t.is (l.M (lex (drop q s))))
+            ∙ i
+          where
+            go : (x : C) → b ≡ l.cap x → (w : Rest C) → mapped (λ y. l.up_to a (l.cap y)) (bind w (λ y us. ok (l.join x y) us)) ≡ mapped (λ y. l.up_to (l.up_to a b) (l.cap y)) w
+            go x h (ok y us) = ap (λ n. ok n us) (sym (l.on a x y) ∙ ap (λ b. l.up_to (l.up_to a b) (l.cap y)) (sym h))
+            go x h bad = refl

@@ -13,7 +13,7 @@ use Rattle.text.specs.Tokens.Token.{word, sign}
 use Rattle.text.specs.Grammar.{Rest, Reader, bind, when, the, next}
 use Rattle.text.specs.Grammar.Rest.{ok, bad}
 use Rattle.text.proofs.Unbounded.{Less}
-use Rattle.text_words.specs.Bytes.{ended, mapped}
+use Rattle.text_words.specs.Bytes.{mapped}
 use Rattle.text.proofs.Exact.{clash}
 
 -- ── changing what was read ──
@@ -77,17 +77,3 @@ next-no c (sign d ∷ ts) e = go (eqb d c) e
     go : (y : Bool) → when y (tt {0}) ts ≡ bad → y ≡ false
     go true e = clash (sym e)
     go false e = refl
-
--- ── positions ──
--- a position that is not 0 stands for something that was read
-pub ended-not : {A : Type 0} (s : List ℕ) (r : ℕ) → (r ≡ 0 → ⊥) → ended s r ≡ bad → A
-unfolding ended
-ended-not s r n e = clash (sym (rw (ne_eqb r 0 n) at e))
-
-pub ended_is : (s : List ℕ) (r : ℕ) → (r ≡ 0 → ⊥) → ended s r ≡ ok tt (lex (drop r s))
-unfolding ended
-ended_is s r n = rw (ne_eqb r 0 n)
-
-pub ended-zero : (s : List ℕ) (r : ℕ) → r ≡ 0 → ended s r ≡ bad
-unfolding ended
-ended-zero s r z = rw (eq-eqb r 0 z)

@@ -14,13 +14,13 @@ use Rattle.text.specs.Tree.{settled}
 use Rattle.text.specs.Grammar.{Rest, text}
 use Rattle.text.specs.Grammar.Rest.{ok, bad}
 use Rattle.text.specs.Questions.{form, whole, short}
+use Rattle.std.specs.Prelude.{Some}
 use Rattle.text_words.specs.Bytes.{mapped}
 use Rattle.text.proofs.Exact.{clash}
 use Rattle.text_scan.specs.Totals.{tree_totals, capped_t}
 use Rattle.text_scan.specs.Counting.{text_counts}
 use Rattle.text_scan.specs.Answers.{totals_of, totaled, unread_scan, scanned, scan_of}
 use Rattle.text_scan.proofs.Places.{numbers, tree-numbers}
-use Rattle.text_scan.proofs.Texts.{totaled-bad, totaled-ok}
 use Rattle.text_scan.specs.declared.Totals.{Totals as CodeTotals}
 
 -- ── the code's ways to its answer ──
@@ -34,18 +34,18 @@ module _ (s : List ℕ) where
     unfolding scan_of short
     scan-short = rw (le-leb (length s) 65_535 h)
 
-    module _ (t : CodeTotals) (e : totaled s t ≡ mapped capped_t (text_counts (lex s))) where
-      pub scan-none : t.end ≡ 0 → unread_scan true ≡ scan_of s
-      unfolding text_counts form
-      scan-none z = sym (scan-short ∙ go (text (lex s)) (sym (totaled-bad s t z) ∙ e))
-        where
-          go : (x : Rest Text) → bad ≡ mapped capped_t (mapped tree_totals x) → scanned (whole x) ≡ unread_scan true
-          go (ok r us) g = clash g
-          go bad g = refl
+    pub scan-none : bad ≡ mapped capped_t (text_counts (lex s)) → unread_scan true ≡ scan_of s
+    unfolding text_counts form
+    scan-none e = sym (scan-short ∙ go (text (lex s)) e)
+      where
+        go : (x : Rest Text) → bad ≡ mapped capped_t (mapped tree_totals x) → scanned (whole x) ≡ unread_scan true
+        go (ok r us) g = clash g
+        go bad g = refl
 
-      pub scan-some : (t.end ≡ 0 → ⊥) → record { short = true; form = true; nesting = t.nesting; definitions = t.definitions; parameters = t.parameters; parts = t.parts; components = t.components } ≡ scan_of s
+    module _ (t : CodeTotals) (e : totaled s (Some t) ≡ mapped capped_t (text_counts (lex s))) where
+      pub scan-some : record { short = true; form = true; nesting = t.nesting; definitions = t.definitions; parameters = t.parameters; parts = t.parts; components = t.components } ≡ scan_of s
       unfolding text_counts form
-      scan-some n = sym (scan-short ∙ go (text (lex s)) (sym (totaled-ok s t n) ∙ e))
+      scan-some = sym (scan-short ∙ go (text (lex s)) e)
         where
           go : (x : Rest Text) {us : List Token} → ok (totals_of t) us ≡ mapped capped_t (mapped tree_totals x) → scanned (whole x) ≡ record { short = true; form = true; nesting = t.nesting; definitions = t.definitions; parameters = t.parameters; parts = t.parts; components = t.components }
           go (ok r vs) g =

@@ -16,15 +16,13 @@ use Rattle.text.specs.Syntax.Located.{at as located-at}
 use Rattle.text.specs.Grammar.{Rest, bind, the, end, a_word, named, next, more, sep_by, list_of, process, a_def, a_located, a_network, net_next, add_def, text_form, text, ◌>>◌}
 use Rattle.text.specs.Grammar.Rest.{ok, bad}
 use Rattle.text.proofs.Unbounded.{Less, def-less, located-less, sep_by-is, text-is}
+use Rattle.std.specs.Prelude.{Option, Some, None, is_some}
 use Rattle.text_words.specs.Bytes.{ended, mapped, skim, after_blanks}
 use Rattle.text_words.proofs.Positions.{bytes-fall, end_more, end-over}
 use Rattle.text_parts.specs.Counts.{Count, process_count, capped}
 use Rattle.text_parts.specs.Counting.{process_counts, list_count, names_count}
-use Rattle.text_parts.specs.Answers.{count_of, sized, listed, after}
-use Rattle.text_parts.specs.declared.Size.{Size}
-use Rattle.text_parts.specs.declared.Names.{Names}
 use Rattle.text.proofs.Exact.{clash}
-use Rattle.text_parts.proofs.Rests.{mapped-mapped, mapped-same, mapped-bind, mapped-after, mapped-give, mapped-less, next-yes, next-no, ended_is, ended-zero}
+use Rattle.text_parts.proofs.Rests.{mapped-mapped, mapped-same, mapped-bind, mapped-after, mapped-give, mapped-less, next-yes, next-no}
 use Rattle.text_parts.proofs.Stops.{sum-on, max-on, max_assoc}
 use Rattle.text_parts.proofs.Gathering as gathering
 use Rattle.text_parts.proofs.Gathering.{more_of}
@@ -50,70 +48,6 @@ plus-on a x y = totals-same (max-on 33 a.nesting x.nesting y.nesting) (sum-on 40
 -- nothing gathered yet
 plus-first : (a y : Totals) → a ≡ no_totals → plus_up_to a (capped_t y) ≡ capped_t y
 plus-first a y e = ap (λ a. plus_up_to a (capped_t y)) e ∙ totals-same (omega arith) (omega arith) (omega arith) (omega arith) (omega arith)
-
--- ── what the code's answers stand for ──
-module _ (s : List ℕ) where
-  pub totaled-bad : (t : CodeTotals) → t.end ≡ 0 → totaled s t ≡ bad
-  unfolding totaled
-  totaled-bad t z = ap (mapped (λ u. totals_of t)) (ended-zero s t.end z)
-
-  pub totaled-ok : (t : CodeTotals) → (t.end ≡ 0 → ⊥) → totaled s t ≡ ok (totals_of t) (lex (drop t.end s))
-  unfolding totaled
-  totaled-ok t n = ap (mapped (λ u. totals_of t)) (ended_is s t.end n)
-
-  totaled-inv : (t : CodeTotals) (x : Totals) (us : List Token) → totaled s t ≡ ok x us → totals_of t ≡ x
-  unfolding totaled
-  totaled-inv t x us e = go (ended s t.end) e
-    where
-      go : (y : Rest (Unit {0})) → mapped (λ u. totals_of t) y ≡ ok x us → totals_of t ≡ x
-      go (ok u vs) e = cc
-      go bad e = clash e
-
-  totaled-plus : (a b : CodeTotals) → totaled s (plus_totals a b) ≡ mapped (plus_up_to (totals_of a)) (totaled s b)
-  unfolding totaled
-  totaled-plus a b = sym (mapped-mapped (plus_up_to (totals_of a)) (λ u. totals_of b) (ended s b.end))
-
-  pub behind-none : (t : CodeTotals) (c : ℕ) → t.end ≡ 0 → ended s 0 ≡ after (totaled s t) (the c)
-  behind-none t c z = ended-zero s 0 refl ∙ sym (ap (λ x. after x (the c)) (totaled-bad t z))
-
-  pub behind-some : (t : CodeTotals) (c : ℕ) → (t.end ≡ 0 → ⊥) → (x : Rest (Unit {0})) → x ≡ the c (lex (drop t.end s)) → x ≡ after (totaled s t) (the c)
-  behind-some t c n x e = e ∙ sym (ap (λ y. after y (the c)) (totaled-ok t n))
-
-  -- ── a process and a sign ──
-  pub body_is : (at c : ℕ) (r q : Size) → sized s r ≡ mapped capped (process_counts (lex (drop at s))) → ended s q.end ≡ after (sized s r) (the c) → count_of q ≡ count_of r → sized s q ≡ mapped capped (body_counts c (lex (drop at s)))
-  unfolding sized
-  body_is at c r q p e g = ap (mapped (λ u. count_of q)) e ∙ ap (λ x. mapped (λ u. x) (after (mapped (λ u. count_of r) (ended s r.end)) (the c))) g ∙ swap (ended s r.end) ∙ ap (λ x. bind x (λ n us. bind (the c us) (λ u zs. ok n zs))) p ∙ go (process_counts (lex (drop at s)))
-    where
-      inner : (x : Rest (Unit {0})) → mapped (λ u. count_of r) x ≡ bind x (λ u zs. ok (count_of r) zs)
-      inner (ok u us) = refl
-      inner bad = refl
-
-      swap : (x : Rest (Unit {0})) → mapped (λ u. count_of r) (after (mapped (λ u. count_of r) x) (the c)) ≡ bind (mapped (λ u. count_of r) x) (λ n us. bind (the c us) (λ u zs. ok n zs))
-      swap (ok u us) = inner (the c us)
-      swap bad = refl
-
-      last : (n : Count) (x : Rest (Unit {0})) → bind x (λ u zs. ok (capped n) zs) ≡ mapped capped (bind x (λ u zs. ok n zs))
-      last n (ok u us) = refl
-      last n bad = refl
-
-      go : (x : Rest Count) → bind (mapped capped x) (λ n us. bind (the c us) (λ u zs. ok n zs)) ≡ mapped capped (bind x (λ n us. bind (the c us) (λ u zs. ok n zs)))
-      go (ok n us) = last n (the c us)
-      go bad = refl
-
-  -- its numbers as a definition's or a located process's
-  pub totaled-body : (f : Count → Totals) (r : Size) (t : CodeTotals) → t.end ≡ r.end → totals_of t ≡ f (count_of r) → totaled s t ≡ bind (sized s r) (λ x us. ok (f x) us)
-  unfolding totaled sized
-  totaled-body f r t e g = ap (λ n. mapped (λ u. totals_of t) (ended s n)) e ∙ go (ended s r.end)
-    where
-      go : (x : Rest (Unit {0})) → mapped (λ u. totals_of t) x ≡ bind (mapped (λ u. count_of r) x) (λ x us. ok (f x) us)
-      go (ok u us) = ap (λ n. ok n us) g
-      go bad = refl
-
-  pub listed-bad : (r : Names) (x : Rest ℕ) → listed s r ≡ x → r.end ≡ 0 → bad ≡ x
-  listed-bad r x e z = sym (ap (mapped (λ u. r.count)) (ended-zero s r.end z)) ∙ e
-
-  pub listed_ok : (r : Names) (x : Rest ℕ) → listed s r ≡ x → (r.end ≡ 0 → ⊥) → ok r.count (lex (drop r.end s)) ≡ x
-  listed_ok r x e n = sym (ap (mapped (λ u. r.count)) (ended_is s r.end n)) ∙ e
 
 -- ── a definition, a located process ──
 -- the end of both: a process and a sign, with numbers f of the process's
@@ -207,20 +141,20 @@ module _ (s : List ℕ) where
   pub gathered-first : (at : ℕ) (t : CodeTotals) → totals_of t ≡ no_totals → Gathered at at t
   gathered-first at t e = gathering.gathered-first locateds s at (totals_of t) λ y. plus-first (totals_of t) y e
 
-  module _ (at here : ℕ) (t r : CodeTotals) (i : Gathered at here t) (p : totaled s r ≡ mapped capped_t (located_counts (lex (drop here s)))) (q : ℕ) (c : ended s q ≡ after (totaled s (plus_totals t r)) (the bar)) where
-    is-plus : totaled s (plus_totals t r) ≡ mapped (plus_up_to (totals_of t)) (mapped capped_t (located_counts (lex (drop here s))))
-    is-plus = totaled-plus s t r ∙ ap (mapped (plus_up_to (totals_of t))) p
+  module _ (at here : ℕ) (t : CodeTotals) (i : Gathered at here t) where
+    pub gathered-bad : bad ≡ mapped capped_t (located_counts (lex (drop here s))) → bad ≡ mapped capped_t (many_counts (lex (drop at s)))
+    gathered-bad = gathering.gathered-bad locateds s at here (totals_of t) i
 
-    pub gathered-end : q ≡ 0 → totaled s (plus_totals t r) ≡ mapped capped_t (many_counts (lex (drop at s)))
-    gathered-end = gathering.gathered-end locateds s at here (totals_of t) i (totaled s (plus_totals t r)) is-plus q c
+    module _ (r : CodeTotals) (p : totaled s (Some r) ≡ mapped capped_t (located_counts (lex (drop here s)))) where
+      pub gathered-end : bad ≡ the bar (lex (drop r.end s)) → totaled s (Some (plus_totals t r)) ≡ mapped capped_t (many_counts (lex (drop at s)))
+      gathered-end = gathering.gathered-end locateds s at here (totals_of t) i (totals_of r) r.end p
 
-    pub turn-falls : (q ≡ 0 → ⊥) → length s - q < length s - here
-    turn-falls = gathering.turn-falls locateds s at here (totals_of t) i (totaled s (plus_totals t r)) is-plus q c
+      module _ (q : ℕ) (c : ok tt (lex (drop q s)) ≡ the bar (lex (drop r.end s))) where
+        pub turn-falls : length s - q < length s - here
+        turn-falls = gathering.turn-falls locateds s at here (totals_of t) i (totals_of r) r.end p q c
 
-    pub gathered-on : (q ≡ 0 → ⊥) → Gathered at q (plus_totals t r)
-    gathered-on m =
-        gathering.gathered-on locateds s at here (totals_of t) i (totaled s (plus_totals t r)) is-plus q c m
-        (totals_of (plus_totals t r)) (totaled-inv s (plus_totals t r))
+        pub gathered-on : Gathered at q (plus_totals t r)
+        gathered-on = gathering.gathered-on locateds s at here (totals_of t) i (totals_of r) r.end p q c
 
 -- ── a network ──
 network-counts : (ts : List Token) → network_counts ts ≡ bind (many_counts ts) (λ x us. bind (the dot us) (λ u vs. bind (end vs) (λ u zs. ok x zs)))
@@ -230,41 +164,36 @@ network-counts ts =
     mapped-after (sum of_located) (the dot us) _ _ λ u vs.
     mapped-give (sum of_located) (end vs) ls
 
-module _ (s : List ℕ) (at : ℕ) (t : CodeTotals) (p : totaled s t ≡ mapped capped_t (many_counts (lex (drop at s)))) (d : ℕ) (c : ended s d ≡ after (totaled s t) (the dot)) where
+module _ (s : List ℕ) (at : ℕ) where
   abbrev Ns : List Token
   Ns = lex (drop at s)
 
-  net-is : mapped capped_t (network_counts Ns) ≡ bind (totaled s t) (λ x us. bind (the dot us) (λ u vs. bind (end vs) (λ u zs. ok x zs)))
-  net-is = ap (mapped capped_t) (network-counts Ns) ∙ go (many_counts Ns) ∙ ap (λ x. bind x (λ x us. bind (the dot us) (λ u vs. bind (end vs) (λ u zs. ok x zs)))) (sym p)
+  net-is : mapped capped_t (network_counts Ns) ≡ bind (mapped capped_t (many_counts Ns)) (λ x us. bind (the dot us) (λ u vs. bind (end vs) (λ u zs. ok x zs)))
+  net-is = ap (mapped capped_t) (network-counts Ns) ∙ go (many_counts Ns)
     where
       go : (x : Rest Totals) → mapped capped_t (bind x (λ x us. bind (the dot us) (λ u vs. bind (end vs) (λ u zs. ok x zs)))) ≡ bind (mapped capped_t x) (λ x us. bind (the dot us) (λ u vs. bind (end vs) (λ u zs. ok x zs)))
       go (ok x us) = mapped-after capped_t (the dot us) _ _ λ u vs. mapped-give capped_t (end vs) x
       go bad = refl
 
-  -- what stands behind the dot
-  dot-is : (x : Rest (Unit {0})) → x ≡ after (totaled s t) (the dot) → mapped capped_t (network_counts Ns) ≡ bind x (λ u vs. bind (end vs) (λ u zs. ok (totals_of t) zs))
-  unfolding totaled
-  dot-is x e = net-is ∙ go (ended s t.end) ∙ ap (λ x. bind x (λ u vs. bind (end vs) (λ u zs. ok (totals_of t) zs))) (sym e)
-    where
-      go : (x : Rest (Unit {0})) → bind (mapped (λ u. totals_of t) x) (λ x us. bind (the dot us) (λ u vs. bind (end vs) (λ u zs. ok x zs))) ≡ bind (after (mapped (λ u. totals_of t) x) (the dot)) (λ u vs. bind (end vs) (λ u zs. ok (totals_of t) zs))
-      go (ok u us) = refl
-      go bad = refl
+  net_at : (x : Rest Totals) → x ≡ mapped capped_t (many_counts Ns) → mapped capped_t (network_counts Ns) ≡ bind x (λ x us. bind (the dot us) (λ u vs. bind (end vs) (λ u zs. ok x zs)))
+  net_at x p = net-is ∙ ap (λ x. bind x (λ x us. bind (the dot us) (λ u vs. bind (end vs) (λ u zs. ok x zs)))) (sym p)
 
-  pub network-no-dot : d ≡ 0 → bad ≡ mapped capped_t (network_counts Ns)
-  network-no-dot z = sym (dot-is bad (sym (ended-zero s d z) ∙ c))
+  pub network-bad : bad ≡ mapped capped_t (many_counts Ns) → bad ≡ mapped capped_t (network_counts Ns)
+  network-bad p = sym (net_at bad p)
 
-  module _ (n : d ≡ 0 → ⊥) (e : ℕ) (k : drop e s ≡ after_blanks (drop d s)) where
-    behind : mapped capped_t (network_counts Ns) ≡ bind (end (lex (drop d s))) (λ u zs. ok (totals_of t) zs)
-    behind = dot-is (ok tt (lex (drop d s))) (sym (ended_is s d n) ∙ c)
+  module _ (t : CodeTotals) (p : totaled s (Some t) ≡ mapped capped_t (many_counts Ns)) where
+    pub network-no-dot : bad ≡ the dot (lex (drop t.end s)) → bad ≡ mapped capped_t (network_counts Ns)
+    network-no-dot c = sym (net_at _ p ∙ ap (λ x. bind x (λ u vs. bind (end vs) (λ u zs. ok (totals_of t) zs))) (sym c))
 
-    pub network-more : e < length s → bad ≡ mapped capped_t (network_counts Ns)
-    network-more h = sym (behind ∙ ap (λ x. bind x (λ u zs. ok (totals_of t) zs)) (sym (end_more s d e k h)))
+    module _ (d : ℕ) (c : ok tt (lex (drop d s)) ≡ the dot (lex (drop t.end s))) (e : ℕ) (k : drop e s ≡ after_blanks (drop d s)) where
+      behind : mapped capped_t (network_counts Ns) ≡ bind (end (lex (drop d s))) (λ u zs. ok (totals_of t) zs)
+      behind = net_at _ p ∙ ap (λ x. bind x (λ u vs. bind (end vs) (λ u zs. ok (totals_of t) zs))) (sym c)
 
-    pub network-end : (q : CodeTotals) → q.end ≡ d → totals_of q ≡ totals_of t → length s ≤ e → totaled s q ≡ mapped capped_t (network_counts Ns)
-    network-end q g h l =
-        totaled-ok s q (λ z. n (sym g ∙ z)) ∙ ap (λ x. ok x (lex (drop q.end s))) h ∙ ap (λ i. ok (totals_of t) (lex (drop i s))) g
-        ∙ ap (ok (totals_of t)) (end-over s d e k l)
-        ∙ sym (behind ∙ ap (λ ts. bind (end ts) (λ u zs. ok (totals_of t) zs)) (end-over s d e k l))
+      pub network-more : e < length s → bad ≡ mapped capped_t (network_counts Ns)
+      network-more h = sym (behind ∙ ap (λ x. bind x (λ u zs. ok (totals_of t) zs)) (sym (end_more s d e k h)))
+
+      pub network-end : length s ≤ e → ok (totals_of t) (lex (drop d s)) ≡ mapped capped_t (network_counts Ns)
+      network-end l = ap (ok (totals_of t)) (end-over s d e k l) ∙ sym (behind ∙ ap (λ ts. bind (end ts) (λ u zs. ok (totals_of t) zs)) (end-over s d e k l))
 
 -- ── does a network come next? ──
 module _ (ts : List Token) where
@@ -285,11 +214,10 @@ module _ (ts : List Token) where
         go (word v ∷ ts) e = let j : ts ≡ us = cc in ap (next left) j
         go (sign d ∷ ts) e = clash e
 
-    pub net-yes : (vs : List Token) → ok tt vs ≡ the left us → true ≡ net_next ts
-    net-yes vs g = sym (net-word ∙ next-yes left us (sym g))
-
-    pub net-no : bad ≡ the left us → false ≡ net_next ts
-    net-no g = sym (net-word ∙ next-no left us (sym g))
+    -- by whether `[` follows
+    pub net-by : (s : List ℕ) (r : Option ℕ) → ended s r ≡ the left us → is_some r ≡ net_next ts
+    net-by s (Some r) g = sym (net-word ∙ next-yes left us (sym g))
+    net-by s None g = sym (net-word ∙ next-no left us (sym g))
 
 -- ── a text: a network, or a definition and a text ──
 text-counts : (ts : List Token) → text_counts ts ≡ cond (net_next ts) (network_counts ts) (bind (def_counts ts) (λ x us. mapped (plus x) (text_counts us)))
@@ -325,39 +253,36 @@ module _ (s : List ℕ) where
     Hs = lex (drop here s)
 
     -- the network
-    pub before-network : true ≡ net_next Hs → (r : CodeTotals) → totaled s r ≡ mapped capped_t (network_counts Hs) → totaled s (plus_totals t r) ≡ mapped capped_t (text_counts (lex (drop at s)))
-    before-network n r p =
-        totaled-plus s t r ∙ ap (mapped (plus_up_to (totals_of t))) p ∙ mapped-mapped (plus_up_to (totals_of t)) capped_t (network_counts Hs)
+    pub before-network : true ≡ net_next Hs → (x : Rest Totals) → x ≡ mapped capped_t (network_counts Hs) → mapped (plus_up_to (totals_of t)) x ≡ mapped capped_t (text_counts (lex (drop at s)))
+    before-network n x p =
+        ap (mapped (plus_up_to (totals_of t))) p ∙ mapped-mapped (plus_up_to (totals_of t)) capped_t (network_counts Hs)
         ∙ sym (ap (mapped (λ y. plus_up_to (totals_of t) (capped_t y))) (text-counts Hs ∙ ap (λ y. cond y (network_counts Hs) (bind (def_counts Hs) (λ x us. mapped (plus x) (text_counts us)))) (sym n)))
         ∙ i
 
     -- a definition
-    module _ (n : false ≡ net_next Hs) (r : CodeTotals) (p : totaled s r ≡ mapped capped_t (def_counts Hs)) where
+    module _ (n : false ≡ net_next Hs) where
       text_at : (x : Rest Totals) → def_counts Hs ≡ x → text_counts Hs ≡ bind x (λ x us. mapped (plus x) (text_counts us))
       text_at x h = text-counts Hs ∙ ap (λ y. cond y (network_counts Hs) (bind (def_counts Hs) (λ x us. mapped (plus x) (text_counts us)))) (sym n) ∙ ap (λ x. bind x (λ x us. mapped (plus x) (text_counts us))) h
 
-      pub before-none : r.end ≡ 0 → totaled s (plus_totals t r) ≡ mapped capped_t (text_counts (lex (drop at s)))
-      before-none z = totaled-bad s (plus_totals t r) z ∙ go (def_counts Hs) refl ∙ i
+      pub before-none : bad ≡ mapped capped_t (def_counts Hs) → bad ≡ mapped capped_t (text_counts (lex (drop at s)))
+      before-none p = go (def_counts Hs) refl p ∙ i
         where
-          go : (x : Rest Totals) → def_counts Hs ≡ x → bad ≡ mapped (λ y. plus_up_to (totals_of t) (capped_t y)) (text_counts Hs)
-          go (ok x us) h = clash (sym (totaled-bad s r z) ∙ p ∙ ap (mapped capped_t) h)
-          go bad h = sym (ap (mapped (λ y. plus_up_to (totals_of t) (capped_t y))) (text_at bad h))
+          go : (x : Rest Totals) → def_counts Hs ≡ x → bad ≡ mapped capped_t x → bad ≡ mapped (λ y. plus_up_to (totals_of t) (capped_t y)) (text_counts Hs)
+          go (ok x us) h p = clash p
+          go bad h p = sym (ap (mapped (λ y. plus_up_to (totals_of t) (capped_t y))) (text_at bad h))
 
-      module _ (m : r.end ≡ 0 → ⊥) where
+      module _ (r : CodeTotals) (p : totaled s (Some r) ≡ mapped capped_t (def_counts Hs)) where
         record Read : Type 0 where
           count : Totals
           was : def_counts Hs ≡ ok count (lex (drop r.end s))
           is : totals_of r ≡ capped_t count
 
         read : Read
-        read = go (def_counts Hs) refl
+        read = go (def_counts Hs) refl p
           where
-            go : (x : Rest Totals) → def_counts Hs ≡ x → Read
-            go (ok x us) h =
-                let g : ok (totals_of r) (lex (drop r.end s)) ≡ ok (capped_t x) us = sym (totaled-ok s r m) ∙ p ∙ ap (mapped capped_t) h in
-                let j : us ≡ lex (drop r.end s) = cc in
-                record { count = x; was = h ∙ ap (ok x) j; is = cc }
-            go bad h = clash (sym (p ∙ ap (mapped capped_t) h) ∙ totaled-ok s r m)
+            go : (x : Rest Totals) → def_counts Hs ≡ x → ok (totals_of r) (lex (drop r.end s)) ≡ mapped capped_t x → Read
+            go (ok x us) h p = let j : us ≡ lex (drop r.end s) = cc in record { count = x; was = h ∙ ap (ok x) j; is = cc }
+            go bad h p = clash (sym p)
 
         pub def-falls : length s - r.end < length s - here
         def-falls = let g = read in bytes-fall s here r.end (def-counts-less Hs g.count (lex (drop r.end s)) g.was)

@@ -1,12 +1,13 @@
 -- What the answers of the code stand for, over a text s, and what the scan answers: document 01, questions 1 to 4.
-use Rattle.std.specs.Prelude.{ℕ, ◌+◌, min, max, Bool, true, false, cond, List}
+use Rattle.std.specs.Prelude.{ℕ, ◌+◌, min, max, Bool, true, false, cond, List, Option, Some, None, drop}
 use Rattle.terms.specs.Rules.{Answer}
 use Rattle.terms.specs.Rules.Answer.{refused, accepted}
 use Rattle.text.specs.Syntax.{Text}
+use Rattle.text.specs.Tokens.{lex}
 use Rattle.text.specs.Tree.{settled}
 use Rattle.text.specs.Grammar.{Rest}
+use Rattle.text.specs.Grammar.Rest.{ok, bad}
 use Rattle.text.specs.Questions.{form, short, nesting, definition_count, parameter_count, part_count, component_count}
-use Rattle.text_words.specs.Bytes.{ended, mapped}
 use Rattle.text_scan.specs.Totals.{Totals}
 use Rattle.text_scan.specs.declared.Scanned.{Scanned}
 use Rattle.text_scan.specs.declared.Totals.{Totals as CodeTotals}
@@ -15,8 +16,9 @@ use Rattle.text_scan.specs.declared.Totals.{Totals as CodeTotals}
 abbrev pub totals_of : CodeTotals → Totals
 totals_of t = record { nesting = t.nesting; parts = t.parts; components = t.components; definitions = t.definitions; parameters = t.parameters }
 
-unfoldable pub totaled : List ℕ → CodeTotals → Rest Totals
-totaled s t = mapped (λ u. totals_of t) (ended s t.end)
+abbrev pub totaled : List ℕ → Option CodeTotals → Rest Totals
+totaled s None = bad
+totaled s (Some t) = ok (totals_of t) (lex (drop t.end s))
 
 -- numbers that stop, one after the other
 abbrev pub plus_up_to : Totals → Totals → Totals

@@ -10,23 +10,25 @@
 // proofs/Places     the numbers added up are those that `text` defines by places
 // proofs/Texts      definitions, located processes and texts as the code goes through them
 // proofs/Scanning   what the scan answers, and questions 1 to 4 from it
-#![tactic(auto)]
+#![tactic(auto, unfolding(text::specs::Tokens::lex_from, terms::specs::Characters::class_of))]
 
-ghost use Rattle.std.specs.Prelude.{◌≡◌, ◌<◌, drop};
+ghost use Rattle.std.specs.Prelude.{◌≡◌, drop};
 ghost use Rattle.terms.specs.Refusals.{code_of};
 ghost use Rattle.text.specs.Tokens.{lex};
-ghost use Rattle.text.specs.Grammar.{the, net_next};
-ghost use Rattle.text_words.specs.Bytes.{ended, mapped, IsSign};
+ghost use Rattle.text.specs.Grammar.{net_next};
+ghost use Rattle.text_words.specs.Bytes.{mapped, IsSign};
 ghost use Rattle.text_parts.specs.Counts.{capped};
-ghost use Rattle.text_parts.specs.Answers.{sized, after};
+ghost use Rattle.text_parts.specs.Answers.{sized};
 ghost use Rattle.text_scan.specs.Totals.{capped_t};
 ghost use Rattle.text_scan.specs.Counting.{body_counts, def_counts, located_counts, many_counts, network_counts, text_counts};
 ghost use Rattle.text_scan.specs.Answers.{totaled, plus_totals, unread_scan, scan_of};
 ghost use Rattle.text_scan.specs.Limits.{limits};
 
 use terms::refusal::Refusal;
+use text_parts::{Size, list_of, read_process};
+use text_words::{Field, eat, field_at, skip_blanks, word_end};
 
-// Where definitions and located processes end, or 0, with their numbers: each stops one past its limit.
+// Where definitions and located processes end, with their numbers: each stops one past its limit.
 #[derive(Clone, Copy)]
 pub struct Totals {
     pub end: usize,
@@ -37,11 +39,12 @@ pub struct Totals {
     pub parameters: u16,
 }
 
-fn none() -> Totals
-    ensures { result ≡ record { end = 0; nesting = 0; parts = 0; components = 0; definitions = 0; parameters = 0 } }
+// Nothing read yet, from `at` on.
+fn nothing(at: usize) -> Totals
+    ensures { result ≡ record { end = at; nesting = 0; parts = 0; components = 0; definitions = 0; parameters = 0 } }
 {
     Totals {
-        end: 0,
+        end: at,
         nesting: 0,
         parts: 0,
         components: 0,
@@ -56,163 +59,105 @@ fn plus(a: Totals, b: Totals) -> Totals
 {
     Totals {
         end: b.end,
-        nesting: text_parts::larger(a.nesting, b.nesting),
-        parts: text_parts::sum_up_to(a.parts, b.parts, 4097),
-        components: text_parts::sum_up_to(a.components, b.components, 257),
-        definitions: text_parts::sum_up_to(a.definitions, b.definitions, 33),
-        parameters: text_parts::larger(a.parameters, b.parameters),
-    }
-}
-
-// The sign c behind what was read, if it was.
-fn sign_behind(s: &[u8], t: Totals, c: u8) -> usize
-    requires { IsSign c }
-    ensures { ended s.now result ≡ after (totaled s.now t) (the c) }
-{
-    let a = t.end;
-    match a {
-        0 => 0,
-        b => text_words::eat(s, b, c),
+        nesting: a.nesting.max(b.nesting),
+        parts: a.parts.saturating_add(b.parts).min(4097),
+        components: a.components.saturating_add(b.components).min(257),
+        definitions: a.definitions.saturating_add(b.definitions).min(33),
+        parameters: a.parameters.max(b.parameters),
     }
 }
 
 // A process and the sign c.
-fn body(s: &[u8], at: usize, c: u8) -> text_parts::Size
+fn body(s: &[u8], at: usize, c: u8) -> Option<Size>
     requires { IsSign c }
     ensures { sized s.now result ≡ mapped capped (body_counts c (lex (drop at s.now))) }
 {
-    let r = text_parts::read_process(s, at);
-    let e = text_parts::sign_after(s, r, c);
-    text_parts::Size {
-        end: e,
-        nesting: r.nesting,
-        parts: r.parts,
-        width: r.width,
-    }
+    let r = read_process(s, at)?;
+    let e = eat(s, r.end, c)?;
+    Some(Size { end: e, ..r })
 }
 
 // `id = P .` or `id(u1,..) = P .`
-fn def_at(s: &[u8], at: usize) -> Totals
+fn def_at(s: &[u8], at: usize) -> Option<Totals>
     ensures { totaled s.now result ≡ mapped capped_t (def_counts (lex (drop at s.now))) }
 {
-    let a = text_words::field_at(s, at, text_words::Field::Value);
-    if a == 0 {
-        return none();
-    }
-    let us = text_parts::list_of(s, a, text_words::Field::Small);
-    let b = us.end;
-    if b == 0 {
-        return none();
-    }
-    let e = text_words::eat(s, b, b'=');
-    if e == 0 {
-        return none();
-    }
-    let r = body(s, e, b'.');
-    Totals {
+    let a = field_at(s, at, Field::Value)?;
+    let us = list_of(s, a, Field::Small)?;
+    let e = eat(s, us.end, b'=')?;
+    let r = body(s, e, b'.')?;
+    Some(Totals {
         end: r.end,
         nesting: r.nesting,
         parts: r.parts,
         components: 0,
         definitions: 1,
         parameters: us.count,
-    }
+    })
 }
 
 // `L[P]`
-fn located_at(s: &[u8], at: usize) -> Totals
+fn located_at(s: &[u8], at: usize) -> Option<Totals>
     ensures { totaled s.now result ≡ mapped capped_t (located_counts (lex (drop at s.now))) }
 {
-    let a = text_words::field_at(s, at, text_words::Field::Location);
-    if a == 0 {
-        return none();
-    }
-    let b = text_words::eat(s, a, b'[');
-    if b == 0 {
-        return none();
-    }
-    let r = body(s, b, b']');
-    Totals {
+    let a = field_at(s, at, Field::Location)?;
+    let b = eat(s, a, b'[')?;
+    let r = body(s, b, b']')?;
+    Some(Totals {
         end: r.end,
         nesting: r.nesting,
         parts: r.parts,
         components: r.width,
         definitions: 0,
         parameters: 0,
-    }
+    })
 }
 
 // `L[P] | M[P]`
-fn all_located(s: &[u8], at: usize) -> Totals
+fn all_located(s: &[u8], at: usize) -> Option<Totals>
     ensures { totaled s.now result ≡ mapped capped_t (many_counts (lex (drop at s.now))) }
 {
     let mut here = at;
-    let mut t = none();
+    let mut t = nothing(at);
     loop {
-        t = plus(t, located_at(s, here));
-        let q = sign_behind(s, t, b'|');
-        if q == 0 {
-            return t;
-        }
+        t = plus(t, located_at(s, here)?);
+        let Some(q) = eat(s, t.end, b'|') else {
+            return Some(t);
+        };
         here = q;
     }
 }
 
 // `L[P] | M[P] .` and nothing more.
-fn network_at(s: &[u8], at: usize) -> Totals
+fn network_at(s: &[u8], at: usize) -> Option<Totals>
     ensures { totaled s.now result ≡ mapped capped_t (network_counts (lex (drop at s.now))) }
 {
-    let t = all_located(s, at);
-    let d = sign_behind(s, t, b'.');
-    if d == 0 {
-        return none();
-    }
-    let e = text_words::skip_blanks(s, d);
+    let t = all_located(s, at)?;
+    let d = eat(s, t.end, b'.')?;
+    let e = skip_blanks(s, d);
     if e < s.len() {
-        return none();
+        return None;
     }
-    Totals {
-        end: d,
-        nesting: t.nesting,
-        parts: t.parts,
-        components: t.components,
-        definitions: t.definitions,
-        parameters: t.parameters,
-    }
+    Some(Totals { end: d, ..t })
 }
 
 // Does a network come next?
 pub fn net_next(s: &[u8], at: usize) -> bool
     ensures { result ≡ net_next (lex (drop at s.now)) }
 {
-    let a = text_words::skip_blanks(s, at);
-    let e = text_words::word_end(s, a);
-    if a < e {
-        if text_words::eat(s, e, b'[') == 0 {
-            return false;
-        }
-        return true;
-    }
-    false
+    let a = skip_blanks(s, at);
+    let e = word_end(s, a);
+    a < e && eat(s, e, b'[').is_some()
 }
 
 // Definitions, then a network.
-fn text_at(s: &[u8], at: usize) -> Totals
+fn text_at(s: &[u8], at: usize) -> Option<Totals>
     ensures { totaled s.now result ≡ mapped capped_t (text_counts (lex (drop at s.now))) }
 {
-    let mut here = at;
-    let mut t = none();
-    loop {
-        if net_next(s, here) {
-            return plus(t, network_at(s, here));
-        }
-        t = plus(t, def_at(s, here));
-        let e = t.end;
-        if e == 0 {
-            return t;
-        }
-        here = e;
+    let mut t = nothing(at);
+    while !net_next(s, t.end) {
+        t = plus(t, def_at(s, t.end)?);
     }
+    Some(plus(t, network_at(s, t.end)?))
 }
 
 // Whether a text is short enough (1) and of the form (2), and its numbers, each at most one past its limit; all 0 if it is not.
@@ -248,10 +193,9 @@ pub fn scan(text: &[u8]) -> Scanned
     if 65535 < text.len() {
         return unread(false);
     }
-    let t = text_at(text, 0);
-    if t.end == 0 {
+    let Some(t) = text_at(text, 0) else {
         return unread(true);
-    }
+    };
     Scanned {
         short: true,
         form: true,

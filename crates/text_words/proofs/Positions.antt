@@ -1,15 +1,16 @@
 -- Steps of the code over the positions of a text s: skipping blanks, a sign, a word, the end of a word; and tests and numbers byte by byte.
 -- Each loop's step is one lemma: what holds from i on, from what holds from i + 1 on and the byte at i.
-use Prim.Native.Nat.{ℕ, zero, suc, ◌+◌, ◌-◌, ◌*◌, ◌≤◌, ◌<◌}
+use Prim.Native.Nat.{ℕ, zero, suc, ◌+◌, ◌-◌, ◌*◌, ◌≤◌, ◌<◌, max}
 use native.Mathlib.Omega.{arith}
 use native.Mathlib.Numerals.{add-one}
 use mathlib.Core.Bool.{Bool, true, false, not, cond}
 use mathlib.Core.List.{List, [], ◌∷◌, ◌++◌, append_assoc, append-nil}
-use mathlib.Core.Path.{◌≡◌, refl, sym, ap, ◌∙◌}
+use mathlib.Core.Path.{◌≡◌, refl, sym, ap, subst, ◌∙◌}
 use borrow.Author.Tests.{eq-eqb, ne_eqb, lt-leb, leb-true, leb-false}
 use lib.Dec.{eqb, leb}
 use lib.ListN.{length, take, drop, get_or, drop_of_length-le, length-drop, length-take}
 use lib.Seq.{drop-cons, take-suc, get_or-drop}
+use Rattle.std.specs.Prelude.{Some, None}
 use Rattle.terms.specs.Names.{Name, same_name}
 use Rattle.terms.specs.Same.{every}
 use Rattle.terms.specs.Characters.{class_of, is_blank, is_alnum}
@@ -19,24 +20,6 @@ use Rattle.text.specs.Grammar.Rest.{ok, bad}
 use Rattle.text.proofs.Exact.{same-eq}
 use Rattle.text_words.specs.Bytes.{after_blanks, after_alnum, alnum_of, Run, IsSign, ended, skim}
 use Rattle.text_words.proofs.Lexing.{lex-blanks, blanks-head, other_sign, not_end, lex-word, no_word, alnum_of-alnum, tail-tokens}
-
--- ── the answers of readers ──
-module _ (s : List ℕ) {r : ℕ} {x : Rest (Unit {0})} (e : ended s r ≡ x) where
-  pub done : (r ≡ 0 → ⊥) → ok tt (lex (drop r s)) ≡ x
-  unfolding ended
-  done n = rw (ne_eqb r 0 n) at e
-
-  pub failed : r ≡ 0 → bad ≡ x
-  unfolding ended
-  failed z = rw (eq-eqb r 0 z) at e
-
-pub ended_at : (s : List ℕ) (r : ℕ) → 0 < r → ended s r ≡ ok tt (lex (drop r s))
-unfolding ended
-ended_at s r h = rw (ne_eqb r 0 (λ e. omega arith))
-
-pub ended-bad : (s : List ℕ) → ended s 0 ≡ bad
-unfolding ended
-ended-bad s = refl
 
 -- ── blanks ──
 module _ (s : List ℕ) (i : ℕ) where
@@ -48,9 +31,9 @@ module _ (s : List ℕ) (i : ℕ) where
   unfolding after_blanks
   blank-stop h e = rw (drop-cons s i 0 h) (rw e)
 
-  pub blank-end : length s ≤ i → drop i s ≡ after_blanks (drop i s)
+  pub blank-end : length s ≤ i → drop (length s) s ≡ after_blanks (drop i s)
   unfolding after_blanks
-  blank-end h = rw (drop_of_length-le s h)
+  blank-end h = drop_of_length-le s (omega arith) ∙ (rw (drop_of_length-le s h))
 
 -- ── past the blanks, at a ──
 module _ (s : List ℕ) (at a : ℕ) (skipped : drop a s ≡ after_blanks (drop at s)) where
@@ -61,17 +44,16 @@ module _ (s : List ℕ) (at a : ℕ) (skipped : drop a s ≡ after_blanks (drop 
   solid h = blanks-head (drop at s) (sym skipped ∙ drop-cons s a 0 h)
 
   -- the sign c
-  pub eat-done : (c : ℕ) → IsSign c → a < length s → get_or s a 0 ≡ c → ended s (a + 1) ≡ the c (lex (drop at s))
+  pub eat-done : (c : ℕ) → IsSign c → a < length s → get_or s a 0 ≡ c → ended s (Some (a + 1)) ≡ the c (lex (drop at s))
   eat-done c m h g =
-      ended_at s (a + 1) (omega arith)
-      ∙ sym (ap (the c) (at-lex ∙ ap lex (drop-cons s a 0 h ∙ ap (λ b. b ∷ drop (suc a) s) g)) ∙ m (drop (suc a) s) ∙ ap (λ i. ok tt (lex (drop i s))) (sym (add-one a)))
+      sym (ap (the c) (at-lex ∙ ap lex (drop-cons s a 0 h ∙ ap (λ b. b ∷ drop (suc a) s) g)) ∙ m (drop (suc a) s) ∙ ap (λ i. ok tt (lex (drop i s))) (sym (add-one a)))
 
-  pub eat-other : (c : ℕ) → a < length s → (get_or s a 0 ≡ c → ⊥) → ended s 0 ≡ the c (lex (drop at s))
-  eat-other c h n = ended-bad s ∙ sym (ap (the c) (at-lex ∙ ap lex (drop-cons s a 0 h)) ∙ other_sign c (get_or s a 0) (drop (suc a) s) (solid h) n)
+  pub eat-other : (c : ℕ) → a < length s → (get_or s a 0 ≡ c → ⊥) → bad ≡ the c (lex (drop at s))
+  eat-other c h n = sym (ap (the c) (at-lex ∙ ap lex (drop-cons s a 0 h)) ∙ other_sign c (get_or s a 0) (drop (suc a) s) (solid h) n)
 
-  pub eat-over : (c : ℕ) → length s ≤ a → ended s 0 ≡ the c (lex (drop at s))
+  pub eat-over : (c : ℕ) → length s ≤ a → bad ≡ the c (lex (drop at s))
   unfolding lex_from
-  eat-over c h = ended-bad s ∙ sym (ap (the c) (at-lex ∙ ap lex (drop_of_length-le s h)))
+  eat-over c h = sym (ap (the c) (at-lex ∙ ap lex (drop_of_length-le s h)))
 
   -- the end of the text
   pub end_more : a < length s → bad ≡ end (lex (drop at s))
@@ -127,8 +109,23 @@ module _ (s : List ℕ) (at i : ℕ) (r : Running s at i) where
   pub running-stop : i < length s → is_alnum (get_or s i 0) ≡ false → Run s at i
   running-stop h e = ran (alnum-off s i h e)
 
-  pub running-end : length s ≤ i → Run s at i
+  running-end : length s ≤ i → Run s at i
   running-end h = ran (alnum-end s i h)
+
+  -- where the text ends, or at `at` itself, if that is behind the end
+  pub running-max : length s ≤ i → (at ≤ length s → i ≤ length s) → Run s at (max at (length s))
+  running-max h k = go (leb at (length s)) refl
+    where
+      go : (y : Bool) → leb at (length s) ≡ y → Run s at (max at (length s))
+      go true e =
+          let l = k (leb-true at (length s) e) in
+          let z : i ≡ max at (length s) = omega (arith, leb-true at (length s) e) in
+          subst (Run s at) z (running-end h)
+      go false e =
+          let l = leb-false at (length s) e in
+          let n : (at < i → ⊥) = λ b. let g = r.high b in omega arith in
+          let z : i ≡ max at (length s) = omega (arith, r.low) in
+          subst (Run s at) z (running-end h)
 
 -- ── the next word ──
 word-flush : (w : Name) (ts : List Token) → 0 < length w → a_word (flush w ts) ≡ ok w ts
@@ -171,41 +168,6 @@ module _ (p : Name → Bool) (ts : List Token) where
 
   pub field-no : (w : Name) (us : List Token) → a_word ts ≡ ok w us → p w ≡ false → bad ≡ skim (named p) ts
   field-no w us e h = rw (e, h)
-
--- ── two words letter by letter ──
-pub same-lengths : (w k : List ℕ) → (length w ≡ length k → ⊥) → false ≡ same_name w k
-same-lengths w k n = go (same_name w k) refl
-  where
-    go : (y : Bool) → same_name w k ≡ y → false ≡ y
-    go true e = absurd (n (ap length (same-eq w k e)))
-    go false e = refl
-
-module _ (w k : List ℕ) (i : ℕ) where
-  pub same-on : i < length w → i < length k → get_or w i 0 ≡ get_or k i 0 → same_name (drop (i + 1) w) (drop (i + 1) k) ≡ same_name (drop i w) (drop i k)
-  unfolding same_name
-  same-on h g e = rw (add-one i, drop-cons w i 0 h, drop-cons k i 0 g, eq-eqb _ _ e)
-
-  pub same-off : i < length w → i < length k → (get_or w i 0 ≡ get_or k i 0 → ⊥) → false ≡ same_name (drop i w) (drop i k)
-  unfolding same_name
-  same-off h g n = rw (drop-cons w i 0 h, drop-cons k i 0 g, ne_eqb _ _ n)
-
-  pub same_end : length w ≤ i → length k ≤ i → true ≡ same_name (drop i w) (drop i k)
-  unfolding same_name
-  same_end h g = rw (drop_of_length-le w h, drop_of_length-le k g)
-
--- ── a test of every byte ──
-module _ (p : ℕ → Bool) (w : List ℕ) (i : ℕ) where
-  pub every-on : i < length w → p (get_or w i 0) ≡ true → every p (drop (i + 1) w) ≡ every p (drop i w)
-  unfolding every
-  every-on h e = rw (add-one i, drop-cons w i 0 h, e)
-
-  pub every-off : i < length w → p (get_or w i 0) ≡ false → false ≡ every p (drop i w)
-  unfolding every
-  every-off h e = rw (drop-cons w i 0 h, e)
-
-  pub every-end : length w ≤ i → true ≡ every p (drop i w)
-  unfolding every
-  every-end h = rw (drop_of_length-le w h)
 
 -- ── numbers ──
 pub number-least : (n : ℕ) (w : Name) → n ≤ number_from n w

@@ -1,6 +1,6 @@
 -- What the positions that the code answers with stand for: what is left of a text s, as bytes and as tokens.
 -- Serves inner contracts only.
-use Rattle.std.specs.Prelude.{ℕ, ◌-◌, ◌≤◌, ◌<◌, Bool, cond, List, [], ◌∷◌, ◌≡◌, eqb, leb, length, take, drop}
+use Rattle.std.specs.Prelude.{ℕ, ◌-◌, ◌≤◌, ◌<◌, Bool, cond, List, [], ◌∷◌, ◌≡◌, Option, Some, None, leb, length, take, drop}
 use Rattle.terms.specs.Names.{Name}
 use Rattle.terms.specs.Characters.{class_of, is_blank, is_alnum, is_digit}
 use Rattle.text.specs.Tokens.{lex, number}
@@ -36,9 +36,10 @@ pub record Counted (w : Name) (r : ℕ) : Type 0 where
   pub small : leb r 1_000_000 ≡ leb (number w) 1_000_000
   pub exact : number w ≤ 1_000_000 → r ≡ number w
 
--- read up to the position r, or, if it is 0, not there
-unfoldable pub ended : List ℕ → ℕ → Rest (Unit {0})
-ended s r = cond (eqb r 0) bad (ok tt (lex (drop r s)))
+-- read up to the position r, or not there
+abbrev pub ended : List ℕ → Option ℕ → Rest (Unit {0})
+ended s None = bad
+ended s (Some r) = ok tt (lex (drop r s))
 
 -- a byte that is a token by itself
 abbrev pub IsSign : ℕ → Type 0

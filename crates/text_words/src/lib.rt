@@ -1,7 +1,6 @@
 // Layer 2, reading and writing: bytes, words and their sorts, over the bytes of a text.
 //
-// A function that reads something at a position answers with the position behind it, or 0 if it does not stand there: what was read has
-// at least one byte, so that no position behind it is 0. (A number goes back in a register, and the readers above nest thousands deep.)
+// A function that reads something at a position answers with the position behind it, or with None if it does not stand there.
 //
 // specs/Bytes       what positions stand for: the bytes and tokens left
 // specs/Sorts       what classes, sorts and fields stand for
@@ -49,86 +48,54 @@ pub fn class_of(b: u8) -> Class
 }
 
 // ---- tokens ----
-// The first position from `at` on that holds no blank.
+// The first position from `at` on that holds no blank, or the end of the text.
 pub fn skip_blanks(s: &[u8], at: usize) -> usize
     ensures { drop result s.now ≡ after_blanks (drop at s.now) }
 {
-    let mut i = at;
-    while i < s.len() {
+    for i in at..s.len() {
         if !is_blank(s[i]) {
             return i;
         }
-        i += 1;
     }
-    i
+    s.len()
 }
 
 // The end of the letters and digits that begin at `at`.
 pub fn word_end(s: &[u8], at: usize) -> usize
     ensures { Run s.now at result }
 {
-    let mut i = at;
-    while i < s.len() {
+    for i in at..s.len() {
         if !is_alnum(s[i]) {
             return i;
         }
-        i += 1;
     }
-    i
+    at.max(s.len())
 }
 
 // The sign c.
-pub fn eat(s: &[u8], at: usize, c: u8) -> usize
+pub fn eat(s: &[u8], at: usize, c: u8) -> Option<usize>
     requires { IsSign c }
     ensures { ended s.now result ≡ the c (lex (drop at s.now)) }
 {
     let a = skip_blanks(s, at);
-    if a < s.len() {
-        if s[a] == c {
-            return a + 1;
-        }
+    if a < s.len() && s[a] == c {
+        return Some(a + 1);
     }
-    0
+    None
 }
 
 // ---- words ----
+// The letters k; a word and a literal of another length are of two types for `==` itself.
 pub fn is_same(w: &[u8], k: &[u8]) -> bool
     ensures { result ≡ same_name w.now k.now }
 {
-    if w.len() != k.len() {
-        return false;
-    }
-    let mut i = 0;
-    while i < w.len() {
-        if w[i] != k[i] {
-            return false;
-        }
-        i += 1;
-    }
-    true
+    w == k
 }
 
 pub fn all_digits(w: &[u8]) -> bool
     ensures { result ≡ every digit_at w.now }
 {
-    let mut i = 0;
-    while i < w.len() {
-        if !is_digit(w[i]) {
-            return false;
-        }
-        i += 1;
-    }
-    true
-}
-
-// What a byte adds to a number, 0 for one below the digits.
-pub fn digit_value(b: u8) -> u32
-    ensures { result ≡ b - 48 }
-{
-    if b < 48 {
-        return 0;
-    }
-    (b - 48) as u32
+    w.iter().all(|b| is_digit(*b))
 }
 
 // The number, or some number above 1,000,000 if it is above.
@@ -136,13 +103,11 @@ pub fn number_of(w: &[u8]) -> u32
     ensures { Counted w.now result }
 {
     let mut n: u32 = 0;
-    let mut i = 0;
-    while i < w.len() {
+    for b in w {
         if 1000000 < n {
             return n;
         }
-        n = 10 * n + digit_value(w[i]);
-        i += 1;
+        n = 10 * n + u32::from(b.saturating_sub(b'0'));
     }
     n
 }
@@ -151,13 +116,11 @@ pub fn number_of(w: &[u8]) -> u32
 pub fn is_plain(w: &[u8]) -> bool
     ensures { result ≡ plain w.now }
 {
-    if w.len() == 0 {
-        return false;
+    match w {
+        [] => false,
+        [_] => true,
+        [first, ..] => *first != b'0',
     }
-    if w.len() == 1 {
-        return true;
-    }
-    w[0] != b'0'
 }
 
 // ---- sorts of words ----
@@ -223,13 +186,7 @@ fn digit_sort(w: &[u8]) -> Sort
     requires { first_is is_digit w.now ≡ true }
     ensures { result ≡ sort_of w.now }
 {
-    if !is_plain(w) {
-        return Sort::Other;
-    }
-    if !all_digits(w) {
-        return Sort::Other;
-    }
-    if number_of(w) <= 1000000 {
+    if is_plain(w) && all_digits(w) && number_of(w) <= 1000000 {
         return Sort::Ticks;
     }
     Sort::Other
@@ -239,16 +196,14 @@ pub fn sort_of(w: &[u8]) -> Sort
     requires { every is_alnum w.now ≡ true }
     ensures { result ≡ sort_of w.now }
 {
-    if w.len() == 0 {
+    let [first, ..] = w else {
         return Sort::Other;
-    }
-    match class_of(w[0]) {
+    };
+    match class_of(*first) {
         Class::Small => small_sort(w),
         Class::Capital => capital_sort(w),
         Class::Digit => digit_sort(w),
-        Class::Bracket => Sort::Other,
-        Class::Blank => Sort::Other,
-        Class::Other => Sort::Other,
+        Class::Bracket | Class::Blank | Class::Other => Sort::Other,
     }
 }
 
@@ -262,65 +217,25 @@ pub enum Field {
     Location,
 }
 
-fn takes_small(f: Field) -> bool
-    ensures { result ≡ suits_of Sort.Small f }
-{
-    match f {
-        Field::Small => true,
-        Field::Value => true,
-        Field::Timer => false,
-        Field::Location => false,
-    }
-}
-
-fn takes_location(f: Field) -> bool
-    ensures { result ≡ suits_of Sort.Location f }
-{
-    match f {
-        Field::Small => false,
-        Field::Value => true,
-        Field::Timer => false,
-        Field::Location => true,
-    }
-}
-
-fn takes_timer(f: Field) -> bool
-    ensures { result ≡ suits_of Sort.Ticks f }
-{
-    match f {
-        Field::Small => false,
-        Field::Value => false,
-        Field::Timer => true,
-        Field::Location => false,
-    }
-}
-
 fn suits(k: Sort, f: Field) -> bool
     ensures { result ≡ suits_of k f }
 {
-    match k {
-        Sort::Stop => false,
-        Sort::Go => false,
-        Sort::Out => false,
-        Sort::In => false,
-        Sort::Inf => takes_timer(f),
-        Sort::Small => takes_small(f),
-        Sort::Location => takes_location(f),
-        Sort::Ticks => takes_timer(f),
-        Sort::Other => false,
+    match f {
+        Field::Small => matches!(k, Sort::Small),
+        Field::Value => matches!(k, Sort::Small | Sort::Location),
+        Field::Timer => matches!(k, Sort::Inf | Sort::Ticks),
+        Field::Location => matches!(k, Sort::Location),
     }
 }
 
 // A word of the sort that the field wants.
-pub fn field_at(s: &[u8], at: usize, f: Field) -> usize
+pub fn field_at(s: &[u8], at: usize, f: Field) -> Option<usize>
     ensures { ended s.now result ≡ skim (named (fits f)) (lex (drop at s.now)) }
 {
     let a = skip_blanks(s, at);
     let e = word_end(s, a);
-    if a < e {
-        if suits(sort_of(&s[a..e]), f) {
-            return e;
-        }
+    if a < e && suits(sort_of(&s[a..e]), f) {
+        return Some(e);
     }
-    0
+    None
 }

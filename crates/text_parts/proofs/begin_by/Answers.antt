@@ -1,5 +1,5 @@
 -- `begin_by` reads what follows the first word of a part.
--- By the word's sort, in each of its cases.
+-- By the word's sort: the openings of `go`, `out` and `in` are read field by field.
 use mathlib.Core.Path.{sym, ap, ◌∙◌}
 use lib.ListN.{drop}
 use Rattle.text.specs.Tokens.{lex}
@@ -7,11 +7,6 @@ use Rattle.text_words.specs.Sorts.{head_is}
 use Rattle.text_parts.specs.Openings.{open_form}
 use Rattle.text_parts.proofs.Fields.{open-go, open-out, open_in}
 use Rattle.text_parts.proofs.begin_by.Goals as goal
-
-pub returns-in-Stop : goal.returns-in-Stop
-returns-in-Stop c =
-    let a = c.args in
-    sym (ap (λ k. open_form (head_is k) (lex (drop a.at a.s.now))) c.in-Stop.is)
 
 pub returns-in-Go : goal.returns-in-Go
 returns-in-Go c =
@@ -27,13 +22,3 @@ pub returns-in-In : goal.returns-in-In
 returns-in-In c =
     let a = c.args in
     c.comm_begin-in-In.ensures ∙ sym (open_in (lex (drop a.at a.s.now))) ∙ sym (ap (λ k. open_form (head_is k) (lex (drop a.at a.s.now))) c.in-In.is)
-
-pub returns-in-Small : goal.returns-in-Small
-returns-in-Small c =
-    let a = c.args in
-    c.call_begin.ensures ∙ sym (ap (λ k. open_form (head_is k) (lex (drop a.at a.s.now))) c.in-Small.is)
-
-pub returns-in-Location : goal.returns-in-Location
-returns-in-Location c =
-    let a = c.args in
-    c.call_begin-in-Location.ensures ∙ sym (ap (λ k. open_form (head_is k) (lex (drop a.at a.s.now))) c.in-Location.is)

@@ -10,8 +10,8 @@ use Rattle.text_parts.specs.Counting.{names_form, names_count}
 use Rattle.text_parts.proofs.Fields.{From}
 use Rattle.text_parts.proofs.names_at.Given as goal
 
-abbrev pub invariant-loop-f : goal.invariant-loop-f
-invariant-loop-f l = mapped (From l.n) (names_form (fits l.f) (lex (drop l.here l.s))) ≡ mapped names_count (names_form (fits l.f) (lex (drop l.at l.s)))
+abbrev pub invariant-loop-a : goal.invariant-loop-a
+invariant-loop-a l = mapped (From l.n) (names_form (fits l.f) (lex (drop l.here l.s))) ≡ mapped names_count (names_form (fits l.f) (lex (drop l.at l.s)))
 
-abbrev pub decreases-loop-f : goal.decreases-loop-f
-decreases-loop-f l = length l.s - l.here
+abbrev pub decreases-loop-a : goal.decreases-loop-a
+decreases-loop-a l = length l.s - l.here

@@ -1,42 +1,38 @@
 -- `def_at` reads a definition, and its numbers.
 -- Identifier, parameters, `=`, body: one reader after the other, each of which may fail.
-use mathlib.Core.Path.{refl, ap, ◌∙◌}
+use mathlib.Core.Path.{ap, ◌∙◌}
 use lib.ListN.{drop}
-use Rattle.text.specs.Tokens.{lex, lex_from}
-use Rattle.text_scan.specs.Totals.{of_body}
-use Rattle.text_words.proofs.Positions.{done, failed}
-use Rattle.text_scan.proofs.Texts.{totaled-bad, totaled-body, listed-bad, listed_ok, def-1, def-2, def-3, def-4}
-use Rattle.terms.specs.Characters.{class_of}
+use Rattle.text.specs.Tokens.{lex}
+use Rattle.text_scan.specs.Answers.{totaled}
+use Rattle.text_scan.proofs.Texts.{def-1, def-2, def-3, def-4}
 use Rattle.text_scan.proofs.def_at.Goals as goal
 
-pub returns-then-a-eq0 : goal.returns-then-a-eq0
-returns-then-a-eq0 c =
+pub returns-in_err-a : goal.returns-in_err-a
+returns-in_err-a c =
     let s = c.args.s.now in
     let ts = lex (drop c.args.at s) in
-    totaled-bad s _ (ap (λ t. t.end) c.none.ensures) ∙ def-1 ts (failed s c.field_at-a.ensures c.if-a-eq0.true)
+    ap (totaled s) c.from_residual.ensures ∙ def-1 ts c.in_err-a.ensures
 
-pub returns-then-b-eq0 : goal.returns-then-b-eq0
-returns-then-b-eq0 c =
+pub returns-in_err-us : goal.returns-in_err-us
+returns-in_err-us c =
     let s = c.args.s.now in
     let ts = lex (drop c.args.at s) in
-    totaled-bad s _ (ap (λ t. t.end) c.none-then-b-eq0.ensures) ∙ def-2 ts _ (done s c.field_at-a.ensures c.if-a-eq0.false) (listed-bad s _ _ c.list_of-us.ensures c.if-b-eq0.true)
+    ap (totaled s) c.from_residual-in_err-us.ensures ∙ def-2 ts _ c.in_ok-a.ensures c.in_err-us.ensures
 
-pub eat-e-requires : goal.eat-e-requires
-unfolding lex_from class_of
-eat-e-requires c = λ l. refl
-
-pub returns-then-e-eq0 : goal.returns-then-e-eq0
-returns-then-e-eq0 c =
+pub returns-in_err-e : goal.returns-in_err-e
+returns-in_err-e c =
     let s = c.args.s.now in
     let ts = lex (drop c.args.at s) in
-    totaled-bad s _ (ap (λ t. t.end) c.none-then-e-eq0.ensures) ∙ def-3 ts _ (done s c.field_at-a.ensures c.if-a-eq0.false) _ _ (listed_ok s _ _ c.list_of-us.ensures c.if-b-eq0.false) (failed s c.eat-e.ensures c.if-e-eq0.true)
+    ap (totaled s) c.from_residual-in_err-e.ensures ∙ def-3 ts _ c.in_ok-a.ensures _ _ c.in_ok-us.ensures c.in_err-e.ensures
 
-pub body-r-requires : goal.body-r-requires
-unfolding lex_from class_of
-body-r-requires c = λ l. refl
+pub returns-in_err-r : goal.returns-in_err-r
+returns-in_err-r c =
+    let s = c.args.s.now in
+    let ts = lex (drop c.args.at s) in
+    ap (totaled s) c.from_residual-in_err-r.ensures ∙ def-4 ts _ c.in_ok-a.ensures _ _ c.in_ok-us.ensures _ c.in_ok-e.ensures _ c.in_err-r.ensures
 
 pub returns : goal.returns
 returns c =
     let s = c.args.s.now in
     let ts = lex (drop c.args.at s) in
-    totaled-body s (of_body c.list_of-us.result.count) _ _ refl refl ∙ def-4 ts _ (done s c.field_at-a.ensures c.if-a-eq0.false) _ _ (listed_ok s _ _ c.list_of-us.ensures c.if-b-eq0.false) _ (done s c.eat-e.ensures c.if-e-eq0.false) _ c.body-r.ensures
+    def-4 ts _ c.in_ok-a.ensures _ _ c.in_ok-us.ensures _ c.in_ok-e.ensures _ c.in_ok-r.ensures

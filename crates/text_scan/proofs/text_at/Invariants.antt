@@ -6,7 +6,7 @@ use Rattle.text_scan.proofs.Texts.{Before}
 use Rattle.text_scan.proofs.text_at.Given as goal
 
 abbrev pub invariant-loop-t : goal.invariant-loop-t
-invariant-loop-t l = Before l.s l.at l.here l.t
+invariant-loop-t l = Before l.s l.at l.t.end l.t
 
 abbrev pub decreases-loop-t : goal.decreases-loop-t
-decreases-loop-t l = length l.s - l.here
+decreases-loop-t l = length l.s - l.t.end

@@ -2,7 +2,7 @@
 -- The loop's invariant: from `at` to i stand letters and digits only, and the run goes on as it does from i.
 use native.Mathlib.Omega.{arith}
 use mathlib.Core.Path.{sym, ◌∙◌}
-use Rattle.text_words.proofs.Positions.{running-first, running-on, running-stop, running-end}
+use Rattle.text_words.proofs.Positions.{running-first, running-on, running-stop, running-max}
 use Rattle.text_words.proofs.word_end.Goals as goal
 
 pub loop-i-init : goal.loop-i-init
@@ -13,13 +13,12 @@ returns-then-not-is_alnum c =
     let l = c.loop-i in
     running-stop _ _ l.i l.invariant c.loop-i-test.true (sym c.is_alnum.ensures ∙ c.if-not-is_alnum.true)
 
-pub loop-i-smaller : goal.loop-i-smaller
-loop-i-smaller c = omega arith
-
 pub loop-i-preserved : goal.loop-i-preserved
 loop-i-preserved c =
     let l = c.loop-i in
     running-on _ _ l.i l.invariant c.loop-i-test.true (sym c.is_alnum.ensures ∙ c.if-not-is_alnum.false)
 
 pub returns : goal.returns
-returns c = running-end _ _ c.loop-i.i c.loop-i.invariant c.loop-i-test.false
+returns c =
+    let l = c.loop-i in
+    rw c.max.ensures (running-max _ _ l.i l.invariant c.loop-i-test.false l.auto.i-end)

@@ -1,12 +1,7 @@
 -- `word_end` stops where the longest run of letters and digits ends.
 -- The loop's invariant: from `at` to i stand letters and digits only, and the run goes on as it does from i.
-use Prim.Native.Nat.{◌-◌}
-use lib.ListN.{length}
 use Rattle.text_words.proofs.Positions.{Running}
 use Rattle.text_words.proofs.word_end.Given as goal
 
 abbrev pub invariant-loop-i : goal.invariant-loop-i
 invariant-loop-i l = Running l.s l.at l.i
-
-abbrev pub decreases-loop-i : goal.decreases-loop-i
-decreases-loop-i l = length l.s - l.i
