@@ -15,7 +15,10 @@ use Rattle.text_words.proofs.Positions.{bytes-fall}
 use Rattle.text_parts.specs.Openings.{Opening, leaf, single, double, an_opening}
 use Rattle.text_parts.specs.Counts.{Count, leaf_count, joined, wrapped, capped}
 use Rattle.text_parts.specs.Counting.{part_counts, process_counts, close_form}
-use Rattle.text_parts.specs.Answers.{count_of, sized, joined_up_to, joined_size, closed_size}
+use Rattle.text_parts.specs.declared.Form.{Form}
+use Rattle.text_parts.specs.declared.Form.TheVariants.{Leaf, One, Two}
+use Rattle.text_parts.specs.declared.Begun.{Begun}
+use Rattle.text_parts.specs.Answers.{opening_of, began, count_of, sized, joined_up_to, joined_size, closed_size}
 use Rattle.text_parts.specs.declared.Size.{Size}
 use Rattle.text_parts.proofs.Stops.{sum-on, max-on}
 use Rattle.text.proofs.Exact.{clash}
@@ -57,18 +60,28 @@ module _ (s : List ℕ) where
     part_at : (x : Rest Opening) → x ≡ an_opening Ts → part_counts Ts ≡ bind x (close_form process_counts)
     part_at x e = part-counts Ts ∙ ap (λ x. bind x (close_form process_counts)) (sym e)
 
-    pub opening-falls : (o : Opening) (n : ℕ) → ok o (lex (drop n s)) ≡ an_opening Ts → length s - n < length s - at
-    opening-falls o n e = bytes-fall s at n (opening-less Ts o (lex (drop n s)) (sym e))
-
     pub part-wrong : bad ≡ an_opening Ts → bad ≡ mapped capped (part_counts Ts)
     part-wrong e = sym (ap (mapped capped) (part_at bad e))
 
-    pub part-leaf : (n : ℕ) → ok leaf (lex (drop n s)) ≡ an_opening Ts → ok leaf_count (lex (drop n s)) ≡ mapped capped (part_counts Ts)
-    part-leaf n e = sym (ap (mapped capped) (part_at _ e))
+    -- its opening is b
+    module _ (b : Begun) (e : began s (Some b) ≡ an_opening Ts) where
+      pub opening-falls : length s - b.end < length s - at
+      opening-falls = bytes-fall s at b.end (opening-less Ts (opening_of b.form) (lex (drop b.end s)) (sym e))
 
-    module _ (n : ℕ) (e : ok single (lex (drop n s)) ≡ an_opening Ts) where
-      pub part-one : (x : Rest Count) → x ≡ mapped capped (process_counts (lex (drop n s))) → closed_size x ≡ mapped capped (part_counts Ts)
-      part-one x p = ap closed_size p ∙ sym (ap (mapped capped) (part_at _ e) ∙ go (process_counts (lex (drop n s))))
+      pub part-leaf : b.form ≡ Leaf → ok leaf_count (lex (drop b.end s)) ≡ mapped capped (part_counts Ts)
+      part-leaf f = sym (ap (mapped capped) (part_at _ (ap (λ f. ok (opening_of f) (lex (drop b.end s))) (sym f) ∙ e)))
+
+      pub part-no-first : (b.form ≡ Leaf → ⊥) → bad ≡ mapped capped (process_counts (lex (drop b.end s))) → bad ≡ mapped capped (part_counts Ts)
+      part-no-first n p = go b.form refl (process_counts (lex (drop b.end s))) refl p
+        where
+          go : (f : Form) → b.form ≡ f → (x : Rest Count) → process_counts (lex (drop b.end s)) ≡ x → bad ≡ mapped capped x → bad ≡ mapped capped (part_counts Ts)
+          go f i (ok x us) h p = clash p
+          go Leaf i bad h p = absurd (n i)
+          go One i bad h p = sym (ap (mapped capped) (part_at _ (ap (λ f. ok (opening_of f) (lex (drop b.end s))) (sym i) ∙ e) ∙ ap (λ x. bind x (λ x us. bind (the closes us) (λ u us. ok (wrapped x) us))) h))
+          go Two i bad h p = sym (ap (mapped capped) (part_at _ (ap (λ f. ok (opening_of f) (lex (drop b.end s))) (sym i) ∙ e) ∙ ap (λ x. bind x (λ x us. bind (the comma us) (λ u ts. bind (process_counts ts) (λ y us. bind (the closes us) (λ u us. ok (wrapped (joined x y)) us))))) h))
+
+      pub part-one : b.form ≡ One → (x : Rest Count) → x ≡ mapped capped (process_counts (lex (drop b.end s))) → closed_size x ≡ mapped capped (part_counts Ts)
+      part-one f x p = ap closed_size p ∙ sym (ap (mapped capped) (part_at _ (ap (λ f. ok (opening_of f) (lex (drop b.end s))) (sym f) ∙ e)) ∙ go (process_counts (lex (drop b.end s))))
         where
           inner : (x : Count) (y : Rest (Unit {0})) → mapped capped (bind y (λ u us. ok (wrapped x) us)) ≡ bind y (λ u us. ok (capped (wrapped (capped x))) us)
           inner x (ok u us) = ap (λ n. ok n us) (capped-wrapped x)
@@ -78,19 +91,20 @@ module _ (s : List ℕ) where
           go (ok x us) = inner x (the closes us)
           go bad = refl
 
+      pub opening-two : (b.form ≡ Leaf → ⊥) → (b.form ≡ One → ⊥) → ok double (lex (drop b.end s)) ≡ an_opening Ts
+      opening-two n m = go b.form refl
+        where
+          go : (f : Form) → b.form ≡ f → ok double (lex (drop b.end s)) ≡ an_opening Ts
+          go Leaf i = absurd (n i)
+          go One i = absurd (m i)
+          go Two i = ap (λ f. ok (opening_of f) (lex (drop b.end s))) (sym i) ∙ e
+
     module _ (n : ℕ) (e : ok double (lex (drop n s)) ≡ an_opening Ts) where
       abbrev Second : Count → Reader Count
       Second x ts = bind (process_counts ts) (λ y us. bind (the closes us) (λ u us. ok (wrapped (joined x y)) us))
 
       two_at : (x : Rest Count) → process_counts (lex (drop n s)) ≡ x → part_counts Ts ≡ bind x (λ x us. bind (the comma us) (λ u. Second x))
       two_at x h = part_at _ e ∙ ap (λ x. bind x (λ x us. bind (the comma us) (λ u. Second x))) h
-
-      pub part-no-first : bad ≡ mapped capped (process_counts (lex (drop n s))) → bad ≡ mapped capped (part_counts Ts)
-      part-no-first p = go (process_counts (lex (drop n s))) refl p
-        where
-          go : (x : Rest Count) → process_counts (lex (drop n s)) ≡ x → bad ≡ mapped capped x → bad ≡ mapped capped (part_counts Ts)
-          go (ok x us) h p = clash p
-          go bad h p = sym (ap (mapped capped) (two_at bad h))
 
       -- the first process is r
       module _ (r : Size) (p : sized s (Some r) ≡ mapped capped (process_counts (lex (drop n s)))) where

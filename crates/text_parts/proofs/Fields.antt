@@ -21,7 +21,7 @@ use Rattle.text_words.proofs.WordSorts.{identifier-is}
 use Rattle.text_parts.specs.Openings.{leaf, single, double, comm_open, open_form, an_opening, field_form, go_form, pair_form, comm_form}
 use Rattle.text_parts.specs.Counting.{names_form, names_count, list_count}
 use Rattle.text.proofs.Exact.{clash}
-use Rattle.text_parts.proofs.Rests.{mapped-same, mapped-bind, mapped-give, bind-same, mapped-less, next-yes, next-no}
+use Rattle.text_parts.proofs.Rests.{mapped-mapped, mapped-same, mapped-bind, mapped-give, bind-same, mapped-less, next-yes, next-no}
 
 -- ── a timer, a value: a word that passes a test ──
 timer-field : (ts : List Token) → skim a_timer ts ≡ skim (named is_timer) ts
@@ -202,13 +202,9 @@ module _ (p : Name → Bool) (ts : List Token) where
       sym (ap (λ y. mapped names_count (bracketed y (named p) ts)) (next-yes opens ts (sym e))
       ∙ ap (λ x. mapped names_count (bind x (λ u us. bind (sep_by comma (named p) us) (λ xs vs. bind (the closes vs) (λ u zs. ok xs zs))))) (sym e))
 
--- ── the opening of a call ──
-pub call-open : (ts : List Token) (x : Rest ℕ) → x ≡ list_count is_identifier ts → bind x (λ n us. ok leaf us) ≡ open_form calls ts
-call-open ts x e = ap (λ y. bind y (λ n us. ok leaf us)) e ∙ go (list_of (named is_identifier) ts) ∙ ap (λ y. bind y (λ u us. ok leaf us)) (sym (values-names ts))
-  where
-    go : (x : Rest (List Name)) → bind (mapped names_count x) (λ n us. ok leaf us) ≡ bind (mapped (λ x. tt {0}) x) (λ u us. ok leaf us)
-    go (ok xs us) = refl
-    go bad = refl
+-- ── the arguments of a call, forgotten ──
+pub call-skim : (ts : List Token) (x : Rest ℕ) → x ≡ list_count is_identifier ts → mapped (λ n. tt {0}) x ≡ skim (list_of a_value) ts
+call-skim ts x e = ap (mapped (λ n. tt)) e ∙ mapped-mapped (λ n. tt) names_count (list_of (named is_identifier) ts) ∙ sym (values-names ts)
 
 -- ── three readers in a row, as the code goes through them ──
 module _ {B : Type 0} (x : Rest (Unit {0})) (F G : Reader (Unit {0})) (k : Reader B) where

@@ -7,15 +7,19 @@ use Rattle.text.specs.Grammar.Rest.{ok, bad}
 use Rattle.text_parts.specs.Openings.{Opening, leaf, single, double}
 use Rattle.text_parts.specs.Counts.{Count, capped, wrapped}
 use Rattle.text_parts.specs.declared.Begun.{Begun}
-use Rattle.text_parts.specs.declared.Begun.TheVariants.{Leaf, One, Two}
+use Rattle.text_parts.specs.declared.Form.{Form}
+use Rattle.text_parts.specs.declared.Form.TheVariants.{Leaf, One, Two}
 use Rattle.text_parts.specs.declared.Names.{Names}
 use Rattle.text_parts.specs.declared.Size.{Size}
 
+abbrev pub opening_of : Form → Opening
+opening_of Leaf = leaf
+opening_of One = single
+opening_of Two = double
+
 abbrev pub began : List ℕ → Option Begun → Rest Opening
 began s None = bad
-began s (Some (Leaf e)) = ok leaf (lex (drop e s))
-began s (Some (One e)) = ok single (lex (drop e s))
-began s (Some (Two e)) = ok double (lex (drop e s))
+began s (Some r) = ok (opening_of r.form) (lex (drop r.end s))
 
 abbrev pub listed : List ℕ → Option Names → Rest ℕ
 listed s None = bad

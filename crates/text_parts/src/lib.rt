@@ -18,23 +18,31 @@
 
 ghost use Rattle.std.specs.Prelude.{◌≡◌, Some, drop};
 ghost use Rattle.text.specs.Tokens.{lex};
-ghost use Rattle.text.specs.Grammar.Head.{calls};
-ghost use Rattle.text_words.specs.Bytes.{ended, mapped};
+ghost use Rattle.text.specs.Grammar.{list_of, a_value};
+ghost use Rattle.text_words.specs.Bytes.{ended, mapped, skim};
 ghost use Rattle.text_words.specs.Sorts.{fits, head_is};
 ghost use Rattle.text_parts.specs.Openings.{field_form, go_form, pair_form, comm_form, open_form, an_opening};
 ghost use Rattle.text_parts.specs.Counts.{capped};
 ghost use Rattle.text_parts.specs.Counting.{names_form, names_count, list_count, part_counts, process_counts};
+ghost use Rattle.text_parts.specs.declared.Form.TheVariants.{Leaf};
 ghost use Rattle.text_parts.specs.Answers.{began, listed, sized, joined_size, closed_size};
 
 use text_words::{Field, Sort, eat, field_at, skip_blanks, sort_of, word_end};
 
 // ---- a part up to its first process ----
 // A part is over, or one or two processes are to come.
+#[derive(Clone, Copy, PartialEq, Eq)]
+pub enum Form {
+    Leaf,
+    One,
+    Two,
+}
+
+// Where the part is over, or its first process begins.
 #[derive(Clone, Copy)]
-pub enum Begun {
-    Leaf(usize),
-    One(usize),
-    Two(usize),
+pub struct Begun {
+    pub end: usize,
+    pub form: Form,
 }
 
 // A word of the field's sort, and a comma.
@@ -52,7 +60,10 @@ fn go_begin(s: &[u8], at: usize) -> Option<Begun>
     let a = eat(s, at, b'(')?;
     let b = comma_field(s, a, Field::Timer)?;
     let e = comma_field(s, b, Field::Value)?;
-    Some(Begun::One(e))
+    Some(Begun {
+        end: e,
+        form: Form::One,
+    })
 }
 
 // A timer and a field, each with its comma.
@@ -70,7 +81,10 @@ fn comm_begin(s: &[u8], at: usize, f: Field) -> Option<Begun>
     let a = eat(s, at, b'(')?;
     let b = comma_field(s, a, Field::Small)?;
     let e = pair_fields(s, b, f)?;
-    Some(Begun::Two(e))
+    Some(Begun {
+        end: e,
+        form: Form::Two,
+    })
 }
 
 // Names in brackets: where they end, and how many, at most 5.
@@ -107,12 +121,23 @@ pub fn list_of(s: &[u8], at: usize, f: Field) -> Option<Names>
     }
 }
 
-// After the identifier of a call.
-fn call_begin(s: &[u8], at: usize) -> Option<Begun>
-    ensures { began s.now result ≡ open_form calls (lex (drop at s.now)) }
+// The end of a call behind its identifier. (Not within the two readers below, whose levels of nesting it would make larger.)
+#[inline(never)]
+fn call_end(s: &[u8], at: usize) -> Option<usize>
+    ensures { ended s.now result ≡ skim (list_of a_value) (lex (drop at s.now)) }
 {
     let n = list_of(s, at, Field::Value)?;
-    Some(Begun::Leaf(n.end))
+    Some(n.end)
+}
+
+// Behind a part that is over.
+fn leaf(e: usize) -> Option<Begun>
+    ensures { result ≡ Some (record { end = e; form = Leaf }) }
+{
+    Some(Begun {
+        end: e,
+        form: Form::Leaf,
+    })
 }
 
 // What follows the first word of a part, by the word's sort.
@@ -120,11 +145,11 @@ fn begin_by(s: &[u8], at: usize, k: Sort) -> Option<Begun>
     ensures { began s.now result ≡ open_form (head_is k) (lex (drop at s.now)) }
 {
     match k {
-        Sort::Stop => Some(Begun::Leaf(at)),
+        Sort::Stop => leaf(at),
         Sort::Go => go_begin(s, at),
         Sort::Out => comm_begin(s, at, Field::Value),
         Sort::In => comm_begin(s, at, Field::Small),
-        Sort::Small | Sort::Location => call_begin(s, at),
+        Sort::Small | Sort::Location => leaf(call_end(s, at)?),
         Sort::Inf | Sort::Ticks | Sort::Other => None,
     }
 }
@@ -199,18 +224,19 @@ pub fn read_process(s: &[u8], at: usize) -> Option<Size>
 pub fn read_part(s: &[u8], at: usize) -> Option<Size>
     ensures { sized s.now result ≡ mapped capped (part_counts (lex (drop at s.now))) }
 {
-    match begin(s, at)? {
-        Begun::Leaf(e) => Some(Size {
-            end: e,
+    let b = begin(s, at)?;
+    if b.form == Form::Leaf {
+        return Some(Size {
+            end: b.end,
             nesting: 1,
             parts: 1,
             width: 1,
-        }),
-        Begun::One(n) => closed(s, read_process(s, n)?),
-        Begun::Two(n) => {
-            let p = read_process(s, n)?;
-            let q = eat(s, p.end, b',')?;
-            closed(s, joined(p, read_process(s, q)?))
-        }
+        });
     }
+    let p = read_process(s, b.end)?;
+    if b.form == Form::One {
+        return closed(s, p);
+    }
+    let q = eat(s, p.end, b',')?;
+    closed(s, joined(p, read_process(s, q)?))
 }

@@ -2,84 +2,67 @@
 -- The falling number is the bytes left, twice, and one more for the process reader; the loop's invariant is `Gathered`.
 use native.Mathlib.Omega.{arith}
 use mathlib.Core.Path.{refl, sym, ap, subst, ◌∙◌}
+use borrow.Author.Rules.{rules}
+use denote.Enum.Bare.{same_true, same_false}
 use lib.ListN.{drop}
 use Rattle.std.specs.Prelude.{Some}
 use Rattle.text.specs.Tokens.{lex, bar}
 use Rattle.text.specs.Grammar.{the}
-use Rattle.text_parts.specs.Openings.{single, double}
-use Rattle.text_parts.specs.Answers.{began, sized, closed_size}
-use Rattle.text_parts.proofs.Cycle.{opening-falls, part-wrong, part-leaf, part-one, part-no-first, part-no-comma, second-falls, part-two, Gathered, gathered-first, gathered-bad, gathered-end, turn-falls, gathered-on}
+use Rattle.text_parts.specs.contracts.Form.{the_type}
+use Rattle.text_parts.specs.Answers.{sized, closed_size}
+use Rattle.text_parts.proofs.Cycle.{part-wrong, opening-falls, opening-two, part-leaf, part-one, part-no-first, part-no-comma, second-falls, part-two, Gathered, gathered-first, gathered-bad, gathered-end, turn-falls, gathered-on}
 use Rattle.text_parts.proofs.+read_part_read_process.Goals as goal
 
-pub read_part-returns-in_err-e : goal.read_part-returns-in_err-e
-read_part-returns-in_err-e t c =
+pub read_part-returns-in_err-b : goal.read_part-returns-in_err-b
+read_part-returns-in_err-b t c =
     let s = c.args.s.now in
-    ap (sized s) c.from_residual.ensures ∙ part-wrong s c.args.at c.in_err-e.ensures
+    ap (sized s) c.from_residual.ensures ∙ part-wrong s c.args.at c.in_err-b.ensures
 
-pub read_part-returns-in-Leaf : goal.read_part-returns-in-Leaf
-read_part-returns-in-Leaf t c =
-    let s = c.args.s.now in
-    part-leaf s c.args.at _ (sym (ap (λ b. began s (Some b)) c.in-Leaf.is) ∙ c.in_ok-e.ensures)
+pub read_part-returns-then-eq : goal.read_part-returns-then-eq
+read_part-returns-then-eq t c =
+    part-leaf c.args.s.now c.args.at _ c.in_ok-b.ensures (same_true the_type (search rules) _ _ (sym c.if-eq.ensures))
 
 pub read_part-read_process-requires : goal.read_part-read_process-requires
 read_part-read_process-requires t c =
-    let s = c.args.s.now in
-    let f = opening-falls s c.args.at single c.in-One.n (sym (ap (λ b. began s (Some b)) c.in-One.is) ∙ c.in_ok-e.ensures) in
+    let f = opening-falls c.args.s.now c.args.at _ c.in_ok-b.ensures in
     let h = c.decreases in
     (omega arith, tt)
 
-pub read_part-returns-in_err-read_process-in-One : goal.read_part-returns-in_err-read_process-in-One
-read_part-returns-in_err-read_process-in-One t c =
+pub read_part-returns-in_err-p : goal.read_part-returns-in_err-p
+read_part-returns-in_err-p t c =
     let s = c.args.s.now in
-    let e = sym (ap (λ b. began s (Some b)) c.in-One.is) ∙ c.in_ok-e.ensures in
-    ap (sized s) c.from_residual-in_err-read_process-in-One.ensures ∙ part-one s c.args.at c.in-One.n e _ c.in_err-read_process-in-One.ensures
+    ap (sized s) c.from_residual-in_err-p.ensures ∙ part-no-first s c.args.at _ c.in_ok-b.ensures (same_false the_type _ _ (sym c.if-eq.ensures)) c.in_err-p.ensures
 
-pub read_part-returns-in_ok-read_process-in-One : goal.read_part-returns-in_ok-read_process-in-One
-read_part-returns-in_ok-read_process-in-One t c =
-    let s = c.args.s.now in
-    let e = sym (ap (λ b. began s (Some b)) c.in-One.is) ∙ c.in_ok-e.ensures in
-    c.closed.ensures ∙ part-one s c.args.at c.in-One.n e _ c.in_ok-read_process-in-One.ensures
+pub read_part-returns-then-eq-2 : goal.read_part-returns-then-eq-2
+read_part-returns-then-eq-2 t c =
+    c.closed.ensures ∙ part-one c.args.s.now c.args.at _ c.in_ok-b.ensures (same_true the_type (search rules) _ _ (sym c.if-eq-2.ensures)) _ c.in_ok-p.ensures
 
-pub read_part-read_process-requires-in-Two : goal.read_part-read_process-requires-in-Two
-read_part-read_process-requires-in-Two t c =
+pub read_part-returns-in_err-q : goal.read_part-returns-in_err-q
+read_part-returns-in_err-q t c =
     let s = c.args.s.now in
-    let f = opening-falls s c.args.at double c.in-Two.n (sym (ap (λ b. began s (Some b)) c.in-Two.is) ∙ c.in_ok-e.ensures) in
+    let e = opening-two s c.args.at _ c.in_ok-b.ensures (same_false the_type _ _ (sym c.if-eq.ensures)) (same_false the_type _ _ (sym c.if-eq-2.ensures)) in
+    ap (sized s) c.from_residual-in_err-q.ensures ∙ part-no-comma s c.args.at _ e _ c.in_ok-p.ensures c.in_err-q.ensures
+
+pub read_part-read_process-requires-2 : goal.read_part-read_process-requires-2
+read_part-read_process-requires-2 t c =
+    let s = c.args.s.now in
+    let e = opening-two s c.args.at _ c.in_ok-b.ensures (same_false the_type _ _ (sym c.if-eq.ensures)) (same_false the_type _ _ (sym c.if-eq-2.ensures)) in
+    let f = opening-falls s c.args.at _ c.in_ok-b.ensures in
+    let g = second-falls s c.args.at _ e _ c.in_ok-p.ensures _ c.in_ok-q.ensures in
     let h = c.decreases in
     (omega arith, tt)
 
-pub read_part-returns-in_err-p-in-Two : goal.read_part-returns-in_err-p-in-Two
-read_part-returns-in_err-p-in-Two t c =
+pub read_part-returns-in_err-read_process : goal.read_part-returns-in_err-read_process
+read_part-returns-in_err-read_process t c =
     let s = c.args.s.now in
-    let e = sym (ap (λ b. began s (Some b)) c.in-Two.is) ∙ c.in_ok-e.ensures in
-    ap (sized s) c.from_residual-in_err-p-in-Two.ensures ∙ part-no-first s c.args.at c.in-Two.n e c.in_err-p-in-Two.ensures
+    let e = opening-two s c.args.at _ c.in_ok-b.ensures (same_false the_type _ _ (sym c.if-eq.ensures)) (same_false the_type _ _ (sym c.if-eq-2.ensures)) in
+    ap (sized s) c.from_residual-in_err-read_process.ensures ∙ part-two s c.args.at _ e _ c.in_ok-p.ensures _ c.in_ok-q.ensures _ c.in_err-read_process.ensures
 
-pub read_part-returns-in_err-q-in-Two : goal.read_part-returns-in_err-q-in-Two
-read_part-returns-in_err-q-in-Two t c =
+pub read_part-returns : goal.read_part-returns
+read_part-returns t c =
     let s = c.args.s.now in
-    let e = sym (ap (λ b. began s (Some b)) c.in-Two.is) ∙ c.in_ok-e.ensures in
-    ap (sized s) c.from_residual-in_err-q-in-Two.ensures ∙ part-no-comma s c.args.at c.in-Two.n e _ c.in_ok-p-in-Two.ensures c.in_err-q-in-Two.ensures
-
-pub read_part-read_process-requires-in-Two-2 : goal.read_part-read_process-requires-in-Two-2
-read_part-read_process-requires-in-Two-2 t c =
-    let s = c.args.s.now in
-    let e = sym (ap (λ b. began s (Some b)) c.in-Two.is) ∙ c.in_ok-e.ensures in
-    let f = opening-falls s c.args.at double c.in-Two.n e in
-    let g = second-falls s c.args.at c.in-Two.n e _ c.in_ok-p-in-Two.ensures _ c.in_ok-q-in-Two.ensures in
-    let h = c.decreases in
-    (omega arith, tt)
-
-pub read_part-returns-in_err-read_process-in-Two : goal.read_part-returns-in_err-read_process-in-Two
-read_part-returns-in_err-read_process-in-Two t c =
-    let s = c.args.s.now in
-    let e = sym (ap (λ b. began s (Some b)) c.in-Two.is) ∙ c.in_ok-e.ensures in
-    ap (sized s) c.from_residual-in_err-read_process-in-Two.ensures ∙ part-two s c.args.at c.in-Two.n e _ c.in_ok-p-in-Two.ensures _ c.in_ok-q-in-Two.ensures _ c.in_err-read_process-in-Two.ensures
-
-pub read_part-returns-in_ok-read_process-in-Two : goal.read_part-returns-in_ok-read_process-in-Two
-read_part-returns-in_ok-read_process-in-Two t c =
-    let s = c.args.s.now in
-    let e = sym (ap (λ b. began s (Some b)) c.in-Two.is) ∙ c.in_ok-e.ensures in
-    c.closed-in-Two.ensures ∙ ap (λ z. closed_size (sized s (Some z))) c.joined.ensures
-    ∙ part-two s c.args.at c.in-Two.n e _ c.in_ok-p-in-Two.ensures _ c.in_ok-q-in-Two.ensures _ c.in_ok-read_process-in-Two.ensures
+    let e = opening-two s c.args.at _ c.in_ok-b.ensures (same_false the_type _ _ (sym c.if-eq.ensures)) (same_false the_type _ _ (sym c.if-eq-2.ensures)) in
+    c.closed-2.ensures ∙ ap (λ z. closed_size (sized s (Some z))) c.joined.ensures ∙ part-two s c.args.at _ e _ c.in_ok-p.ensures _ c.in_ok-q.ensures _ c.in_ok-read_process.ensures
 
 pub read_process-loop-size-init : goal.read_process-loop-size-init
 read_process-loop-size-init t c = (omega arith, gathered-first c.args.s.now c.args.at (record { end = c.args.at; nesting = 0; parts = 0; width = 0 }) refl)
