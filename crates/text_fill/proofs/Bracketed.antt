@@ -18,9 +18,8 @@ use Rattle.text.specs.Write.{joined_t, process_t, located_t}
 use Rattle.text.specs.WellFormed.{Each, WellProcess, WellLocated}
 use Rattle.text.proofs.ReadBack.{located-longer}
 use Rattle.text.proofs.Unbounded.{the-less}
-use Rattle.text_words.specs.Bytes.{ended}
+use Rattle.text.specs.Grammar.Rest.{ok, bad}
 use Rattle.text_words.proofs.Positions.{bytes-fall}
-use Rattle.text_parts.proofs.Rests.{ended_is}
 use Rattle.table.specs.declared.Key.{Key}
 use Rattle.table.specs.Tests.{key_name}
 use Rattle.table.specs.Size.{size}
@@ -43,27 +42,27 @@ use Rattle.text_fill.proofs.Spreading.{spread-then, spread_none}
 use Rattle.table.specs.Words.{locs_at}
 
 -- ── a located process's parts ──
-module _ {s : List ℕ} {o : ℕ} (x : ProcessAt s o) {w u : List ℕ} {i l : ℕ} {r : Placed} (h : (y : PartAt s o) → PartPut s w u i no_scope r y.what y.left) (b : ℕ) (c : ended s b ≡ the bar (lex (drop r.end s)))
+module _ {s : List ℕ} {o : ℕ} (x : ProcessAt s o) {w u : List ℕ} {i l : ℕ} {r : Placed} (h : (y : PartAt s o) → PartPut s w u i no_scope r y.what y.left)
     {out out' : List (List ℕ)} {n m : ℕ} (few : n ≤ length out) (g : Spread out out' n m ((l ∷ i ∷ []) ∷ [])) where
-  pub outer-last : b ≡ 0 → {v : List ℕ} → v ≡ linked u i 0 r.low → OuterPut s w v i l out out' n (record { end = r.end; low = r.low; n = m }) x.what x.left
+  pub outer-last : bad ≡ the bar (lex (drop r.end s)) → {v : List ℕ} → v ≡ linked u i 0 r.low → OuterPut s w v i l out out' n (record { end = r.end; low = r.low; n = m }) x.what x.left
   unfolding part_spots process_t
-  outer-last z {v} e = record { placed = process-last x h b c z e; gathered = go₁ x.what x.well x.is }
+  outer-last c {v} e = record { placed = process-last x h c e; gathered = go₁ x.what x.well x.is }
     where
       go₁ : (p : Process) → WellProcess (settle_p p) → lex (drop o s) ≡ process_t p x.left → Spread out out' n m (part_spots l (settle_p p) i)
       go₁ (one a) f k = g
       go₁ (a ∥ p) f k =
           let y = h (record { what = a; left = sign bar ∷ process_t p x.left; is = k; well = f.0; over = refl }) in
-          absurd (peel-some s b bar y.left c z)
+          absurd (peel-some bar y.left c)
 
-  pub outer-more : (b ≡ 0 → ⊥) → (j : ℕ) → j ≡ r.low - 1 → {u' : List ℕ} {out'' : List (List ℕ)} {r' : Spotted} → ((y : ProcessAt s b) → OuterPut s u u' j l out' out'' m r' y.what y.left) → {v : List ℕ} → v ≡ linked u' i (j + 1) r'.low
+  pub outer-more : (b : ℕ) → ok tt (lex (drop b s)) ≡ the bar (lex (drop r.end s)) → (j : ℕ) → j ≡ r.low - 1 → {u' : List ℕ} {out'' : List (List ℕ)} {r' : Spotted} → ((y : ProcessAt s b) → OuterPut s u u' j l out' out'' m r' y.what y.left) → {v : List ℕ} → v ≡ linked u' i (j + 1) r'.low
       → OuterPut s w v i l out out'' n r' x.what x.left
   unfolding part_spots process_t
-  outer-more z j q {u'} {out''} {r'} h' {v} e = record { placed = process-more x h b c z j q (λ y. (h' y).placed) e; gathered = go₁ x.what x.well x.is }
+  outer-more b c j q {u'} {out''} {r'} h' {v} e = record { placed = process-more x h b c j q (λ y. (h' y).placed) e; gathered = go₁ x.what x.well x.is }
     where
       go₁ : (p : Process) → WellProcess (settle_p p) → lex (drop o s) ≡ process_t p x.left → Spread out out'' n r'.n (part_spots l (settle_p p) i)
       go₁ (one a) f k =
           let y = h (record { what = a; left = x.left; is = k; well = f; over = x.over }) in
-          absurd (false≢true (sym x.last ∙ ap (next bar) (sym y.left) ∙ sign-next s b bar (lex (drop r.end s)) c z))
+          absurd (false≢true (sym x.last ∙ ap (next bar) (sym y.left) ∙ sign-next s b bar (lex (drop r.end s)) c))
       go₁ (a ∥ p) f k =
           let y = h (record { what = a; left = sign bar ∷ process_t p x.left; is = k; well = f.0; over = refl }) in
           let y' = h' (record { what = p; left = x.left; is = peel-sign s b bar y.left c; well = f.1; over = x.over; last = x.last }) in
@@ -83,15 +82,20 @@ module _ {s : List ℕ} {o : ℕ} (x : LocatedAt s o) where
   pub located-word : lex (drop o s) ≡ word x.name ∷ after_name
   located-word = x.is
 
-  module _ (r : Named) (a : NameIs s r x.name after_name) (b : ℕ) (c : ended s b ≡ the left (lex (drop r.end s))) where
+  module _ (r : Named) (a : NameIs s r x.name after_name) where
+    pub no-left : bad ≡ the left (lex (drop r.end s)) → ⊥
+    no-left c = peel-some left a.left c
+
+  module _ (r : Named) (a : NameIs s r x.name after_name) (b : ℕ) (c : ok tt (lex (drop b s)) ≡ the left (lex (drop r.end s))) where
     pub body_at : ProcessAt s b
     body_at = record { what = x.body; left = sign right ∷ x.left; is = peel-sign s b left a.left c; well = x.well.1; over = refl; last = refl }
 
     module _ {w u v : List ℕ} {l i : ℕ} (d : Enlisted w u locs_at 1 r.key l) {out after : List (List ℕ)} {n : ℕ} (p : Spotted) (h : (y : ProcessAt s b) → OuterPut s u v i l out after n p y.what y.left) where
-      pub body-low : p.low ≤ suc i
-      body-low = let y = (h body_at).placed.low in omega arith
+      pub no-right : bad ≡ the right (lex (drop p.end s)) → ⊥
+      unfolding body_at
+      no-right f = peel-some right (h body_at).placed.left f
 
-      pub located-put : (e : ℕ) → ended s e ≡ the right (lex (drop p.end s)) → (q : ℕ) → q ≡ p.low - 1 → LocatedPut s w v i out after n (record { end = e; low = q; n = p.n }) x.name x.body x.left
+      pub located-put : (e : ℕ) → ok tt (lex (drop e s)) ≡ the right (lex (drop p.end s)) → (q : ℕ) → q ≡ p.low - 1 → LocatedPut s w v i out after n (record { end = e; low = q; n = p.n }) x.name x.body x.left
       unfolding put_located loc_number enter_loc body_at
       located-put e f q g =
           let y = h body_at in
@@ -143,7 +147,7 @@ module _ {s : List ℕ} {o here : ℕ} {w v : List ℕ} {i j : ℕ} {out after :
     well = rw (at-is g.rest.first) at g.rest.well.0;
   }
 
-  module _ (few : n ≤ length after) {v' : List ℕ} {after' : List (List ℕ)} (r : Spotted) (h : (y : LocatedAt s here) → LocatedPut s v v' j after after' n r y.name y.body y.left) (b : ℕ) (c : ended s b ≡ the bar (lex (drop r.end s))) where
+  module _ (few : n ≤ length after) {v' : List ℕ} {after' : List (List ℕ)} (r : Spotted) (h : (y : LocatedAt s here) → LocatedPut s v v' j after after' n r y.name y.body y.left) where
     put_first : LocatedPut s v v' j after after' n r (name_of g.rest.first) (body_of g.rest.first) (behind g.rest.more)
     unfolding going-at
     put_first = h going-at
@@ -166,24 +170,24 @@ module _ {s : List ℕ} {o here : ℕ} {w v : List ℕ} {i j : ℕ} {out after :
     pub place-small : j < 4_096 → r.low < 4_096
     place-small l = let p = put_first.place in omega arith
 
-    pub going_end : b ≡ 0 → NetworkPut w v' i out after' r.n (x.first ∷ x.more)
+    pub going_end : bad ≡ the bar (lex (drop r.end s)) → NetworkPut w v' i out after' r.n (x.first ∷ x.more)
     unfolding behind brackets spots
-    going_end z = go₁ g.rest.more refl
+    going_end c = go₁ g.rest.more refl
       where
         go₁ : (ys : List Located) → g.rest.more ≡ ys → NetworkPut w v' i out after' r.n (x.first ∷ x.more)
         go₁ [] q = record {
           script = sym (g.script ∙ ap (λ ys. brackets (map settle_at (g.rest.first ∷ ys)) j v) q ∙ first-script []);
           gathered = rw (g.spotted ∙ ap (λ ys. g.done ++ spots (map settle_at (g.rest.first ∷ ys)) j v) q ∙ ap (λ z. g.done ++ z) (first-spots [] ∙ append-nil here-spots)) gathered-now;
         }
-        go₁ (y ∷ ys) q = absurd (peel-some s b bar (put_first.left_is ∙ ap behind q) c z)
+        go₁ (y ∷ ys) q = absurd (peel-some bar (put_first.left_is ∙ ap behind q) c)
 
-    module _ (z : b ≡ 0 → ⊥) where
+    module _ (b : ℕ) (c : ok tt (lex (drop b s)) ≡ the bar (lex (drop r.end s))) where
       pub going_on : Going s o b w v' i r.low out after' r.n x
       unfolding behind
       going_on = go₁ g.rest.more refl g.rest.well.1
         where
           go₁ : (ys : List Located) → g.rest.more ≡ ys → Each WellLocated (map settle_at g.rest.more) → Going s o b w v' i r.low out after' r.n x
-          go₁ [] q l = absurd (false≢true (ap (next bar) (sym (put_first.left_is ∙ ap behind q)) ∙ sign-next s b bar (lex (drop r.end s)) c z))
+          go₁ [] q l = absurd (false≢true (ap (next bar) (sym (put_first.left_is ∙ ap behind q)) ∙ sign-next s b bar (lex (drop r.end s)) c))
           go₁ (y ∷ ys) q l = record {
             rest = record { first = y; more = ys; is = peel-sign s b bar (put_first.left_is ∙ ap behind q) c; well = rw q at l };
             script = g.script ∙ ap (λ ys. brackets (map settle_at (g.rest.first ∷ ys)) j v) q ∙ first-script (y ∷ ys);
@@ -194,4 +198,4 @@ module _ {s : List ℕ} {o here : ℕ} {w v : List ℕ} {i j : ℕ} {out after :
 
       pub going-falls : length s - b < length s - here
       going-falls =
-          bytes-fall s here b (omega (arith, ap length (g.rest.is ∙ behind-is g.rest.first g.rest.more), located-longer g.rest.first (behind g.rest.more), ap length put_first.left_is, the-less bar (lex (drop r.end s)) tt (lex (drop b s)) (sym c ∙ ended_is s b z)))
+          bytes-fall s here b (omega (arith, ap length (g.rest.is ∙ behind-is g.rest.first g.rest.more), located-longer g.rest.first (behind g.rest.more), ap length put_first.left_is, the-less bar (lex (drop r.end s)) tt (lex (drop b s)) (sym c)))

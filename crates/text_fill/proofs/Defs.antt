@@ -26,7 +26,8 @@ use Rattle.text.specs.WellFormed.{Is, Each, NonEmpty, WellProcess, WellDef}
 use Rattle.text.specs.Questions.{most, params, parameter_count, definition_count}
 use Rattle.text.proofs.ReadBack.{names, list_back, process-back, def-longer}
 use Rattle.text.proofs.Unbounded.{the-less}
-use Rattle.text_words.specs.Bytes.{ended, mapped}
+use Rattle.std.specs.Prelude.{Option, Some, None}
+use Rattle.text_words.specs.Bytes.{mapped}
 use Rattle.text_words.specs.Sorts.{fits}
 use Rattle.text_words.specs.declared.Field.TheVariants as field
 use Rattle.text_words.proofs.Positions.{bytes-fall}
@@ -36,7 +37,6 @@ use Rattle.text_parts.specs.Answers.{listed, sized, count_of}
 use Rattle.text_parts.specs.declared.Names.{Names}
 use Rattle.text_parts.specs.declared.Size.{Size}
 use Rattle.text.proofs.Exact.{clash}
-use Rattle.text_parts.proofs.Rests.{ended_is}
 use Rattle.table.specs.declared.Key.{Key}
 use Rattle.table.specs.Words.{row_size, name_at, defs_at, first_param, name_size}
 use Rattle.table.specs.Tests.{key_name}
@@ -50,9 +50,9 @@ use Rattle.text_build.specs.Put.{offsets, put}
 use Rattle.text_build.proofs.Places.{size_p-some}
 use Rattle.text_put.specs.declared.Named.{Named}
 use Rattle.text_put.specs.declared.Placed.{Placed}
-use Rattle.text_put.specs.Found.{NameIs}
+use Rattle.text_put.specs.Found.{Gives, NameIs}
 use Rattle.text_put.specs.Opened.{ProcessAt, ProcessPut}
-use Rattle.text_put.proofs.Peeling.{ended-ok, peel-sign, peel-some, sign-next}
+use Rattle.text_put.proofs.Peeling.{peel-sign, peel-some, sign-next}
 use Rattle.text_tree.specs.Pass.{put_params, put_head, heads, no_scope, enter_at, params_from, after_bodies}
 use Rattle.text_fill.specs.declared.Passed.{Passed}
 use Rattle.text_fill.specs.Ready.{Ready, tree_in, DefAt, NamesAt, ParamsAt, HeadPut, BodyPut, bodies_by, BodiesPut}
@@ -72,35 +72,39 @@ mutual
   process-size (one a) = part-size a
   process-size (a ∥ p) = let e = part-size a in let f = process-size p in omega arith
 
-mapped-inv : {A B : Type 0} (f : A → B) (x : Rest A) {b : B} {us : List Token} → mapped f x ≡ ok b us → {P : Type 0} → ((a : A) → x ≡ ok a us → f a ≡ b → P) → P
-mapped-inv f (ok a vs) {b} {us} e k = let j : vs ≡ us = cc in k a (ap (ok a) j) (cc)
-mapped-inv f bad e k = clash e
-
 -- a process that is skipped: where it ends, and how many parts it has
-module _ (s : List ℕ) (at : ℕ) (r : Size) (p : Process) (us : List Token) (well : WellProcess (settle_p p)) (over : next opens us ≡ false) (last : next bar us ≡ false) (is : lex (drop at s) ≡ process_t p us)
-    (e : sized s r ≡ mapped capped (process_counts (lex (drop at s)))) where
-  skip_is : sized s r ≡ ok (capped (process_count p)) us
+module _ (s : List ℕ) (at : ℕ) (p : Process) (us : List Token) (well : WellProcess (settle_p p)) (over : next opens us ≡ false) (last : next bar us ≡ false) (is : lex (drop at s) ≡ process_t p us) where
+  skip_is : mapped capped (process_counts (lex (drop at s))) ≡ ok (capped (process_count p)) us
   unfolding process_counts
-  skip_is = e ∙ ap (λ ts. mapped capped (mapped process_count (process ts))) is ∙ ap (λ x. mapped capped (mapped process_count x)) (process-back (2 * length (process_t p us) + 2) p us (omega arith) over last well)
+  skip_is = ap (λ ts. mapped capped (mapped process_count (process ts))) is ∙ ap (λ x. mapped capped (mapped process_count x)) (process-back (2 * length (process_t p us) + 2) p us (omega arith) over last well)
 
-  pub skip-left : lex (drop r.end s) ≡ us
-  unfolding sized
-  skip-left = mapped-inv (λ u. count_of r) (ended s r.end) skip_is (λ a g h. ended-ok s r.end g)
+  pub skip-some : bad ≡ mapped capped (process_counts (lex (drop at s))) → ⊥
+  skip-some e = clash (e ∙ skip_is)
 
-  pub skip-parts : r.parts ≡ min (size_p (settle_p p)) 4_097
-  unfolding sized
-  skip-parts = mapped-inv (λ u. count_of r) (ended s r.end) skip_is (λ a g h. ap (λ x. x.parts) h ∙ ap (λ n. min n 4_097) (process-size p))
+  module _ (r : Size) (e : sized s (Some r) ≡ mapped capped (process_counts (lex (drop at s)))) where
+    pub skip-left : lex (drop r.end s) ≡ us
+    skip-left = let h : ok (count_of r) (lex (drop r.end s)) ≡ ok (capped (process_count p)) us = e ∙ skip_is in cc
+
+    pub skip-parts : r.parts ≡ min (size_p (settle_p p)) 4_097
+    skip-parts =
+        let h : ok (count_of r) (lex (drop r.end s)) ≡ ok (capped (process_count p)) us = e ∙ skip_is in
+        let f : count_of r ≡ capped (process_count p) = cc in
+        ap (λ x. x.parts) f ∙ ap (λ n. min n 4_097) (process-size p)
 
 -- names in brackets: where they end, and how many there are
-module _ (s : List ℕ) (at : ℕ) (r : Names) (ns : List Name) (us : List Token) (well : Each (Is is_small) ns) (over : next opens us ≡ false) (is : lex (drop at s) ≡ list_t name_t ns us) (e : listed s r ≡ list_count (fits field.Small) (lex (drop at s))) where
-  list-is : listed s r ≡ ok (min (length ns) 5) us
-  list-is = e ∙ ap (λ ts. mapped (λ xs. min (length xs) 5) (list_of (named is_small) ts)) is ∙ ap (mapped (λ xs. min (length xs) 5)) (list_back (names is_small) ns us over well)
+module _ (s : List ℕ) (at : ℕ) (ns : List Name) (us : List Token) (well : Each (Is is_small) ns) (over : next opens us ≡ false) (is : lex (drop at s) ≡ list_t name_t ns us) where
+  list-is : list_count (fits field.Small) (lex (drop at s)) ≡ ok (min (length ns) 5) us
+  list-is = ap (λ ts. mapped (λ xs. min (length xs) 5) (list_of (named is_small) ts)) is ∙ ap (mapped (λ xs. min (length xs) 5)) (list_back (names is_small) ns us over well)
 
-  pub list_left : lex (drop r.end s) ≡ us
-  list_left = mapped-inv (λ u. r.count) (ended s r.end) list-is (λ a g h. ended-ok s r.end g)
+  pub list-some : bad ≡ list_count (fits field.Small) (lex (drop at s)) → ⊥
+  list-some e = clash (e ∙ list-is)
 
-  pub list-count : r.count ≡ min (length ns) 5
-  list-count = mapped-inv (λ u. r.count) (ended s r.end) list-is (λ a g h. h)
+  module _ (r : Names) (e : listed s (Some r) ≡ list_count (fits field.Small) (lex (drop at s))) where
+    pub list_left : lex (drop r.end s) ≡ us
+    list_left = let h : ok r.count (lex (drop r.end s)) ≡ ok (min (length ns) 5) us = e ∙ list-is in cc
+
+    pub list-count : r.count ≡ min (length ns) 5
+    list-count = let h : ok r.count (lex (drop r.end s)) ≡ ok (min (length ns) 5) us = e ∙ list-is in cc
 
 -- ── parameters, one after the other ──
 -- from here on stand those from the j-th on; what is left to write
@@ -129,25 +133,25 @@ module _ {s : List ℕ} {at here j : ℕ} {w v : List ℕ} {k : ℕ} {x : NamesA
   going-few = let h = g.rest.few in omega arith
 
   -- the first was read and written
-  module _ (r : Named) (a : NameIs s r g.rest.first (behind g.rest.more g.rest.left)) {v' : List ℕ} (b : v' ≡ sets v (first_param + k * row_size + j * name_size) (key_words r.key)) (e : ℕ) (c : ended s e ≡ the comma (lex (drop r.end s))) where
+  module _ (r : Named) (a : NameIs s r g.rest.first (behind g.rest.more g.rest.left)) {v' : List ℕ} (b : v' ≡ sets v (first_param + k * row_size + j * name_size) (key_words r.key)) where
     written : v' ≡ sets v (first_param + k * row_size + j * name_size) (key_words (key_of g.rest.first))
     written = b ∙ ap (λ x. sets v (first_param + k * row_size + j * name_size) (key_words x)) a.key
 
-    pub going_end : e ≡ 0 → v' ≡ put_params w k 0 (x.first ∷ x.more)
+    pub going_end : bad ≡ the comma (lex (drop r.end s)) → v' ≡ put_params w k 0 (x.first ∷ x.more)
     unfolding behind put_params
-    going_end z = go₁ g.rest.more refl
+    going_end c = go₁ g.rest.more refl
       where
         go₁ : (ys : List Name) → g.rest.more ≡ ys → v' ≡ put_params w k 0 (x.first ∷ x.more)
         go₁ [] i = written ∙ sym (g.writes ∙ ap (λ ys. put_params v k j (g.rest.first ∷ ys)) i)
-        go₁ (y ∷ ys) i = absurd (peel-some s e comma (a.left ∙ ap (λ ys. behind ys g.rest.left) i) c z)
+        go₁ (y ∷ ys) i = absurd (peel-some comma (a.left ∙ ap (λ ys. behind ys g.rest.left) i) c)
 
-    module _ (z : e ≡ 0 → ⊥) where
+    module _ (e : ℕ) (c : ok tt (lex (drop e s)) ≡ the comma (lex (drop r.end s))) where
       pub going_on : Going s at e (j + 1) w v' k x
       unfolding behind put_params
       going_on = go₁ g.rest.more refl
         where
           go₁ : (ys : List Name) → g.rest.more ≡ ys → Going s at e (j + 1) w v' k x
-          go₁ [] i = absurd (false≢true (ap (next comma) (sym (a.left ∙ ap (λ ys. behind ys g.rest.left) i)) ∙ sign-next s e comma (lex (drop r.end s)) c z))
+          go₁ [] i = absurd (false≢true (ap (next comma) (sym (a.left ∙ ap (λ ys. behind ys g.rest.left) i)) ∙ sign-next s e comma (lex (drop r.end s)) c))
           go₁ (y ∷ ys) i =
               let h = ap length i in
               let f = g.rest.few in
@@ -157,38 +161,40 @@ module _ {s : List ℕ} {at here j : ℕ} {w v : List ℕ} {k : ℕ} {x : NamesA
               }
 
       pub going-falls : length s - e < length s - here
-      going-falls = bytes-fall s here e (omega (arith, ap length going-word, ap length a.left, the-less comma (lex (drop r.end s)) tt (lex (drop e s)) (sym c ∙ ended_is s e z)))
+      going-falls = bytes-fall s here e (omega (arith, ap length going-word, ap length a.left, the-less comma (lex (drop r.end s)) tt (lex (drop e s)) (sym c)))
 
 -- ── nothing, or parameters in brackets ──
-module _ (s : List ℕ) (at : ℕ) (x : ParamsAt s at) (o : ℕ) (e : ended s o ≡ the opens (lex (drop at s))) where
-  unlisted : x.what ≡ [] → (o ≡ 0 → ⊥) → ⊥
-  unlisted j z = false≢true (sym x.over ∙ ap (next opens) (sym (x.is ∙ ap (λ ys. list_t name_t ys x.left) j)) ∙ sign-next s o opens (lex (drop at s)) e z)
-
-  names-at : (y : Name) (ys : List Name) → x.what ≡ y ∷ ys → NamesAt s o 0
-  names-at y ys j = record { first = y; more = ys; left = x.left; is = peel-sign s o opens (x.is ∙ ap (λ ys. list_t name_t ys x.left) j) e; few = let h = ap length j in let f = x.few in omega arith }
-
-  pub params_none : o ≡ 0 → (w : List ℕ) (k : ℕ) → w ≡ put_params w k 0 x.what
+module _ (s : List ℕ) (at : ℕ) (x : ParamsAt s at) where
+  pub params_none : bad ≡ the opens (lex (drop at s)) → (w : List ℕ) (k : ℕ) → w ≡ put_params w k 0 x.what
   unfolding put_params
-  params_none z w k = go₁ x.what refl
+  params_none e w k = go₁ x.what refl
     where
       go₁ : (ys : List Name) → x.what ≡ ys → w ≡ put_params w k 0 ys
       go₁ [] j = refl
-      go₁ (y ∷ ys) j = absurd (peel-some s o opens (x.is ∙ ap (λ ys. list_t name_t ys x.left) j) e z)
+      go₁ (y ∷ ys) j = absurd (peel-some opens (x.is ∙ ap (λ ys. list_t name_t ys x.left) j) e)
 
-  pub params-some : (o ≡ 0 → ⊥) → NamesAt s o 0
-  params-some z = go₁ x.what refl
-    where
-      go₁ : (ys : List Name) → x.what ≡ ys → NamesAt s o 0
-      go₁ [] j = absurd (unlisted j z)
-      go₁ (y ∷ ys) j = names-at y ys j
+  module _ (o : ℕ) (e : ok tt (lex (drop o s)) ≡ the opens (lex (drop at s))) where
+    unlisted : x.what ≡ [] → ⊥
+    unlisted j = false≢true (sym x.over ∙ ap (next opens) (sym (x.is ∙ ap (λ ys. list_t name_t ys x.left) j)) ∙ sign-next s o opens (lex (drop at s)) e)
 
-  pub params_are : (o ≡ 0 → ⊥) → (w v : List ℕ) (k : ℕ) → ((y : NamesAt s o 0) → v ≡ put_params w k 0 (y.first ∷ y.more)) → v ≡ put_params w k 0 x.what
-  unfolding names-at
-  params_are z w v k h = go₁ x.what refl
-    where
-      go₁ : (ys : List Name) → x.what ≡ ys → v ≡ put_params w k 0 ys
-      go₁ [] j = absurd (unlisted j z)
-      go₁ (y ∷ ys) j = h (names-at y ys j)
+    names-at : (y : Name) (ys : List Name) → x.what ≡ y ∷ ys → NamesAt s o 0
+    names-at y ys j = record { first = y; more = ys; left = x.left; is = peel-sign s o opens (x.is ∙ ap (λ ys. list_t name_t ys x.left) j) e; few = let h = ap length j in let f = x.few in omega arith }
+
+    pub params-some : NamesAt s o 0
+    params-some = go₁ x.what refl
+      where
+        go₁ : (ys : List Name) → x.what ≡ ys → NamesAt s o 0
+        go₁ [] j = absurd (unlisted j)
+        go₁ (y ∷ ys) j = names-at y ys j
+
+    pub params_are : (w v : List ℕ) (k : ℕ) (r : Option (Unit {0})) → ((y : NamesAt s o 0) → Gives (λ u. v ≡ put_params w k 0 (y.first ∷ y.more)) r) → Gives (λ u. v ≡ put_params w k 0 x.what) r
+    unfolding names-at
+    params_are w v k None h = h params-some
+    params_are w v k (Some u) h = go₁ x.what refl
+      where
+        go₁ : (ys : List Name) → x.what ≡ ys → v ≡ put_params w k 0 ys
+        go₁ [] j = absurd (unlisted j)
+        go₁ (y ∷ ys) j = h (names-at y ys j)
 
 -- ── the scope of a body ──
 module _ (w : List ℕ) (sc : Scope) (o : ℕ) (k : Key) (e : key_name k ≡ name_at w o) (j : ℕ) (f : j ≡ index (scope_names w (offsets sc)) (key_name k)) where
@@ -243,51 +249,64 @@ module _ {s : List ℕ} {at : ℕ} (x : DefAt s at) where
   def-word = x.is
 
   module _ (r : Named) (a : NameIs s r x.name after_name) where
-    pub name-later : 0 < r.end
-    name-later = let f = bytes-fall s at r.end (omega (arith, ap length x.is, ap length a.left)) in omega arith
-
     unfoldable pub params-at : ParamsAt s r.end
     params-at = record { what = x.params; left = sign equals ∷ process_t x.body (sign dot ∷ x.left); is = a.left; over = refl; few = x.few }
 
-    module _ (n : Names) (b : listed s n ≡ list_count (fits field.Small) (lex (drop r.end s))) where
+    pub no-list : bad ≡ list_count (fits field.Small) (lex (drop r.end s)) → ⊥
+    no-list = list-some s r.end x.params _ x.well.1 refl a.left
+
+    module _ (n : Names) (b : listed s (Some n) ≡ list_count (fits field.Small) (lex (drop r.end s))) where
       pub param-count : n.count ≡ length x.params
-      param-count = let f = x.few in list-count s r.end n x.params _ x.well.1 refl a.left b ∙ omega arith
+      param-count = let f = x.few in list-count s r.end x.params _ x.well.1 refl a.left n b ∙ omega arith
 
       body-left : lex (drop n.end s) ≡ sign equals ∷ process_t x.body (sign dot ∷ x.left)
-      body-left = list_left s r.end n x.params _ x.well.1 refl a.left b
+      body-left = list_left s r.end x.params _ x.well.1 refl a.left n b
 
-      module _ (e : ℕ) (c : ended s e ≡ the equals (lex (drop n.end s))) where
+      pub no-equals : bad ≡ the equals (lex (drop n.end s)) → ⊥
+      no-equals c = peel-some equals body-left c
+
+      module _ (e : ℕ) (c : ok tt (lex (drop e s)) ≡ the equals (lex (drop n.end s))) where
         pub body_at : ProcessAt s e
         body_at = record { what = x.body; left = sign dot ∷ x.left; is = peel-sign s e equals body-left c; well = x.well.2; over = refl; last = refl }
 
         -- the body is skipped
-        pub head-put : {w u v : List ℕ} (k i : ℕ) → u ≡ sets w (defs_at + k * row_size) (n.count ∷ i ∷ key_words r.key) → v ≡ put_params u k 0 x.params → (p : Size) → sized s p ≡ mapped capped (process_counts (lex (drop e s)))
-            → (d : ℕ) → ended s d ≡ the dot (lex (drop p.end s)) → (q : ℕ) → i < 4_096 → q ≡ i - p.parts → HeadPut s w v k i (record { end = d; place = q }) x.name x.params x.body x.left
-        unfolding put_head body_at
-        head-put {w} {u} {v} k i f g p h d j q small l =
-            let y = body_at in
-            let m = skip-parts s e p x.body (sign dot ∷ x.left) x.well.2 refl refl y.is h in
-            record {
-              left_is = peel-sign s d dot (skip-left s e p x.body (sign dot ∷ x.left) x.well.2 refl refl y.is h) j;
-              after = g ∙ ap (λ z. put_params z k 0 x.params) (f ∙ ap (λ z. sets w (defs_at + k * row_size) (z ∷ i ∷ key_words r.key)) param-count ∙ ap (λ z. sets w (defs_at + k * row_size) (length x.params ∷ i ∷ key_words z)) a.key);
-              place = l ∙ omega arith;
-            }
+        pub no-body : bad ≡ mapped capped (process_counts (lex (drop e s))) → ⊥
+        no-body = skip-some s e x.body (sign dot ∷ x.left) x.well.2 refl refl (peel-sign s e equals body-left c)
+
+        module _ (p : Size) (h : sized s (Some p) ≡ mapped capped (process_counts (lex (drop e s)))) where
+          skipped : lex (drop p.end s) ≡ sign dot ∷ x.left
+          skipped = skip-left s e x.body (sign dot ∷ x.left) x.well.2 refl refl (peel-sign s e equals body-left c) p h
+
+          pub head-no-dot : bad ≡ the dot (lex (drop p.end s)) → ⊥
+          head-no-dot j = peel-some dot skipped j
+
+          pub head-put : {w u v : List ℕ} (k i : ℕ) → u ≡ sets w (defs_at + k * row_size) (n.count ∷ i ∷ key_words r.key) → v ≡ put_params u k 0 x.params
+              → (d : ℕ) → ok tt (lex (drop d s)) ≡ the dot (lex (drop p.end s)) → (q : ℕ) → i < 4_096 → q ≡ i - p.parts → HeadPut s w v k i (record { end = d; place = q }) x.name x.params x.body x.left
+          unfolding put_head
+          head-put {w} {u} {v} k i f g d j q small l =
+              let m = skip-parts s e x.body (sign dot ∷ x.left) x.well.2 refl refl (peel-sign s e equals body-left c) p h in
+              record {
+                left_is = peel-sign s d dot skipped j;
+                after = g ∙ ap (λ z. put_params z k 0 x.params) (f ∙ ap (λ z. sets w (defs_at + k * row_size) (z ∷ i ∷ key_words r.key)) param-count ∙ ap (λ z. sets w (defs_at + k * row_size) (length x.params ∷ i ∷ key_words z)) a.key);
+                place = l ∙ omega arith;
+              }
 
         -- the body is put
-        pub body-put : {w v : List ℕ} (k i : ℕ) (sc : Scope) → sc ≡ params_from w k 0 n.count no_scope → (p : Placed) → ((y : ProcessAt s e) → ProcessPut s w v i sc p y.what y.left)
-            → (d : ℕ) → ended s d ≡ the dot (lex (drop p.end s)) → (q : ℕ) → q ≡ p.low - 1 → BodyPut s w v k i (record { end = d; place = q }) x.params x.body x.left
-        unfolding body_at
-        body-put {w} {v} k i sc f p h d j q l =
-            let y = h body_at in
-            let m = size_p-some (settle_p x.body) in
-            record {
-              left_is = peel-sign s d dot y.left j;
-              after = y.after ∙ ap (λ z. put (settle_p x.body) i z w) (f ∙ ap (λ z. params_from w k 0 z no_scope) param-count);
-              place = l ∙ ap (λ z. z - 1) y.low ∙ omega arith;
-            }
+        module _ {w v : List ℕ} {i : ℕ} {sc : Scope} (p : Placed) (h : (y : ProcessAt s e) → ProcessPut s w v i sc p y.what y.left) where
+          pub body-no-dot : bad ≡ the dot (lex (drop p.end s)) → ⊥
+          unfolding body_at
+          body-no-dot j = peel-some dot (h body_at).left j
 
-        pub body-low : {w v : List ℕ} {i : ℕ} {sc : Scope} (p : Placed) → ((y : ProcessAt s e) → ProcessPut s w v i sc p y.what y.left) → p.low ≤ suc i
-        body-low p h = let y = (h body_at).low in omega arith
+          pub body-put : (k : ℕ) → sc ≡ params_from w k 0 n.count no_scope → (d : ℕ) → ok tt (lex (drop d s)) ≡ the dot (lex (drop p.end s)) → (q : ℕ) → q ≡ p.low - 1 → BodyPut s w v k i (record { end = d; place = q }) x.params x.body x.left
+          unfolding body_at
+          body-put k f d j q l =
+              let y = h body_at in
+              let m = size_p-some (settle_p x.body) in
+              record {
+                left_is = peel-sign s d dot y.left j;
+                after = y.after ∙ ap (λ z. put (settle_p x.body) i z w) (f ∙ ap (λ z. params_from w k 0 z no_scope) param-count);
+                place = l ∙ ap (λ z. z - 1) y.low ∙ omega arith;
+              }
 
 -- ── all definitions ──
 -- from here on stand the definitions from number k on, then the network of ls

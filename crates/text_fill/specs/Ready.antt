@@ -76,6 +76,11 @@ pub record BodiesPut (s w v : List ℕ) (i : ℕ) (r : Passed) (x : Text) : Type
   pub after : v ≡ bodies_by (settled x).defs 0 i w
   pub place : r.place ≡ after_bodies (settled x).defs i
 
+-- the three passes, the first part at i
+pub record AllPut (w v : List ℕ) (i : ℕ) (out after : List (List ℕ)) (r : ℕ) (t : Tree) : Type 0 where
+  pub script : v ≡ brackets t.located (after_bodies t.defs i) (bodies_by t.defs 0 i (heads t.defs 0 i w))
+  pub gathered : Spread out after 0 r (spots t.located (after_bodies t.defs i) (bodies_by t.defs 0 i (heads t.defs 0 i w)))
+
 -- the three passes, into the script w
 abbrev pub defined : List ℕ → ℕ → ℕ → Tree → List ℕ
 defined w parts n t = bodies_by t.defs 0 (parts - 1) (heads t.defs 0 (parts - 1) (set (set w 0 parts) 3 n))

@@ -15,12 +15,13 @@
 // proofs/Keeping    what each write of the passes keeps, all of them keep
 // proofs/Quiet      what the passes leave as it was below the rows
 // proofs/Beyond     and behind the last row
-#![tactic(auto)]
+#![tactic(auto, unfolding(text::specs::Tokens::lex_from, terms::specs::Characters::class_of))]
 
-ghost use Rattle.std.specs.Prelude.{◌≤◌};
-ghost use Rattle.text_fill.specs.Ready.{Ready, tree_in, Filled};
+ghost use Rattle.std.specs.Prelude.{◌≤◌, ◌<◌};
+ghost use Rattle.text_put.specs.Found.{Gives};
+ghost use Rattle.text_fill.specs.Ready.{Ready, tree_in, AllPut, Filled};
 
-use definitions::{less, put_bodies, put_heads};
+use definitions::{put_bodies, put_heads};
 use network::put_network;
 use table::Script;
 
@@ -42,15 +43,22 @@ pub struct Spotted {
     pub n: usize,
 }
 
-// The three passes over a text, into a script with zeros up to the last row: how many components there are.
+// The three passes over a text, its first part at i: how many components there are.
+fn passes(s: &[u8], w: &mut Script, i: usize, out: &mut [[u32; 2]]) -> Option<usize>
+    requires { (i < 4096) × Ready s.now }
+    ensures { (x : Ready s.now) → Gives (λ n. AllPut w.old w.new i out.old out.new n (tree_in x)) result }
+{
+    put_heads(s, w, i)?;
+    let b = put_bodies(s, w, i)?;
+    put_network(s, b.end, w, b.place, out)
+}
+
+// The same, into a script with zeros up to the last row.
 pub fn fill(s: &[u8], parts: usize, defs: usize, w: &mut Script, out: &mut [[u32; 2]]) -> usize
     requires { (parts ≤ 4096) × (defs ≤ 32) × Ready s.now }
     ensures { (x : Ready s.now) → Filled w.old w.new parts defs out.old out.new result (tree_in x) }
 {
     w[0] = parts as u32;
     w[3] = defs as u32;
-    let i = less(parts, 1);
-    put_heads(s, w, i);
-    let b = put_bodies(s, w, i);
-    put_network(s, b.end, w, b.place, out)
+    passes(s, w, parts.saturating_sub(1), out).unwrap_or(0)
 }

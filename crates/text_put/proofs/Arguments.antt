@@ -23,10 +23,10 @@ use Rattle.table.specs.Valid.{index}
 use Rattle.table.proofs.Fires.{get_d_map}
 use Rattle.table.proofs.ValidLists.{index-hit, index-none}
 use Rattle.text.proofs.Unbounded.{the-less}
-use Rattle.text_words.specs.Bytes.{ended}
+use Rattle.std.specs.Prelude.{Option, Some, None}
+use Rattle.text.specs.Grammar.Rest.{ok, bad}
 use Rattle.text_words.proofs.Positions.{bytes-fall}
 use Rattle.text_words.proofs.WordSorts.{location-first, small-not-capital}
-use Rattle.text_parts.proofs.Rests.{ended_is}
 use Rattle.text_build.specs.declared.Scope.{Scope}
 use Rattle.text_build.specs.Keys.{key_of}
 use Rattle.text_build.specs.Tables.{held_in, number_in, key_words, Enlisted}
@@ -35,7 +35,7 @@ use Rattle.text_build.specs.Put.{offsets, slot_of, loc_number, enter_loc, value_
 use Rattle.text_build.proofs.Tables.{index-within, number-within}
 use Rattle.text_put.specs.declared.Named.{Named}
 use Rattle.text_put.specs.declared.Args.{Args}
-use Rattle.text_put.specs.Found.{NameIs, name_of, is_loc, number_by, enter_by, ValueBy, with_word, ValuesAt, values_of, ListAt, ArgsAre}
+use Rattle.text_put.specs.Found.{Gives, NameIs, name_of, is_loc, number_by, enter_by, ValueBy, with_word, ValuesAt, values_of, ListAt, ArgsAre}
 use Rattle.text_put.proofs.Peeling.{peel-sign, peel-some, sign-next}
 
 -- ── slots ──
@@ -156,8 +156,7 @@ module _ {s : List ℕ} {here : ℕ} {w u : List ℕ} {sc : Scope} {n : ℕ} {k 
   going-word = g.is ∙ behind-is g.first g.more us
 
   -- the first value was read: what stands behind it, its number and the script with it entered
-  module _ (r : Named) (a : NameIs s r (name_of g.first) (behind g.more us)) {m : ℕ} {u' : List ℕ} (b : ValueBy u u' sc r.key r.capital m) (k' : Key) (p : k' ≡ with_word k n m) (n' : ℕ) (q : n' ≡ min (n + 1) 5)
-      (e : ℕ) (c : ended s e ≡ the comma (lex (drop r.end s))) where
+  module _ (r : Named) (a : NameIs s r (name_of g.first) (behind g.more us)) {m : ℕ} {u' : List ℕ} (b : ValueBy u u' sc r.key r.capital m) (k' : Key) (p : k' ≡ with_word k n m) (n' : ℕ) (q : n' ≡ min (n + 1) 5) where
     number-now : m ≡ value_number u sc g.first
     number-now = value-is g.first g.well.0 a.key a.capital b
 
@@ -165,14 +164,14 @@ module _ {s : List ℕ} {here : ℕ} {w u : List ℕ} {sc : Scope} {n : ℕ} {k 
     after-now = value_after g.first g.well.0 a.key a.capital b
 
     -- no comma: it was the last
-    pub going_end : e ≡ 0 → (f : ℕ) → ended s f ≡ the closes (lex (drop r.end s)) → (t : Args) → t ≡ record { end = f; n = n'; first = k' } → ArgsAre s w u' sc t xs us
+    pub going_end : bad ≡ the comma (lex (drop r.end s)) → (f : ℕ) → ok tt (lex (drop f s)) ≡ the closes (lex (drop r.end s)) → ArgsAre s w u' sc (record { end = f; n = n'; first = k' }) xs us
     unfolding behind arg_numbers enter_values
-    going_end z f d t i = rw i (go g.more refl)
+    going_end c f d = go g.more refl
       where
         go : (vs : List Value) → g.more ≡ vs → ArgsAre s w u' sc (record { end = f; n = n'; first = k' }) xs us
         go (v ∷ vs) j =
             let l : lex (drop r.end s) ≡ sign comma ∷ joined_t comma value_t v vs (sign closes ∷ us) = a.left ∙ ap (λ ys. behind ys us) j in
-            absurd (peel-some s e comma l c z)
+            absurd (peel-some comma l c)
         go [] j =
             let l : lex (drop r.end s) ≡ sign closes ∷ us = a.left ∙ ap (λ ys. behind ys us) j in
             record {
@@ -182,7 +181,16 @@ module _ {s : List ℕ} {here : ℕ} {w u : List ℕ} {sc : Scope} {n : ℕ} {k 
               after = sym (g.enters ∙ ap (λ ys. enter_values u (g.first ∷ ys)) j ∙ sym after-now);
             }
 
-    module _ (z : e ≡ 0 → ⊥) where
+    -- and then the bracket is there
+    pub going-closes : bad ≡ the comma (lex (drop r.end s)) → bad ≡ the closes (lex (drop r.end s)) → ⊥
+    unfolding behind
+    going-closes c d = go g.more refl
+      where
+        go : (vs : List Value) → g.more ≡ vs → ⊥
+        go (v ∷ vs) j = peel-some comma (a.left ∙ ap (λ ys. behind ys us) j) c
+        go [] j = peel-some closes (a.left ∙ ap (λ ys. behind ys us) j) d
+
+    module _ (e : ℕ) (c : ok tt (lex (drop e s)) ≡ the comma (lex (drop r.end s))) where
       pub going_on : Going s e w u' sc n' k' xs us
       unfolding behind arg_numbers enter_values
       going_on = go g.more refl
@@ -190,7 +198,7 @@ module _ {s : List ℕ} {here : ℕ} {w u : List ℕ} {sc : Scope} {n : ℕ} {k 
           go : (vs : List Value) → g.more ≡ vs → Going s e w u' sc n' k' xs us
           go [] j =
               let l : lex (drop r.end s) ≡ sign closes ∷ us = a.left ∙ ap (λ ys. behind ys us) j in
-              absurd (false≢true (ap (next comma) (sym l) ∙ sign-next s e comma (lex (drop r.end s)) c z))
+              absurd (false≢true (ap (next comma) (sym l) ∙ sign-next s e comma (lex (drop r.end s)) c))
           go (v ∷ vs) j =
               let l : lex (drop r.end s) ≡ sign comma ∷ joined_t comma value_t v vs (sign closes ∷ us) = a.left ∙ ap (λ ys. behind ys us) j in
               record {
@@ -210,35 +218,37 @@ module _ {s : List ℕ} {here : ℕ} {w u : List ℕ} {sc : Scope} {n : ℕ} {k 
 
       pub going-falls : length s - e < length s - here
       going-falls =
-          bytes-fall s here e (omega (arith, ap length going-word, ap length a.left, the-less comma (lex (drop r.end s)) tt (lex (drop e s)) (sym c ∙ ended_is s e z)))
+          bytes-fall s here e (omega (arith, ap length going-word, ap length a.left, the-less comma (lex (drop r.end s)) tt (lex (drop e s)) (sym c)))
 
 -- ── nothing, or values in brackets ──
-module _ (s : List ℕ) (at : ℕ) (x : ListAt s at) (a : ℕ) (e : ended s a ≡ the opens (lex (drop at s))) where
-  pub list-empty : a ≡ 0 → (w : List ℕ) (sc : Scope) (r : Args) → r ≡ record { end = at; n = 0; first = record { a = 0; b = 0; c = 0; d = 0 } } → ArgsAre s w w sc r x.what x.left
+module _ (s : List ℕ) (at : ℕ) (x : ListAt s at) where
+  pub list-empty : bad ≡ the opens (lex (drop at s)) → (w : List ℕ) (sc : Scope) → ArgsAre s w w sc (record { end = at; n = 0; first = record { a = 0; b = 0; c = 0; d = 0 } }) x.what x.left
   unfolding arg_numbers enter_values
-  list-empty z w sc r i = rw i (go x.what refl)
+  list-empty e w sc = go x.what refl
     where
       go : (vs : List Value) → x.what ≡ vs → ArgsAre s w w sc (record { end = at; n = 0; first = record { a = 0; b = 0; c = 0; d = 0 } }) vs x.left
       go [] j = record { left = x.is ∙ ap (λ ys. list_t value_t ys x.left) j; count = refl; words = refl; after = refl }
-      go (v ∷ vs) j = absurd (peel-some s a opens (x.is ∙ ap (λ ys. list_t value_t ys x.left) j) e z)
+      go (v ∷ vs) j = absurd (peel-some opens (x.is ∙ ap (λ ys. list_t value_t ys x.left) j) e)
 
-  unlisted : x.what ≡ [] → (a ≡ 0 → ⊥) → ⊥
-  unlisted j z = false≢true (sym x.over ∙ ap (next opens) (sym (x.is ∙ ap (λ ys. list_t value_t ys x.left) j)) ∙ sign-next s a opens (lex (drop at s)) e z)
+  module _ (a : ℕ) (e : ok tt (lex (drop a s)) ≡ the opens (lex (drop at s))) where
+    unlisted : x.what ≡ [] → ⊥
+    unlisted j = false≢true (sym x.over ∙ ap (next opens) (sym (x.is ∙ ap (λ ys. list_t value_t ys x.left) j)) ∙ sign-next s a opens (lex (drop at s)) e)
 
-  values-at : (v : Value) (vs : List Value) → x.what ≡ v ∷ vs → ValuesAt s a
-  values-at v vs j = record { first = v; more = vs; left = x.left; is = peel-sign s a opens (x.is ∙ ap (λ ys. list_t value_t ys x.left) j) e; well = rw j at x.well }
+    values-at : (v : Value) (vs : List Value) → x.what ≡ v ∷ vs → ValuesAt s a
+    values-at v vs j = record { first = v; more = vs; left = x.left; is = peel-sign s a opens (x.is ∙ ap (λ ys. list_t value_t ys x.left) j) e; well = rw j at x.well }
 
-  pub list-some : (a ≡ 0 → ⊥) → ValuesAt s a
-  list-some z = go x.what refl
-    where
-      go : (vs : List Value) → x.what ≡ vs → ValuesAt s a
-      go [] j = absurd (unlisted j z)
-      go (v ∷ vs) j = values-at v vs j
+    pub list-some : ValuesAt s a
+    list-some = go x.what refl
+      where
+        go : (vs : List Value) → x.what ≡ vs → ValuesAt s a
+        go [] j = absurd (unlisted j)
+        go (v ∷ vs) j = values-at v vs j
 
-  pub list-is : (z : a ≡ 0 → ⊥) (w u : List ℕ) (sc : Scope) (r : Args) → ((y : ValuesAt s a) → ArgsAre s w u sc r (values_of y) y.left) → ArgsAre s w u sc r x.what x.left
-  unfolding values-at
-  list-is z w u sc r k = go x.what refl
-    where
-      go : (vs : List Value) → x.what ≡ vs → ArgsAre s w u sc r vs x.left
-      go [] j = absurd (unlisted j z)
-      go (v ∷ vs) j = k (values-at v vs j)
+    pub list-is : (w u : List ℕ) (sc : Scope) (r : Option Args) → ((y : ValuesAt s a) → Gives (λ r. ArgsAre s w u sc r (values_of y) y.left) r) → Gives (λ r. ArgsAre s w u sc r x.what x.left) r
+    unfolding values-at
+    list-is w u sc None k = k list-some
+    list-is w u sc (Some r) k = go x.what refl
+      where
+        go : (vs : List Value) → x.what ≡ vs → ArgsAre s w u sc r vs x.left
+        go [] j = absurd (unlisted j)
+        go (v ∷ vs) j = k (values-at v vs j)

@@ -36,7 +36,10 @@ use Rattle.text_build.proofs.Tables.{number-within}
 use Rattle.text_put.specs.declared.Pair.{Pair}
 use Rattle.text_put.specs.declared.Front.{Front}
 use Rattle.text_put.specs.declared.Args.{Args}
-use Rattle.text_put.specs.Found.{PairIs, FrontIs, name_of, ValueBy, entered_by, marked_by, Marked, ListAt, ArgsAre}
+use Rattle.std.specs.Prelude.{Option}
+use Rattle.text_put.specs.declared.Open.{Open}
+use Rattle.text_put.specs.Found.{Gives, PairIs, FrontIs, name_of, ValueBy, entered_by, marked_by, Marked, ListAt, ArgsAre}
+use Rattle.text_parts.specs.declared.Form.TheVariants.{Leaf, One, Two}
 use Rattle.text_put.specs.Opened.{PartAt, TailAt, rest, head_name, tail_t, OpenIs}
 use Rattle.text_put.proofs.Arguments.{slot-few, value-is, value_after}
 
@@ -75,35 +78,35 @@ chan-few {w} {k = k} e = omega (arith, e.place, number-within w chans_at (held_i
 
 -- ── each form ──
 module _ (s w v : List ℕ) (i : ℕ) (sc : Scope) (us : List Token) (pl : ℕ) (q : pl ≡ i - 1) where
-  pub stop-open : (at : ℕ) → lex (drop at s) ≡ us → (nk : Key) → nk ≡ no_words → v ≡ sets w (parts_at + i * row_size + kind_field) (row_words 0 0 0 0 0 sc (key_words nk)) → OpenIs s w v i sc (record { end = at; kind = 0; inner = sc }) stop us
+  pub stop-open : (at : ℕ) → lex (drop at s) ≡ us → (nk : Key) → nk ≡ no_words → v ≡ sets w (parts_at + i * row_size + kind_field) (row_words 0 0 0 0 0 sc (key_words nk)) → OpenIs s w v i sc (record { end = at; form = Leaf; inner = sc }) stop us
   unfolding opened enter_part row_of
-  stop-open at g nk z e = record { left = g; kind = refl; inner = refl; after = e ∙ rw z }
+  stop-open at g nk z e = record { left = g; form = refl; inner = refl; after = e ∙ rw z }
 
   pub go-open : (t : Span) (x : Value) (p : Process) → WellPart (settle (go t x p)) → (r : Pair) → PairIs s r t (name_of x) (rest (go t x p) us) → {u : List ℕ} {m : ℕ} → ValueBy w u sc r.key r.capital m
-      → (nk : Key) → nk ≡ no_words → v ≡ sets u (parts_at + i * row_size + kind_field) (row_words 1 0 r.t m pl sc (key_words nk)) → OpenIs s w v i sc (record { end = r.end; kind = 1; inner = sc }) (go t x p) us
+      → (nk : Key) → nk ≡ no_words → v ≡ sets u (parts_at + i * row_size + kind_field) (row_words 1 0 r.t m pl sc (key_words nk)) → OpenIs s w v i sc (record { end = r.end; form = One; inner = sc }) (go t x p) us
   unfolding opened enter_part row_of
   go-open t x p f r a b nk z e = record {
     left = a.left;
-    kind = refl;
+    form = refl;
     inner = refl;
     after = e ∙ rw (value_after x f.1 a.key a.capital b, a.timer, value-is x f.1 a.key a.capital b, q, z);
   }
 
   pub out-open : (c : Name) (t : Span) (x : Value) (p p' : Process) → WellPart (settle (out c t x p p')) → (r : Front) → FrontIs s r c t (name_of x) (rest (out c t x p p') us) → {u u' : List ℕ} {m n : ℕ} → Enlisted w u chans_at 2 r.chan n → ValueBy u u' sc r.key r.capital m
-      → (nk : Key) → nk ≡ no_words → v ≡ sets u' (parts_at + i * row_size + kind_field) (row_words 2 n r.t m pl sc (key_words nk)) → OpenIs s w v i sc (record { end = r.end; kind = 2; inner = sc }) (out c t x p p') us
+      → (nk : Key) → nk ≡ no_words → v ≡ sets u' (parts_at + i * row_size + kind_field) (row_words 2 n r.t m pl sc (key_words nk)) → OpenIs s w v i sc (record { end = r.end; form = Two; inner = sc }) (out c t x p p') us
   unfolding opened enter_part row_of chan_number enter_chan
   out-open c t x p p' f r a {u} d b nk z e =
       let g : u ≡ enlist w chans_at 2 (key_of c) = d.after ∙ ap (enlist w chans_at 2) a.chan in
       record {
         left = a.left;
-        kind = refl;
+        form = refl;
         inner = refl;
         after = e ∙ rw (value_after x f.2 a.key a.capital b, a.timer, value-is x f.2 a.key a.capital b, q, z, d.place, a.chan, g);
       }
 
   pub in-open : (c : Name) (t : Span) (y : Name) (p p' : Process) (r : Front) → FrontIs s r c t y (rest (inp c t y p p') us) → {j : ℕ} → j ≡ index (scope_names w (offsets sc)) (key_name r.key) → (k : Scope) → k ≡ entered_by sc i j
       → {u u' : List ℕ} {m n : ℕ} → Marked w u sc r.key j m → Enlisted u u' chans_at 2 r.chan n
-      → v ≡ sets u' (parts_at + i * row_size + kind_field) (row_words 3 n r.t m pl sc (key_words r.key)) → OpenIs s w v i sc (record { end = r.end; kind = 2; inner = k }) (inp c t y p p') us
+      → v ≡ sets u' (parts_at + i * row_size + kind_field) (row_words 3 n r.t m pl sc (key_words r.key)) → OpenIs s w v i sc (record { end = r.end; form = Two; inner = k }) (inp c t y p p') us
   unfolding opened enter_part row_of chan_number enter_chan inner_scope scope_mark slot_of
   in-open c t y p p' r a {j} h k l {u} {u'} b d e =
       let o : j ≡ index (scope_names w (offsets sc)) (key_name (key_of y)) = h ∙ ap (λ x. index (scope_names w (offsets sc)) (key_name x)) a.key in
@@ -111,17 +114,17 @@ module _ (s w v : List ℕ) (i : ℕ) (sc : Scope) (us : List Token) (pl : ℕ) 
       let n : u' ≡ enlist u chans_at 2 (key_of c) = d.after ∙ ap (enlist u chans_at 2) a.chan in
       record {
         left = a.left;
-        kind = refl;
+        form = refl;
         inner = l ∙ ap (entered_by sc i) o;
         after = e ∙ rw (n, d.place, a.chan, a.timer, b.slot, a.key, q, g);
       }
 
   pub call-open : (d : Name) (vs : List Value) (r : Args) {u : List ℕ} → ArgsAre s w u sc r vs us → (x : Key) → x ≡ key_of d → {n m : ℕ} → n ≡ held_in w 3 → m ≡ index (list_from 0 n (row_name w ids_at row_size)) (key_name x)
-      → v ≡ sets u (parts_at + i * row_size + kind_field) (row_words 4 m 0 r.n 0 sc (key_words r.first)) → OpenIs s w v i sc (record { end = r.end; kind = 0; inner = sc }) (call d vs) us
+      → v ≡ sets u (parts_at + i * row_size + kind_field) (row_words 4 m 0 r.n 0 sc (key_words r.first)) → OpenIs s w v i sc (record { end = r.end; form = Leaf; inner = sc }) (call d vs) us
   unfolding opened enter_part row_of id_number def_name row_name
   call-open d vs r a x h {n} {m} g l e = record {
     left = a.left;
-    kind = refl;
+    form = refl;
     inner = refl;
     after = e ∙ rw (a.after, l, g, h, a.count, a.words);
   }
@@ -167,6 +170,9 @@ module _ {s : List ℕ} {at : ℕ} {k : Sort} {x : Key} (y : TailAt s at k x) wh
         go₁ (out c t v p q) w g j f = f c t v p q y.left w g
         go₁ (inp c t z p q) w g j f = f c t z p q y.left w g
         go₁ (call d vs) w g j f = f (record { what = vs; left = y.left; is = g; well = w.1; over = y.over }) d j
+
+  pub by-open : (w v : List ℕ) (i : ℕ) (sc : Scope) (r : Option Open) (h : Head) → head_is k ≡ h → Shown (λ a us. Gives (λ o. OpenIs s w v i sc o a us) r) h → Gives (λ o. OpenIs s w v i sc o y.what y.left) r
+  by-open w v i sc r h e f = by (λ a us. Gives (λ o. OpenIs s w v i sc o a us) r) h e f
 
   pub list_at : head_is k ≡ calls → ListAt s at
   list_at e = by (λ a us. ListAt s at) calls e (λ z d j. z)

@@ -21,11 +21,11 @@ use Rattle.text.specs.Grammar.Rest.{ok, bad}
 use Rattle.text.specs.Write.{timer_t}
 use Rattle.text.specs.WellFormed.{WellTimer}
 use Rattle.text.proofs.Digits.{digits_number, digits-not-inf}
-use Rattle.text_words.specs.Bytes.{after_blanks, Run, ended}
+use Rattle.text_words.specs.Bytes.{after_blanks, Run}
 use Rattle.text_words.proofs.Positions.{word-is, word_none}
 use Rattle.text_build.specs.Rows.{timer_word}
 use Rattle.text.proofs.Exact.{clash}
-use Rattle.text_parts.proofs.Rests.{next-yes, next-no, ended_is, ended-zero}
+use Rattle.text_parts.proofs.Rests.{next-yes}
 use Rattle.terms.specs.declared.Timer.{Timer as CodeTimer}
 use Rattle.terms.specs.Characters.{Class, class_of}
 use Rattle.terms.specs.Letters.{first_is}
@@ -34,37 +34,18 @@ use Rattle.terms.specs.Letters.{first_is}
 pub the-sign : (c : ℕ) (us : List Token) → the c (sign c ∷ us) ≡ ok tt us
 the-sign c us = rw (eq-eqb c c refl)
 
-module _ (s : List ℕ) (r : ℕ) {us : List Token} (e : ended s r ≡ ok tt us) where
-  pub ended-ok : lex (drop r s) ≡ us
-  unfolding ended
-  ended-ok = go (eqb r 0) e
-    where
-      go : (b : Bool) → cond b bad (ok (tt {0}) (lex (drop r s))) ≡ ok tt us → lex (drop r s) ≡ us
-      go true e = clash e
-      go false e = cc
-
-  pub ended_some : r ≡ 0 → ⊥
-  unfolding ended
-  ended_some z = clash (sym (ended-zero s r z) ∙ e)
-
-module _ (s : List ℕ) (r c : ℕ) {ts us : List Token} (g : ts ≡ sign c ∷ us) (e : ended s r ≡ the c ts) where
-  eaten : ended s r ≡ ok tt us
-  eaten = e ∙ ap (the c) g ∙ the-sign c us
-
+module _ (s : List ℕ) (r c : ℕ) {ts us : List Token} (g : ts ≡ sign c ∷ us) (e : ok tt (lex (drop r s)) ≡ the c ts) where
   -- the sign c is eaten
   pub peel-sign : lex (drop r s) ≡ us
-  peel-sign = ended-ok s r eaten
+  peel-sign = let h : ok tt (lex (drop r s)) ≡ ok tt us = e ∙ ap (the c) g ∙ the-sign c us in cc
 
-  pub peel-some : r ≡ 0 → ⊥
-  peel-some = ended_some s r eaten
+-- it is not missed
+pub peel-some : (c : ℕ) {ts us : List Token} → ts ≡ sign c ∷ us → bad ≡ the c ts → ⊥
+peel-some c {ts} {us} g e = clash (e ∙ ap (the c) g ∙ the-sign c us)
 
--- no sign is eaten exactly if another token comes
-module _ (s : List ℕ) (r c : ℕ) (ts : List Token) (e : ended s r ≡ the c ts) where
-  pub other-next : r ≡ 0 → next c ts ≡ false
-  other-next z = next-no c ts (sym e ∙ ended-zero s r z)
-
-  pub sign-next : (r ≡ 0 → ⊥) → next c ts ≡ true
-  sign-next n = next-yes c ts (sym e ∙ ended_is s r n)
+-- nor is one eaten where another token comes
+pub sign-next : (s : List ℕ) (r c : ℕ) (ts : List Token) → ok tt (lex (drop r s)) ≡ the c ts → next c ts ≡ true
+sign-next s r c ts e = next-yes c ts (sym e)
 
 -- ── words ──
 module _ (s : List ℕ) (at a e : ℕ) (skipped : drop a s ≡ after_blanks (drop at s)) (r : Run s a e) (x : Name) (us : List Token) (g : lex (drop at s) ≡ word x ∷ us) where

@@ -1,6 +1,6 @@
 -- What the code finds at a position of a text s, where the tokens from there on are known.
 -- Serves inner contracts only.
-use Rattle.std.specs.Prelude.{ℕ, zero, suc, ◌+◌, ◌≤◌, min, List, ◌∷◌, Bool, true, false, cond, ◌≡◌, ltb, length, drop, set}
+use Rattle.std.specs.Prelude.{ℕ, zero, suc, ◌+◌, ◌≤◌, min, List, ◌∷◌, Bool, true, false, cond, Option, Some, None, ◌≡◌, ltb, length, drop, set}
 use Rattle.terms.specs.Names.{Name}
 use Rattle.terms.specs.Terms.{Value}
 use Rattle.terms.specs.Terms.Value.{loc, var}
@@ -27,6 +27,11 @@ use Rattle.text_put.specs.declared.Timed.{Timed}
 use Rattle.text_put.specs.declared.Pair.{Pair}
 use Rattle.text_put.specs.declared.Front.{Front}
 use Rattle.text_put.specs.declared.Args.{Args}
+
+-- something was read, and P holds of it
+abbrev pub Gives : {A : Type 0} → (A → Type 0) → Option A → Type 0
+Gives P None = ⊥
+Gives P (Some r) = P r
 
 -- the word x, before the tokens us
 pub record NameIs (s : List ℕ) (r : Named) (x : Name) (us : List Token) : Type 0 where

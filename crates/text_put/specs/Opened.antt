@@ -12,6 +12,8 @@ use Rattle.text.specs.Tree.{settle, settle_p}
 use Rattle.text.specs.Grammar.{next}
 use Rattle.text.specs.Write.{timer_t, value_t, list_t, part_t, process_t}
 use Rattle.text.specs.WellFormed.{WellPart, WellProcess}
+use Rattle.text_parts.specs.declared.Form.{Form}
+use Rattle.text_parts.specs.declared.Form.TheVariants.{Leaf, One, Two}
 use Rattle.text_words.specs.declared.Sort.{Sort}
 use Rattle.text_words.specs.Sorts.{sort_of}
 use Rattle.table.specs.declared.Key.{Key}
@@ -71,7 +73,12 @@ pub record TailAt (s : List ℕ) (at : ℕ) (k : Sort) (x : Key) : Type 0 where
   pub sort : k ≡ sort_of (head_name what)
   pub key : x ≡ key_of (head_name what)
 
--- how many processes a part has
+-- how many processes a form has, and a part
+abbrev pub arms_of : Form → ℕ
+arms_of Leaf = 0
+arms_of One = 1
+arms_of Two = 2
+
 abbrev pub arms : Part → ℕ
 arms stop = 0
 arms (go t v p) = 1
@@ -98,13 +105,9 @@ noted w sc (T.call d vs) = w
 -- the row of the part's term is written, with its names entered
 pub record OpenIs (s w v : List ℕ) (i : ℕ) (sc : Scope) (r : Open) (a : Part) (us : List Token) : Type 0 where
   pub left : lex (drop r.end s) ≡ rest a us
-  pub kind : r.kind ≡ arms a
+  pub form : arms_of r.form ≡ arms a
   pub inner : r.inner ≡ within w i sc (settle a)
   pub after : v ≡ opened (noted w sc (settle a)) i sc (settle a)
-
--- the call of d behind its identifier, whose letters are x
-abbrev pub CallIs : (s w v : List ℕ) → ℕ → Scope → Key → Open → Name → List Value → List Token → Type 0
-CallIs s w v i sc x r d vs us = x ≡ key_of d → OpenIs s w v i sc r (call d vs) us
 
 -- ── put ──
 pub record PartPut (s w v : List ℕ) (i : ℕ) (sc : Scope) (r : Placed) (a : Part) (us : List Token) : Type 0 where

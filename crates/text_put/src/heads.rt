@@ -1,103 +1,84 @@
 // A part up to its first process: its names are entered and its row is written.
-ghost use Rattle.std.specs.Prelude.{List, ◌∷◌, ◌≡◌, ◌-◌, ◌+◌, ◌*◌, ◌≤◌, ◌<◌, drop};
+ghost use Rattle.std.specs.Prelude.{List, ◌∷◌, ◌≡◌, ◌+◌, ◌*◌, ◌≤◌, ◌<◌, drop};
 ghost use Rattle.terms.specs.Names.{Name};
 ghost use Rattle.terms.specs.Terms.{Value};
 ghost use Rattle.text.specs.Tokens.{Token, lex, opens, comma};
 ghost use Rattle.text.specs.Tokens.Token.{word, sign};
 ghost use Rattle.text.specs.Syntax.{Span, Process};
-ghost use Rattle.text.specs.Syntax.Part.{go, out, inp};
+ghost use Rattle.text.specs.Syntax.Part.{go, out, inp, call};
 ghost use Rattle.text.specs.Tree.{timer_of, settle};
 ghost use Rattle.text.specs.Write.{timer_t};
 ghost use Rattle.text.specs.WellFormed.{WellTimer, WellPart};
 ghost use Rattle.table.specs.Tests.{key_name};
 ghost use Rattle.table.specs.Valid.{index};
 ghost use Rattle.text_build.specs.Rows.{scope_names};
+ghost use Rattle.text_build.specs.Keys.{key_of};
 ghost use Rattle.text_build.specs.Put.{offsets};
-ghost use Rattle.text_put.specs.Found.{ListAt, FrontIs, Marked, entered_by};
-ghost use Rattle.text_put.specs.Opened.{PartAt, TailAt, tail_t, OpenIs, CallIs};
+ghost use Rattle.text_put.specs.Found.{Gives, ListAt, FrontIs, Marked, entered_by};
+ghost use Rattle.text_put.specs.Opened.{PartAt, TailAt, tail_t, OpenIs};
 
-use super::values::{args, slot, value_in};
+use super::values::{NO_WORDS, args, slot, value_in};
 use super::words::{name_at, pair_at};
 use super::{Front, Open};
 use table::{CHANNELS, IDENTIFIERS, Key, OWNS, ROW_SIZE, Script};
 use text_build::{Scope, number, put_row};
-
-// i - 1, or 0.
-pub fn less_one(i: usize) -> usize
-    ensures { result ≡ i - 1 }
-{
-    if i == 0 {
-        return 0;
-    }
-    i - 1
-}
-
-// No words.
-fn no_key() -> Key
-    ensures { result ≡ record { a = 0; b = 0; c = 0; d = 0 } }
-{
-    Key {
-        a: 0,
-        b: 0,
-        c: 0,
-        d: 0,
-    }
-}
+use text_parts::Form;
+use text_words::{Sort, eat, skip_blanks, sort_of, word_end};
 
 // `go(t,v,` behind its first word.
-fn open_go(s: &[u8], at: usize, w: &mut Script, i: usize, sc: Scope) -> Open
+fn open_go(s: &[u8], at: usize, w: &mut Script, i: usize, sc: Scope) -> Option<Open>
     requires { (i < 4096) × (sc.n ≤ 8) }
-    ensures { (t : Span) (v : Value) (p : Process) (us : List Token) → WellPart (settle (go t v p)) → lex (drop at s.now) ≡ tail_t (go t v p) us → OpenIs s.now w.old w.new i sc result (go t v p) us }
+    ensures { (t : Span) (v : Value) (p : Process) (us : List Token) → WellPart (settle (go t v p)) → lex (drop at s.now) ≡ tail_t (go t v p) us → Gives (λ r. OpenIs s.now w.old w.new i sc r (go t v p) us) result }
 {
-    let a = text_words::eat(s, at, b'(');
-    let f = pair_at(s, a);
+    let a = eat(s, at, b'(')?;
+    let f = pair_at(s, a)?;
     let x = f.key;
     let v = value_in(w, sc, x, f.capital);
-    let p = less_one(i) as u32;
-    put_row(w, i, 1, 0, f.t, v, p, sc, no_key());
-    Open {
+    let p = i.saturating_sub(1) as u32;
+    put_row(w, i, 1, 0, f.t, v, p, sc, NO_WORDS);
+    Some(Open {
         end: f.end,
-        kind: 1,
+        form: Form::One,
         inner: sc,
-    }
+    })
 }
 
 // `(c,t,x,`
-fn front_at(s: &[u8], at: usize) -> Front
-    ensures { (c : Name) (t : Span) (x : Name) (us : List Token) → WellTimer (timer_of t) → lex (drop at s.now) ≡ sign opens ∷ word c ∷ sign comma ∷ timer_t t (sign comma ∷ word x ∷ sign comma ∷ us) → FrontIs s.now result c t x us }
+fn front_at(s: &[u8], at: usize) -> Option<Front>
+    ensures { (c : Name) (t : Span) (x : Name) (us : List Token) → WellTimer (timer_of t) → lex (drop at s.now) ≡ sign opens ∷ word c ∷ sign comma ∷ timer_t t (sign comma ∷ word x ∷ sign comma ∷ us) → Gives (λ r. FrontIs s.now r c t x us) result }
 {
-    let a = text_words::eat(s, at, b'(');
-    let c = name_at(s, a);
+    let a = eat(s, at, b'(')?;
+    let c = name_at(s, a)?;
     let k = c.key;
-    let b = text_words::eat(s, c.end, b',');
-    let f = pair_at(s, b);
+    let b = eat(s, c.end, b',')?;
+    let f = pair_at(s, b)?;
     let x = f.key;
-    Front {
+    Some(Front {
         end: f.end,
         chan: k,
         t: f.t,
         key: x,
         capital: f.capital,
-    }
+    })
 }
 
 // `out(c,t,v,` behind its first word.
-fn open_out(s: &[u8], at: usize, w: &mut Script, i: usize, sc: Scope) -> Open
+fn open_out(s: &[u8], at: usize, w: &mut Script, i: usize, sc: Scope) -> Option<Open>
     requires { (i < 4096) × (sc.n ≤ 8) }
-    ensures { (c : Name) (t : Span) (v : Value) (p q : Process) (us : List Token) → WellPart (settle (out c t v p q)) → lex (drop at s.now) ≡ tail_t (out c t v p q) us → OpenIs s.now w.old w.new i sc result (out c t v p q) us }
+    ensures { (c : Name) (t : Span) (v : Value) (p q : Process) (us : List Token) → WellPart (settle (out c t v p q)) → lex (drop at s.now) ≡ tail_t (out c t v p q) us → Gives (λ r. OpenIs s.now w.old w.new i sc r (out c t v p q) us) result }
 {
-    let f = front_at(s, at);
+    let f = front_at(s, at)?;
     let k = f.chan;
     let x = f.key;
     let c = number(w, CHANNELS, 2, k);
     let v = value_in(w, sc, x, f.capital);
-    let p = less_one(i) as u32;
-    put_row(w, i, 2, c as u32, f.t, v, p, sc, no_key());
-    Open {
+    let p = i.saturating_sub(1) as u32;
+    put_row(w, i, 2, c as u32, f.t, v, p, sc, NO_WORDS);
+    Some(Open {
         end: f.end,
-        kind: 2,
+        form: Form::Two,
         inner: sc,
-    }
+    })
 }
 
 // The scope of an input's P, where j is the slot of its name.
@@ -134,41 +115,41 @@ fn noted(w: &mut Script, sc: Scope, k: Key, j: usize) -> usize
 }
 
 // `in(c,t,y,` behind its first word.
-fn open_in(s: &[u8], at: usize, w: &mut Script, i: usize, sc: Scope) -> Open
+fn open_in(s: &[u8], at: usize, w: &mut Script, i: usize, sc: Scope) -> Option<Open>
     requires { (i < 4096) × (sc.n ≤ 8) }
-    ensures { (c : Name) (t : Span) (y : Name) (p q : Process) (us : List Token) → WellPart (settle (inp c t y p q)) → lex (drop at s.now) ≡ tail_t (inp c t y p q) us → OpenIs s.now w.old w.new i sc result (inp c t y p q) us }
+    ensures { (c : Name) (t : Span) (y : Name) (p q : Process) (us : List Token) → WellPart (settle (inp c t y p q)) → lex (drop at s.now) ≡ tail_t (inp c t y p q) us → Gives (λ r. OpenIs s.now w.old w.new i sc r (inp c t y p q) us) result }
 {
-    let f = front_at(s, at);
+    let f = front_at(s, at)?;
     let k = f.chan;
     let y = f.key;
     let j = slot(w, sc, y);
     let inner = entered(sc, i, j);
     let m = noted(w, sc, y, j);
     let c = number(w, CHANNELS, 2, k);
-    let p = less_one(i) as u32;
+    let p = i.saturating_sub(1) as u32;
     put_row(w, i, 3, c as u32, f.t, m as u32, p, sc, y);
-    Open {
+    Some(Open {
         end: f.end,
-        kind: 2,
+        form: Form::Two,
         inner: inner,
-    }
+    })
 }
 
 // A call behind its identifier x.
-fn open_call(s: &[u8], at: usize, w: &mut Script, i: usize, sc: Scope, x: Key) -> Open
+fn open_call(s: &[u8], at: usize, w: &mut Script, i: usize, sc: Scope, x: Key) -> Option<Open>
     requires { (i < 4096) × (sc.n ≤ 8) × ListAt s.now at }
-    ensures { (y : ListAt s.now at) (d : Name) → CallIs s.now w.old w.new i sc x result d y.what y.left }
+    ensures { (y : ListAt s.now at) (d : Name) → x ≡ key_of d → Gives (λ r. OpenIs s.now w.old w.new i sc r (call d y.what) y.left) result }
 {
     let n = text_build::held_in(w, 3);
     let d = text_build::find(w, IDENTIFIERS, ROW_SIZE, n, x).unwrap_or(n);
-    let g = args(s, at, w, sc);
+    let g = args(s, at, w, sc)?;
     let k = g.first;
     put_row(w, i, 4, d as u32, 0, g.n, 0, sc, k);
-    Open {
+    Some(Open {
         end: g.end,
-        kind: 0,
+        form: Form::Leaf,
         inner: sc,
-    }
+    })
 }
 
 // A part behind its first word, which is of the sort k and has the letters x.
@@ -178,59 +159,40 @@ fn open_by(
     w: &mut Script,
     i: usize,
     sc: Scope,
-    k: text_words::Sort,
+    k: Sort,
     x: Key,
-) -> Open
+) -> Option<Open>
     requires { (i < 4096) × (sc.n ≤ 8) × TailAt s.now at k x }
-    ensures { (y : TailAt s.now at k x) → OpenIs s.now w.old w.new i sc result y.what y.left }
+    ensures { (y : TailAt s.now at k x) → Gives (λ r. OpenIs s.now w.old w.new i sc r y.what y.left) result }
 {
     match k {
-        text_words::Sort::Stop => {
-            put_row(w, i, 0, 0, 0, 0, 0, sc, no_key());
-            Open {
+        Sort::Stop => {
+            put_row(w, i, 0, 0, 0, 0, 0, sc, NO_WORDS);
+            Some(Open {
                 end: at,
-                kind: 0,
+                form: Form::Leaf,
                 inner: sc,
-            }
+            })
         }
-        text_words::Sort::Go => open_go(s, at, w, i, sc),
-        text_words::Sort::Out => open_out(s, at, w, i, sc),
-        text_words::Sort::In => open_in(s, at, w, i, sc),
-        text_words::Sort::Small => open_call(s, at, w, i, sc, x),
-        text_words::Sort::Location => open_call(s, at, w, i, sc, x),
-        text_words::Sort::Inf => Open {
-            end: 0,
-            kind: 0,
-            inner: sc,
-        },
-        text_words::Sort::Ticks => Open {
-            end: 0,
-            kind: 0,
-            inner: sc,
-        },
-        text_words::Sort::Other => Open {
-            end: 0,
-            kind: 0,
-            inner: sc,
-        },
+        Sort::Go => open_go(s, at, w, i, sc),
+        Sort::Out => open_out(s, at, w, i, sc),
+        Sort::In => open_in(s, at, w, i, sc),
+        Sort::Small | Sort::Location => open_call(s, at, w, i, sc, x),
+        Sort::Inf | Sort::Ticks | Sort::Other => None,
     }
 }
 
 // A part up to its first process.
-pub(crate) fn open_part(s: &[u8], at: usize, w: &mut Script, i: usize, sc: Scope) -> Open
+pub(crate) fn open_part(s: &[u8], at: usize, w: &mut Script, i: usize, sc: Scope) -> Option<Open>
     requires { (i < 4096) × (sc.n ≤ 8) × PartAt s.now at }
-    ensures { (x : PartAt s.now at) → OpenIs s.now w.old w.new i sc result x.what x.left }
+    ensures { (x : PartAt s.now at) → Gives (λ r. OpenIs s.now w.old w.new i sc r x.what x.left) result }
 {
-    let a = text_words::skip_blanks(s, at);
-    let e = text_words::word_end(s, a);
+    let a = skip_blanks(s, at);
+    let e = word_end(s, a);
     if a < e {
-        let k = text_words::sort_of(&s[a..e]);
+        let k = sort_of(&s[a..e]);
         let x = text_build::key_of(&s[a..e]);
         return open_by(s, e, w, i, sc, k, x);
     }
-    Open {
-        end: 0,
-        kind: 0,
-        inner: sc,
-    }
+    None
 }

@@ -1,7 +1,8 @@
 // Layer 2, reading and writing: the second pass of reading over the bytes of a text that has the form: each part into its row, names into their tables.
 //
 // Process reader and part reader call each other, the bytes left falling; the nesting is at most 32 by then. What they write is `put` of text_build.
-// A function's promise speaks of a text whose tokens at the position are those of some part, as they are in every text that has the form.
+// A function's promise speaks of a text whose tokens at the position are those of some part, as they are in every text that has the form: it does not answer
+// None there.
 //
 // specs/Found   what is read at a position
 // specs/Opened  a part up to its first process: what is written, and what is left to read
@@ -15,7 +16,7 @@
 // proofs/Arguments  values by number, and the arguments of a call
 // proofs/Fronts     a part up to its first process, form by form
 // proofs/Putting    parts and processes from what is read and called
-#![tactic(auto)]
+#![tactic(auto, unfolding(text::specs::Tokens::lex_from, terms::specs::Characters::class_of))]
 
 mod heads;
 pub mod parts;
@@ -64,11 +65,11 @@ pub struct Args {
     pub first: table::Key,
 }
 
-// A part up to its first process: where that begins, how many processes it has, and the scope of the first.
+// A part up to its first process: where that begins, its form, and the scope of the first.
 #[derive(Clone, Copy)]
 pub struct Open {
     pub end: usize,
-    pub kind: u32,
+    pub form: text_parts::Form,
     pub inner: text_build::Scope,
 }
 

@@ -10,88 +10,79 @@ ghost use Rattle.text.specs.Tree.{timer_of};
 ghost use Rattle.text.specs.Write.{timer_t};
 ghost use Rattle.text.specs.WellFormed.{WellTimer};
 ghost use Rattle.text_build.specs.Rows.{timer_word};
-ghost use Rattle.text_put.specs.Found.{NameIs, TimerIs, PairIs};
+ghost use Rattle.text_put.specs.Found.{Gives, NameIs, TimerIs, PairIs};
 
 use super::{Named, Pair, Timed};
-use table::Key;
 use terms::characters::is_capital;
+use text_words::{eat, is_same, number_of, skip_blanks, word_end};
 
 // Does the word begin with a capital?
 fn begins_capital(w: &[u8]) -> bool
     ensures { result ≡ first_is is_capital w.now }
 {
-    if w.len() == 0 {
-        return false;
+    match w {
+        [] => false,
+        [first, ..] => is_capital(*first),
     }
-    is_capital(w[0])
 }
 
 // The next word, as a name.
-pub fn name_at(s: &[u8], at: usize) -> Named
-    ensures { (x : Name) (us : List Token) → lex (drop at s.now) ≡ word x ∷ us → NameIs s.now result x us }
+pub fn name_at(s: &[u8], at: usize) -> Option<Named>
+    ensures { (x : Name) (us : List Token) → lex (drop at s.now) ≡ word x ∷ us → Gives (λ r. NameIs s.now r x us) result }
 {
-    let a = text_words::skip_blanks(s, at);
-    let e = text_words::word_end(s, a);
+    let a = skip_blanks(s, at);
+    let e = word_end(s, a);
     if a < e {
         let k = text_build::key_of(&s[a..e]);
         let b = begins_capital(&s[a..e]);
-        return Named {
+        return Some(Named {
             end: e,
             key: k,
             capital: b,
-        };
+        });
     }
-    Named {
-        end: 0,
-        key: Key {
-            a: 0,
-            b: 0,
-            c: 0,
-            d: 0,
-        },
-        capital: false,
-    }
+    None
 }
 
 // The word of a timer in a row, by the timer's own constructor: a text that has the form has no number above its range.
 fn timer_of(w: &[u8]) -> u32
     ensures { (t : Span) (us : List Token) → WellTimer (timer_of t) → word w.now ∷ us ≡ timer_t t us → result ≡ timer_word (timer_of t) }
 {
-    if text_words::is_same(w, b"inf") {
+    if is_same(w, b"inf") {
         return terms::Timer::INF.raw;
     }
-    match terms::Timer::new(text_words::number_of(w)) {
+    match terms::Timer::new(number_of(w)) {
         Some(t) => t.raw,
         None => 0,
     }
 }
 
 // The next word, as a timer.
-pub fn timer_at(s: &[u8], at: usize) -> Timed
-    ensures { (t : Span) (us : List Token) → WellTimer (timer_of t) → lex (drop at s.now) ≡ timer_t t us → TimerIs s.now result t us }
+pub fn timer_at(s: &[u8], at: usize) -> Option<Timed>
+    ensures { (t : Span) (us : List Token) → WellTimer (timer_of t) → lex (drop at s.now) ≡ timer_t t us → Gives (λ r. TimerIs s.now r t us) result }
 {
-    let a = text_words::skip_blanks(s, at);
-    let e = text_words::word_end(s, a);
+    let a = skip_blanks(s, at);
+    let e = word_end(s, a);
     if a < e {
         let t = timer_of(&s[a..e]);
-        return Timed { end: e, t: t };
+        return Some(Timed { end: e, t: t });
     }
-    Timed { end: 0, t: 0 }
+    None
 }
 
 // A timer and a name, each with its comma.
-pub fn pair_at(s: &[u8], at: usize) -> Pair
-    ensures { (t : Span) (x : Name) (us : List Token) → WellTimer (timer_of t) → lex (drop at s.now) ≡ timer_t t (sign comma ∷ word x ∷ sign comma ∷ us) → PairIs s.now result t x us }
+pub fn pair_at(s: &[u8], at: usize) -> Option<Pair>
+    ensures { (t : Span) (x : Name) (us : List Token) → WellTimer (timer_of t) → lex (drop at s.now) ≡ timer_t t (sign comma ∷ word x ∷ sign comma ∷ us) → Gives (λ r. PairIs s.now r t x us) result }
 {
-    let t = timer_at(s, at);
-    let a = text_words::eat(s, t.end, b',');
-    let x = name_at(s, a);
+    let t = timer_at(s, at)?;
+    let a = eat(s, t.end, b',')?;
+    let x = name_at(s, a)?;
     let k = x.key;
-    let e = text_words::eat(s, x.end, b',');
-    Pair {
+    let e = eat(s, x.end, b',')?;
+    Some(Pair {
         end: e,
         t: t.t,
         key: k,
         capital: x.capital,
-    }
+    })
 }

@@ -39,4 +39,7 @@ returns c =
     let ns = list_from 0 n (row_name a.w.now ids_at row_size) in
     let l = length-list_from (row_name a.w.now ids_at row_size) 0 n in
     let f : c.unwrap_or-d.result ≡ index ns (key_name a.x) = c.unwrap_or-d.ensures ∙ ap (λ r. unwrap_or r n) c.find.ensures ∙ number-or ns (key_name a.x) n l in
-    λ y d h. call-open _ _ _ _ _ y.left (c.args.i - 1) refl d y.what _ (c.args-g.ensures y) _ h c.held_in-n.ensures f c.put_row.ensures
+    λ y d h. call-open _ _ _ _ _ y.left (c.args.i - 1) refl d y.what _ (c.in_ok-g.ensures y) _ h c.held_in-n.ensures f c.put_row.ensures
+
+pub returns-in_err-g : goal.returns-in_err-g
+returns-in_err-g c = λ y d h. absurd (c.in_err-g.ensures y)

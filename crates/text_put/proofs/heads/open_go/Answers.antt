@@ -11,13 +11,9 @@ use Rattle.text_put.proofs.Arguments.{value-word}
 use Rattle.text_put.proofs.Fronts.{go-open}
 use Rattle.text_put.proofs.heads.open_go.Goals as goal
 
-pub eat-a-requires : goal.eat-a-requires
-unfolding lex_from class_of
-eat-a-requires c = λ l. refl
-
 pub returns : goal.returns
 returns c =
     λ t v p us f g.
     let s = c.args.s.now in
-    let a = c.pair_at-f.ensures t (name_of v) _ f.0 (peel-sign s _ opens g c.eat-a.ensures ∙ ap (λ z. timer_t t (sign comma ∷ z)) (value-word v _)) in
-    go-open s _ _ _ _ us _ c.less_one-p.ensures t v p f _ a c.value_in-v.ensures _ c.no_key.ensures c.put_row.ensures
+    let a = c.in_ok-f.ensures t (name_of v) _ f.0 (peel-sign s _ opens g c.in_ok-a.ensures ∙ ap (λ z. timer_t t (sign comma ∷ z)) (value-word v _)) in
+    go-open s _ _ _ _ us _ c.saturating_sub-p.ensures t v p f _ a c.value_in-v.ensures _ refl c.put_row.ensures

@@ -14,5 +14,8 @@ overflow_cast-m c =
 pub returns : goal.returns
 returns c =
     λ h t y p q us f g.
-    let a = c.front_at-f.ensures h t y _ f.1 g in
-    in-open _ _ _ _ _ us _ c.less_one-p.ensures h t y p q _ a c.slot-j.ensures _ c.entered-inner.ensures c.noted-m.ensures c.number-c.ensures c.put_row.ensures
+    let a = c.in_ok-f.ensures h t y _ f.1 g in
+    in-open _ _ _ _ _ us _ c.saturating_sub-p.ensures h t y p q _ a c.slot-j.ensures _ c.entered-inner.ensures c.noted-m.ensures c.number-c.ensures c.put_row.ensures
+
+pub returns-in_err-f : goal.returns-in_err-f
+returns-in_err-f c = λ h t y p q us f g. absurd (c.in_err-f.ensures h t y _ f.1 g)

@@ -1,7 +1,7 @@
 -- A channel, a timer, a value; then the row.
 use native.Mathlib.Omega.{arith}
 use mathlib.Core.List.{◌∷◌}
-use mathlib.Core.Path.{ap, ◌∙◌}
+use mathlib.Core.Path.{refl, ap, ◌∙◌}
 use Rattle.text.specs.Tokens.{opens, comma}
 use Rattle.text.specs.Tokens.Token.{word, sign}
 use Rattle.text.specs.Write.{timer_t}
@@ -16,5 +16,8 @@ overflow_cast-c c = omega (arith, chan-few c.number-c.ensures)
 pub returns : goal.returns
 returns c =
     λ h t v p q us f g.
-    let a = c.front_at-f.ensures h t (name_of v) _ f.1 (g ∙ ap (λ z. sign opens ∷ word h ∷ sign comma ∷ timer_t t (sign comma ∷ z)) (value-word v _)) in
-    out-open _ _ _ _ _ us _ c.less_one-p.ensures h t v p q f _ a c.number-c.ensures c.value_in-v.ensures _ c.no_key.ensures c.put_row.ensures
+    let a = c.in_ok-f.ensures h t (name_of v) _ f.1 (g ∙ ap (λ z. sign opens ∷ word h ∷ sign comma ∷ timer_t t (sign comma ∷ z)) (value-word v _)) in
+    out-open _ _ _ _ _ us _ c.saturating_sub-p.ensures h t v p q f _ a c.number-c.ensures c.value_in-v.ensures _ refl c.put_row.ensures
+
+pub returns-in_err-f : goal.returns-in_err-f
+returns-in_err-f c = λ h t v p q us f g. absurd (c.in_err-f.ensures h t (name_of v) _ f.1 (g ∙ ap (λ z. sign opens ∷ word h ∷ sign comma ∷ timer_t t (sign comma ∷ z)) (value-word v _)))

@@ -1,19 +1,12 @@
 -- By the bracket.
-use mathlib.Core.Path.{refl}
-use Rattle.terms.specs.Characters.{class_of}
-use Rattle.text.specs.Tokens.{lex_from}
 use Rattle.text_put.proofs.Arguments.{list-empty, list-some, list-is}
 use Rattle.text_put.proofs.values.args.Goals as goal
 
-pub eat-a-requires : goal.eat-a-requires
-unfolding lex_from class_of
-eat-a-requires c = λ l. refl
-
-pub returns-then-a-eq0 : goal.returns-then-a-eq0
-returns-then-a-eq0 c = λ x. list-empty c.args.s.now c.args.at x _ c.eat-a.ensures c.if-a-eq0.true _ _ _ refl
+pub returns-in-None : goal.returns-in-None
+returns-in-None c = λ x. list-empty c.args.s.now c.args.at x c.in-None.ensures _ _
 
 pub args_from-requires : goal.args_from-requires
-args_from-requires c = (c.requires.0, list-some c.args.s.now c.args.at c.requires.1 _ c.eat-a.ensures c.if-a-eq0.false)
+args_from-requires c = (c.requires.0, list-some c.args.s.now c.args.at c.requires.1 _ c.in-Some.ensures)
 
-pub returns : goal.returns
-returns c = λ x. list-is c.args.s.now c.args.at x _ c.eat-a.ensures c.if-a-eq0.false _ _ _ _ c.args_from.ensures
+pub returns-in-Some : goal.returns-in-Some
+returns-in-Some c = λ x. list-is c.args.s.now c.args.at x _ c.in-Some.ensures _ _ _ _ c.args_from.ensures

@@ -5,8 +5,8 @@ use Rattle.text_put.specs.Found.{ValuesAt, values_of}
 use Rattle.text_put.proofs.Arguments.{Going}
 use Rattle.text_put.proofs.values.args_from.Given as goal
 
-abbrev pub invariant-loop-sc : goal.invariant-loop-sc
-invariant-loop-sc l = (x : ValuesAt l.s l.at) → Going l.s l.here l.initial.w l.w l.sc l.n l.k (values_of x) x.left
+abbrev pub invariant-loop-x : goal.invariant-loop-x
+invariant-loop-x l = (x : ValuesAt l.s l.at) → Going l.s l.here l.initial.w l.w l.sc l.n l.k (values_of x) x.left
 
-abbrev pub decreases-loop-sc : goal.decreases-loop-sc
-decreases-loop-sc l = length l.s - l.here
+abbrev pub decreases-loop-x : goal.decreases-loop-x
+decreases-loop-x l = length l.s - l.here

@@ -12,7 +12,7 @@ use Rattle.text_put.proofs.Arguments.{slot-here, slot-nowhere}
 use Rattle.text_put.proofs.values.slot.Goals as goal
 
 pub loop-j-init : goal.loop-j-init
-loop-j-init c = (omega arith, below_none _)
+loop-j-init c = below_none _
 
 pub returns-then-is_named : goal.returns-then-is_named
 returns-then-is_named c =
@@ -20,24 +20,17 @@ returns-then-is_named c =
     let q : length a.sc.at ≡ 8 = search rules in
     let l = c.loop-j in
     let e = c.is_named.ensures ∙ ap (λ o. same_name (name_at a.w.now o) (key_name a.k)) c.wide-o.ensures in
-    slot-here a.w.now a.sc c.requires q (key_name a.k) l.j c.loop-j-test.true l.invariant.1 (sym e ∙ c.if-is_named.true)
-
-pub overflow_add-j : goal.overflow_add-j
-overflow_add-j c = omega arith
-
-pub loop-j-smaller : goal.loop-j-smaller
-loop-j-smaller c = omega arith
+    slot-here a.w.now a.sc c.requires q (key_name a.k) l.j c.loop-j-test.true l.invariant (sym e ∙ c.if-is_named.true)
 
 pub loop-j-preserved : goal.loop-j-preserved
 loop-j-preserved c =
     let a = c.args in
-    let l = c.loop-j in
     let e = c.is_named.ensures ∙ ap (λ o. same_name (name_at a.w.now o) (key_name a.k)) c.wide-o.ensures in
-    (omega arith, below_more _ _ l.invariant.1 (sym e ∙ c.if-is_named.false))
+    below_more _ _ c.loop-j.invariant (sym e ∙ c.if-is_named.false)
 
 pub returns : goal.returns
 returns c =
     let a = c.args in
     let q : length a.sc.at ≡ 8 = search rules in
     let h = c.loop-j-test.false in
-    slot-nowhere a.w.now a.sc c.requires q (key_name a.k) (λ k b. c.loop-j.invariant.1 k (omega arith))
+    slot-nowhere a.w.now a.sc c.requires q (key_name a.k) (λ k b. c.loop-j.invariant k (omega arith))

@@ -1,6 +1,6 @@
 -- The names in scope are compared with the name from the first slot on.
 -- By the invariant that no slot passed has the name.
-use Prim.Native.Nat.{ℕ, ◌-◌, ◌≤◌, ◌<◌}
+use Prim.Native.Nat.{ℕ, ◌<◌}
 use mathlib.Core.Path.{◌≡◌}
 use mathlib.Core.Bool.{false}
 use lib.ListN.{get_or}
@@ -10,7 +10,4 @@ use Rattle.table.specs.Tests.{key_name}
 use Rattle.text_put.proofs.values.slot.Given as goal
 
 abbrev pub invariant-loop-j : goal.invariant-loop-j
-invariant-loop-j l = (l.j ≤ l.n) × ((m : ℕ) → m < l.j → same_name (name_at l.w (get_or l.at m 0)) (key_name l.k) ≡ false)
-
-abbrev pub decreases-loop-j : goal.decreases-loop-j
-decreases-loop-j l = l.n - l.j
+invariant-loop-j l = (m : ℕ) → m < l.j → same_name (name_at l.w (get_or l.at m 0)) (key_name l.k) ≡ false
