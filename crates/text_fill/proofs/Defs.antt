@@ -19,7 +19,7 @@ use Rattle.text.specs.Syntax.Process.{one, ◌∥◌}
 use Rattle.text.specs.Syntax.Def.{define}
 use Rattle.text.specs.Syntax.Located.{at as placed}
 use Rattle.text.specs.Tree.{settle, settle_p, settle_def, settle_at}
-use Rattle.text.specs.Grammar.{Rest, the, next, named, list_of, process, net_next}
+use Rattle.text.specs.Grammar.{the, next, named, list_of, process, net_next}
 use Rattle.text.specs.Grammar.Rest.{ok, bad}
 use Rattle.text.specs.Write.{name_t, joined_t, list_t, process_t, network_t, text_t}
 use Rattle.text.specs.WellFormed.{Is, Each, NonEmpty, WellProcess, WellDef}

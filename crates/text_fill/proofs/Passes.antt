@@ -50,7 +50,7 @@ pub filled : {w v : List ℕ} (parts defs : ℕ) {out after : List (List ℕ)} (
 filled parts defs (Some n) t p = record { script = p.script; gathered = p.gathered }
 filled parts defs None t p = absurd p
 
-pub all-by : {s w u v v' : List ℕ} (i : ℕ) (x : Ready s) → u ≡ heads (tree_in x).defs 0 i w → (r : Passed) → BodiesPut s u v i r x.text → {out after : List (List ℕ)} (n : Option ℕ)
+pub all-by : {s u v : List ℕ} (w v' : List ℕ) (i : ℕ) (x : Ready s) → u ≡ heads (tree_in x).defs 0 i w → (r : Passed) → BodiesPut s u v i r x.text → (out after : List (List ℕ)) (n : Option ℕ)
     → ((y : NetworkAt s r.end) → Gives (λ n. NetworkPut v v' r.place out after n (y.first ∷ y.more)) n) → Gives (λ n. AllPut w v' i out after n (tree_in x)) n
-all-by i x g r b (Some n) h = all-put i x g r b (network-of x r b h)
-all-by i x g r b None h = absurd (h (network-at x r b))
+all-by w v' i x g r b out after (Some n) h = all-put i x g r b (network-of x r b h)
+all-by w v' i x g r b out after None h = absurd (h (network-at x r b))

@@ -44,7 +44,7 @@ pub struct Spotted {
 }
 
 // The three passes over a text, its first part at i: how many components there are.
-fn passes(s: &[u8], w: &mut Script, i: usize, out: &mut [[u32; 2]]) -> Option<usize>
+fn put_all(s: &[u8], w: &mut Script, i: usize, out: &mut [[u32; 2]]) -> Option<usize>
     requires { (i < 4096) × Ready s.now }
     ensures { (x : Ready s.now) → Gives (λ n. AllPut w.old w.new i out.old out.new n (tree_in x)) result }
 {
@@ -60,5 +60,5 @@ pub fn fill(s: &[u8], parts: usize, defs: usize, w: &mut Script, out: &mut [[u32
 {
     w[0] = parts as u32;
     w[3] = defs as u32;
-    passes(s, w, parts.saturating_sub(1), out).unwrap_or(0)
+    put_all(s, w, parts.saturating_sub(1), out).unwrap_or(0)
 }

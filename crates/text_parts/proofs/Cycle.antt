@@ -12,7 +12,7 @@ use Rattle.text.proofs.Unbounded.{the-less}
 use Rattle.std.specs.Prelude.{Some}
 use Rattle.text_words.specs.Bytes.{mapped}
 use Rattle.text_words.proofs.Positions.{bytes-fall}
-use Rattle.text_parts.specs.Openings.{Opening, leaf, single, double, an_opening}
+use Rattle.text_parts.specs.Openings.{Opening, double, an_opening}
 use Rattle.text_parts.specs.Counts.{Count, leaf_count, joined, wrapped, capped}
 use Rattle.text_parts.specs.Counting.{part_counts, process_counts, close_form}
 use Rattle.text_parts.specs.declared.Form.{Form}

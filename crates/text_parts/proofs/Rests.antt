@@ -5,10 +5,9 @@ use native.Mathlib.Omega.{arith}
 use mathlib.Core.Bool.{Bool, true, false}
 use mathlib.Core.List.{List, [], ◌∷◌}
 use mathlib.Core.Path.{◌≡◌, refl, ap, sym}
-use borrow.Author.Tests.{ne_eqb, eq-eqb}
 use lib.Dec.{eqb}
-use lib.ListN.{length, drop}
-use Rattle.text.specs.Tokens.{Token, lex}
+use lib.ListN.{length}
+use Rattle.text.specs.Tokens.{Token}
 use Rattle.text.specs.Tokens.Token.{word, sign}
 use Rattle.text.specs.Grammar.{Rest, Reader, bind, when, the, next}
 use Rattle.text.specs.Grammar.Rest.{ok, bad}

@@ -6,18 +6,17 @@ use native.Mathlib.Numerals.{add-one}
 use mathlib.Core.Bool.{Bool, true, false, not, cond}
 use mathlib.Core.List.{List, [], ◌∷◌, ◌++◌, append_assoc, append-nil}
 use mathlib.Core.Path.{◌≡◌, refl, sym, ap, subst, ◌∙◌}
-use borrow.Author.Tests.{eq-eqb, ne_eqb, lt-leb, leb-true, leb-false}
+use borrow.Author.Tests.{lt-leb, leb-true, leb-false}
 use lib.Dec.{eqb, leb}
 use lib.ListN.{length, take, drop, get_or, drop_of_length-le, length-drop, length-take}
 use lib.Seq.{drop-cons, take-suc, get_or-drop}
-use Rattle.std.specs.Prelude.{Some, None}
-use Rattle.terms.specs.Names.{Name, same_name}
+use Rattle.std.specs.Prelude.{Some}
+use Rattle.terms.specs.Names.{Name}
 use Rattle.terms.specs.Same.{every}
 use Rattle.terms.specs.Characters.{class_of, is_blank, is_alnum}
 use Rattle.text.specs.Tokens.{Token, lex, lex_from, flush, number_from, plain}
-use Rattle.text.specs.Grammar.{Rest, the, a_word, named, end}
+use Rattle.text.specs.Grammar.{the, a_word, named, end}
 use Rattle.text.specs.Grammar.Rest.{ok, bad}
-use Rattle.text.proofs.Exact.{same-eq}
 use Rattle.text_words.specs.Bytes.{after_blanks, after_alnum, alnum_of, Run, IsSign, ended, skim}
 use Rattle.text_words.proofs.Lexing.{lex-blanks, blanks-head, other_sign, not_end, lex-word, no_word, alnum_of-alnum, tail-tokens}
 

@@ -1,9 +1,8 @@
 -- `net_next` says whether a word and `[` come next.
 -- The word past the blanks is the next token; then by whether the sign follows.
-use mathlib.Core.Path.{◌≡◌, sym, ap, ◌∙◌}
+use mathlib.Core.Path.{◌∙◌}
 use borrow.Author.Tests.{le-ltb}
 use lib.ListN.{drop}
-use Rattle.std.specs.Prelude.{Option, Some, None}
 use Rattle.text.specs.Tokens.{lex}
 use Rattle.text_words.proofs.Positions.{word-is, word_none}
 use Rattle.text_scan.proofs.Texts.{net-by, net-none}

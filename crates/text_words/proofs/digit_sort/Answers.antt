@@ -13,7 +13,7 @@ returns-then-number_of-le1000000 c =
 pub returns : goal.returns
 returns c =
     elim c.else-is_plain.branch [
-      else-is_plain-via-then-is_plain+then-all_digits+else-number_of-le1000000 w ↦ digit-above _ c.requires (sym c.is_plain.ensures ∙ w.if-is_plain.true) (sym w.all_digits.ensures ∙ w.if-all_digits.true) (sym w.number_of.ensures.small ∙ lt-leb _ _ w.if-number_of-le1000000.false)
-    | else-is_plain-via-then-is_plain+else-all_digits w ↦ digit-not-digits _ c.requires (sym w.all_digits.ensures ∙ w.if-all_digits.false)
-    | else-is_plain-via-else-is_plain w ↦ digit-not-plain _ c.requires (sym c.is_plain.ensures ∙ w.if-is_plain.false)
+      | else-is_plain-via-then-is_plain+then-all_digits+else-number_of-le1000000 w ↦ digit-above _ c.requires (sym c.is_plain.ensures ∙ w.if-is_plain.true) (sym w.all_digits.ensures ∙ w.if-all_digits.true) (sym w.number_of.ensures.small ∙ lt-leb _ _ w.if-number_of-le1000000.false)
+      | else-is_plain-via-then-is_plain+else-all_digits w ↦ digit-not-digits _ c.requires (sym w.all_digits.ensures ∙ w.if-all_digits.false)
+      | else-is_plain-via-else-is_plain w ↦ digit-not-plain _ c.requires (sym c.is_plain.ensures ∙ w.if-is_plain.false)
     ]

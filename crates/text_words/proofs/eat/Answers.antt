@@ -12,6 +12,6 @@ pub returns : goal.returns
 returns c =
     let a = c.args in
     elim c.else-a-s.branch [
-      else-a-s-via-then-a-s+else-s-a w ↦ eat-other a.s.now a.at _ c.skip_blanks-a.ensures a.c w.if-a-s.true w.if-s-a.false
-    | else-a-s-via-else-a-s w ↦ eat-over a.s.now a.at _ c.skip_blanks-a.ensures a.c w.if-a-s.false
+      | else-a-s-via-then-a-s+else-s-a w ↦ eat-other a.s.now a.at _ c.skip_blanks-a.ensures a.c w.if-a-s.true w.if-s-a.false
+      | else-a-s-via-else-a-s w ↦ eat-over a.s.now a.at _ c.skip_blanks-a.ensures a.c w.if-a-s.false
     ]

@@ -23,6 +23,6 @@ returns c =
     let k = c.skip_blanks-a.ensures in
     let r = c.word_end-e.ensures in
     elim c.else-a-e.branch [
-      else-a-e-via-then-a-e+else-suits w ↦ field-no (fits a.f) (lex (drop a.at a.s.now)) _ _ (word-is a.s.now a.at _ _ k r w.if-a-e.true) (sym (ap (λ x. suits_of x a.f) w.sort_of.ensures ∙ suits-is _ a.f) ∙ sym w.suits.ensures ∙ w.if-suits.false)
-    | else-a-e-via-else-a-e w ↦ field-none (fits a.f) (lex (drop a.at a.s.now)) (word_none a.s.now a.at _ _ k r w.if-a-e.false)
+      | else-a-e-via-then-a-e+else-suits w ↦ field-no (fits a.f) (lex (drop a.at a.s.now)) _ _ (word-is a.s.now a.at _ _ k r w.if-a-e.true) (sym (ap (λ x. suits_of x a.f) w.sort_of.ensures ∙ suits-is _ a.f) ∙ sym w.suits.ensures ∙ w.if-suits.false)
+      | else-a-e-via-else-a-e w ↦ field-none (fits a.f) (lex (drop a.at a.s.now)) (word_none a.s.now a.at _ _ k r w.if-a-e.false)
     ]

@@ -2,7 +2,7 @@
 -- The loop's invariant: the number so far, followed by the bytes from the loop's place on, is the word's number.
 use Prim.Native.Nat.{◌+◌, ◌*◌, ◌-◌}
 use native.Mathlib.Omega.{arith}
-use mathlib.Core.Path.{◌≡◌, refl, ap, ◌∙◌}
+use mathlib.Core.Path.{◌≡◌, ap, ◌∙◌}
 use lib.Dec.{leb}
 use lib.ListN.{drop, get_or}
 use Rattle.text.specs.Tokens.{number_from}

@@ -1,6 +1,5 @@
 -- `word_end` stops where the longest run of letters and digits ends.
 -- The loop's invariant: from `at` to i stand letters and digits only, and the run goes on as it does from i.
-use native.Mathlib.Omega.{arith}
 use mathlib.Core.Path.{sym, ◌∙◌}
 use Rattle.text_words.proofs.Positions.{running-first, running-on, running-stop, running-max}
 use Rattle.text_words.proofs.word_end.Goals as goal

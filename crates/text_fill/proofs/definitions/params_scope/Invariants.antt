@@ -5,7 +5,4 @@ use Rattle.text_tree.specs.Pass.{no_scope, params_from}
 use Rattle.text_fill.proofs.definitions.params_scope.Given as goal
 
 abbrev pub invariant-loop-j : goal.invariant-loop-j
-invariant-loop-j l = (l.j ≤ l.n) × (l.sc.n ≤ l.j) × (params_from l.w l.k l.j (l.n - l.j) l.sc ≡ params_from l.w l.k 0 l.n no_scope)
-
-abbrev pub decreases-loop-j : goal.decreases-loop-j
-decreases-loop-j l = l.n - l.j
+invariant-loop-j l = (l.sc.n ≤ l.j) × (params_from l.w l.k l.j (l.n - l.j) l.sc ≡ params_from l.w l.k 0 l.n no_scope)

@@ -7,8 +7,8 @@ use Rattle.text_fill.proofs.definitions.put_heads.Goals as goal
 pub loop-w-init : goal.loop-w-init
 loop-w-init c = (c.requires.0, λ x. heads-first _ _ x)
 
-pub put_head-r-requires : goal.put_head-r-requires
-put_head-r-requires c =
+pub put_head-requires : goal.put_head-requires
+put_head-requires c =
     let x = c.requires.1 in
     let g = c.loop-w.invariant.1 x in
     let t = turn g.defs (sym c.net_next.ensures ∙ c.loop-w-test.true) x.well.some-located in
@@ -27,20 +27,26 @@ loop-w-smaller c =
     let x = c.requires.1 in
     let g = c.loop-w.invariant.1 x in
     let t = turn g.defs (sym c.net_next.ensures ∙ c.loop-w-test.true) x.well.some-located in
-    defs-fall g.defs t _ (c.put_head-r.ensures t.def).left_is
+    defs-fall g.defs t _ (c.in_ok-r.ensures t.def).left_is
 
 pub loop-w-preserved : goal.loop-w-preserved
 loop-w-preserved c =
     let x = c.requires.1 in
     let t = turn (c.loop-w.invariant.1 x).defs (sym c.net_next.ensures ∙ c.loop-w-test.true) x.well.some-located in
-    let h = (c.put_head-r.ensures t.def).place in
+    let h = (c.in_ok-r.ensures t.def).place in
     let l = c.loop-w.invariant.0 in (
       omega arith,
       λ x.
           let g = c.loop-w.invariant.1 x in
           let t = turn g.defs (sym c.net_next.ensures ∙ c.loop-w-test.true) x.well.some-located in
-          heads-on g t _ (c.put_head-r.ensures t.def),
+          heads-on g t _ (c.in_ok-r.ensures t.def),
     )
 
 pub returns : goal.returns
 returns c = λ x. heads-end (c.loop-w.invariant.1 x) (sym c.net_next.ensures ∙ c.loop-w-test.false)
+
+pub returns-in_err-r : goal.returns-in_err-r
+returns-in_err-r c =
+    λ x.
+    let t = turn (c.loop-w.invariant.1 x).defs (sym c.net_next.ensures ∙ c.loop-w-test.true) x.well.some-located in
+    absurd (c.in_err-r.ensures t.def)

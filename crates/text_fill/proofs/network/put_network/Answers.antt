@@ -2,41 +2,38 @@
 use native.Mathlib.Omega.{arith}
 use mathlib.Core.Path.{refl, ◌∙◌}
 use borrow.Author.Rules.{rules}
-use Rattle.terms.specs.Characters.{class_of}
-use Rattle.text.specs.Tokens.{lex_from}
 use Rattle.text_fill.proofs.Bracketed.{network-first, going-at, place-small, going_end, going_on, going-falls}
 use Rattle.text_fill.proofs.Spreading.{spread-within}
 use Rattle.text_fill.proofs.network.put_network.Goals as goal
 
-pub loop-at-init : goal.loop-at-init
-loop-at-init c = (c.requires.0, omega arith, refl, λ x. network-first _ _ _ _ _ x)
+pub loop-r-init : goal.loop-r-init
+loop-r-init c = (c.requires.0, omega arith, refl, λ x. network-first _ _ _ _ _ x)
 
-pub put_located-r-requires : goal.put_located-r-requires
-put_located-r-requires c =
-    let v = c.loop-at.invariant in
+pub put_located-requires : goal.put_located-requires
+put_located-requires c =
+    let v = c.loop-r.invariant in
     (v.0, v.1, going-at (v.3 c.requires.1))
 
-pub eat-b-requires : goal.eat-b-requires
-unfolding lex_from class_of
-eat-b-requires c = λ l. refl
-
-pub shape_of-out-then-b-eq0 : goal.shape_of-out-then-b-eq0
-shape_of-out-then-b-eq0 c =
-    let l = c.loop-at.invariant.2 in
+pub shape_of-out-in_default : goal.shape_of-out-in_default
+shape_of-out-in_default c =
+    let l = c.loop-r.invariant.2 in
     search rules
 
-pub returns-then-b-eq0 : goal.returns-then-b-eq0
-returns-then-b-eq0 c =
-    let v = c.loop-at.invariant in
-    λ x. going_end (v.3 x) v.1 _ c.put_located-r.ensures _ c.eat-b.ensures c.if-b-eq0.true
+pub returns-in_default : goal.returns-in_default
+returns-in_default c =
+    let v = c.loop-r.invariant in
+    λ x. going_end (v.3 x) v.1 _ c.in_ok-r.ensures c.in_default.ensures
 
-pub loop-at-smaller : goal.loop-at-smaller
-loop-at-smaller c =
-    let v = c.loop-at.invariant in
-    going-falls (v.3 c.requires.1) v.1 _ c.put_located-r.ensures _ c.eat-b.ensures c.if-b-eq0.false
+pub loop-r-smaller : goal.loop-r-smaller
+loop-r-smaller c =
+    let v = c.loop-r.invariant in
+    going-falls (v.3 c.requires.1) v.1 _ c.in_ok-r.ensures _ c.in-Some.ensures
 
-pub loop-at-preserved : goal.loop-at-preserved
-loop-at-preserved c =
-    let v = c.loop-at.invariant in
+pub loop-r-preserved : goal.loop-r-preserved
+loop-r-preserved c =
+    let v = c.loop-r.invariant in
     let y = going-at (v.3 c.requires.1) in
-    (place-small (v.3 c.requires.1) v.1 _ c.put_located-r.ensures _ c.eat-b.ensures v.0, spread-within (c.put_located-r.ensures y).gathered, c.out-1.given ∙ v.2, λ x. going_on (v.3 x) v.1 _ c.put_located-r.ensures _ c.eat-b.ensures c.if-b-eq0.false)
+    (place-small (v.3 c.requires.1) v.1 _ c.in_ok-r.ensures v.0, spread-within (c.in_ok-r.ensures y).gathered, c.out-1.given ∙ v.2, λ x. going_on (v.3 x) v.1 _ c.in_ok-r.ensures _ c.in-Some.ensures)
+
+pub returns-in_err-r : goal.returns-in_err-r
+returns-in_err-r c = λ x. absurd (c.in_err-r.ensures (going-at (c.loop-r.invariant.3 x)))

@@ -1,7 +1,5 @@
 -- A bracket, a word, a comma, then a timer and a name.
-use mathlib.Core.Path.{refl}
-use Rattle.terms.specs.Characters.{class_of}
-use Rattle.text.specs.Tokens.{lex_from, opens, comma}
+use Rattle.text.specs.Tokens.{opens, comma}
 use Rattle.text_put.proofs.Peeling.{peel-sign}
 use Rattle.text_put.proofs.heads.front_at.Goals as goal
 

@@ -1,8 +1,7 @@
 -- A bracket, a timer, a value; then the row.
 use mathlib.Core.List.{◌∷◌}
 use mathlib.Core.Path.{refl, ap, ◌∙◌}
-use Rattle.terms.specs.Characters.{class_of}
-use Rattle.text.specs.Tokens.{lex_from, opens, comma}
+use Rattle.text.specs.Tokens.{opens, comma}
 use Rattle.text.specs.Tokens.Token.{sign}
 use Rattle.text.specs.Write.{timer_t}
 use Rattle.text_put.specs.Found.{name_of}

@@ -1,8 +1,6 @@
 -- A timer, a comma, a word, a comma, one after the other.
-use mathlib.Core.Path.{refl}
-use Rattle.text.specs.Tokens.{lex_from, comma}
+use Rattle.text.specs.Tokens.{comma}
 use Rattle.text_put.proofs.Peeling.{peel-sign}
-use Rattle.terms.specs.Characters.{class_of}
 use Rattle.text_put.proofs.words.pair_at.Goals as goal
 
 pub returns : goal.returns
