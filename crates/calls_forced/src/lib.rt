@@ -7,6 +7,7 @@
 //   press           the locations where a component presses
 //   forced          the report of a valid table
 //
+//   proofs/Places   who has no place, and what is heard of whom
 //   proofs/Marking  places noted component by component are those of all components
 //   proofs/Forcing  they name exactly the locations where the rules do not allow the tick
 //   proofs/Bits     the laws of a set of bits

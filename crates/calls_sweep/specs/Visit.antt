@@ -1,4 +1,4 @@
--- One position of a step's sweep, in numbers: what the contracts of `sweep` cite.
+-- One position of a step's sweep: what the contracts of `sweep` cite.
 -- Serves inner contracts only.
 use Rattle.std.specs.Prelude.{ℕ, ◌*◌, ◌≤◌, List, [], ◌∷◌, map, cond, ◌≡◌, Option, Some, None, is_some, length, take, drop}
 use Rattle.terms.specs.Rules.Answer.{accepted}

@@ -1,11 +1,11 @@
 // Layer 3, calls: the actions of a step.
 //
 //   specs/Sweep   the actions of a step on the table
-//   specs/Visit   one position of the sweep, in numbers
+//   specs/Visit   one position of the sweep
 //   sweep         the loop over the positions
 //
 //   proofs/Sweeps    the sweep on the table stands for the sweep of the rules
-//   proofs/Queues    the chains of positions that hear a channel
+//   proofs/Queues    the channel that a component sends on is one of 64, or 64
 //   proofs/Sweeping  one position of the sweep in code
 //   proofs/Going     the loop over the positions
 //   proofs/Tallying  waits, total and count after the sweep are those of its actions one by one
@@ -16,7 +16,7 @@ pub mod sweep;
 use table::Comp;
 
 // What the component at a position does: it calls a definition, moves, or sends to another, which receives.
-#[derive(Clone, Copy, PartialEq, Eq)]
+#[derive(Clone, Copy)]
 pub enum Act {
     Calls,
     Moves,
