@@ -1,4 +1,4 @@
--- Laws of what readers give: changing what was read, one reader after another, and what the code's positions say.
+-- Laws of what readers give: changing what was read, one reader after another.
 -- By the two cases, something was read or not.
 use Prim.Native.Nat.{ℕ, ◌<◌}
 use native.Mathlib.Omega.{arith}

@@ -54,30 +54,10 @@ fn with_word(k: Key, n: u32, v: u32) -> Key
     ensures { result ≡ with_word k n v }
 {
     match n {
-        0 => Key {
-            a: v,
-            b: k.b,
-            c: k.c,
-            d: k.d,
-        },
-        1 => Key {
-            a: k.a,
-            b: v,
-            c: k.c,
-            d: k.d,
-        },
-        2 => Key {
-            a: k.a,
-            b: k.b,
-            c: v,
-            d: k.d,
-        },
-        3 => Key {
-            a: k.a,
-            b: k.b,
-            c: k.c,
-            d: v,
-        },
+        0 => Key { a: v, ..k },
+        1 => Key { b: v, ..k },
+        2 => Key { c: v, ..k },
+        3 => Key { d: v, ..k },
         _ => k,
     }
 }
