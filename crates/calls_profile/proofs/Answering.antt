@@ -8,12 +8,11 @@ use lib.Dec.{ltb}
 use Rattle.std.specs.Prelude.{Result, Ok, Err}
 use Rattle.terms.specs.Refusals.{number_of, answer_of}
 use Rattle.terms.specs.declared.refusal.Refusal.{Refusal}
-use Rattle.terms.specs.Rules.{Answer}
 use Rattle.terms.specs.Rules.Answer.{refused, accepted}
 use Rattle.table.specs.declared.State.{State}
 use Rattle.table.specs.Words.{locs_in}
 use Rattle.calls_act.specs.Acted.{asked}
-use Rattle.calls_step.specs.Stepped.{Step, step_rule}
+use Rattle.calls_step.specs.Stepped.{step_rule}
 use Rattle.calls_profile.specs.Profiled.{conforms_in, test_rule, conforming_rule}
 
 module _ (w : List ℕ) (st : State) (l size : ℕ) (r : Result Bool Refusal) (e : answer_of (λ y. y) r ≡ test_rule w st l) where

@@ -1,7 +1,7 @@
 -- `role_of` meets its contract: who is not ready has no role, and the channel of another is one of 64.
-use Prim.Native.Nat.{◌+◌, ◌<◌}
+use Prim.Native.Nat.{◌+◌}
 use native.Mathlib.Omega.{arith}
-use mathlib.Core.Path.{◌≡◌, sym, ap, subst, ◌∙◌}
+use mathlib.Core.Path.{sym, ap, subst, ◌∙◌}
 use Rattle.table.specs.Words.{head_at}
 use Rattle.table.specs.Split.{due_at}
 use Rattle.table.proofs.ValidBool.{failed, passed}
@@ -70,4 +70,3 @@ returns-in-Call c =
     let r = passed c.if-not-ready_at.false c.ready_at.ensures in
     let e = ap (head_at a.w.now) (sym c.wide.ensures) ∙ sym c.head_at.ensures ∙ c.in-Call.is in
     role-is a.w.now a.l a.c _ r e
-

@@ -1,9 +1,9 @@
 -- `conforms_at` meets its contract. The loop's invariant: the roles of the components looked at are noted, and none was taken twice.
-use Prim.Native.Nat.{◌+◌, ◌<◌, ◌≤◌}
+use Prim.Native.Nat.{◌+◌, ◌<◌}
 use native.Mathlib.Omega.{arith}
 use mathlib.Core.Bool.{true, not}
 use mathlib.Core.Path.{◌≡◌, refl, sym, ap, subst, ◌∙◌}
-use lib.ListN.{length, take, set, length-set}
+use lib.ListN.{length, take, length-set}
 use lib.Seq.{take_all}
 use Rattle.std.specs.Prelude.{Some}
 use Rattle.table.specs.declared.State.{State}
@@ -12,7 +12,7 @@ use Rattle.table.proofs.InUse.{comps-length, in_use, comp-held, valid-script}
 use Rattle.calls_act.proofs.Positions.{few-comps}
 use Rattle.calls_forced.specs.Marked.{Marked}
 use Rattle.calls_forced.proofs.Marking.{marked-none, marked-one, marked-out}
-use Rattle.calls_profile.specs.Roles.{OfRole, no_role, role_of, apart, is_free}
+use Rattle.calls_profile.specs.Roles.{no_role, role_of, apart, is_free}
 use Rattle.calls_profile.proofs.Apart.{next-apart, apart-fails, free-place, free-nothing, late-is_free}
 use Rattle.calls_profile.proofs.test.conforms_at.Goals as goal
 use Rattle.calls_profile.proofs.test.conforms_at.Goals.{in-Place+else-taken-k, in-Nothing}
