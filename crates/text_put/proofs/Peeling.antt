@@ -110,14 +110,14 @@ module _ (t : Span) (us : List Token) (w : Name) (f : WellTimer (timer_of t)) (g
   pub timer-made : (x : CodeTimer) → made_of n ≡ Some x → x.raw ≡ timer_word (timer_of t)
   timer-made x m = timer-ticks t us w f g e x.raw (λ h. made-is n x m ∙ k h)
 
-  pub timer-large : made_of n ≡ None → 0 ≡ timer_word (timer_of t)
-  unfolding timer_word same_name
+  pub timer-large : made_of n ≡ None → ⊥
+  unfolding same_name
   timer-large m = go t f g
     where
-      go : (t : Span) → WellTimer (timer_of t) → word w ∷ us ≡ timer_t t us → 0 ≡ timer_word (timer_of t)
+      go : (t : Span) → WellTimer (timer_of t) → word w ∷ us ≡ timer_t t us → ⊥
       go (exactly j) f g =
           let i : w ≡ digits j = cc in
           let q : number w ≡ j = ap number i ∙ digits_number j in
           let r = k (omega arith) in
-          absurd (omega (arith, made-not n m))
-      go forever f g = let i : w ≡ bytes "inf" = cc in absurd (false≢true (sym e ∙ ap (λ x. same_name x (bytes "inf")) i))
+          omega (arith, made-not n m)
+      go forever f g = let i : w ≡ bytes "inf" = cc in false≢true (sym e ∙ ap (λ x. same_name x (bytes "inf")) i)

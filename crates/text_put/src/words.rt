@@ -45,16 +45,14 @@ pub fn name_at(s: &[u8], at: usize) -> Option<Named>
 }
 
 // The word of a timer in a row, by the timer's own constructor: a text that has the form has no number above its range.
-fn timer_of(w: &[u8]) -> u32
-    ensures { (t : Span) (us : List Token) → WellTimer (timer_of t) → word w.now ∷ us ≡ timer_t t us → result ≡ timer_word (timer_of t) }
+fn timer_of(w: &[u8]) -> Option<u32>
+    ensures { (t : Span) (us : List Token) → WellTimer (timer_of t) → word w.now ∷ us ≡ timer_t t us → Gives (λ r. r ≡ timer_word (timer_of t)) result }
 {
     if is_same(w, b"inf") {
-        return terms::Timer::INF.raw;
+        return Some(terms::Timer::INF.raw);
     }
-    match terms::Timer::new(number_of(w)) {
-        Some(t) => t.raw,
-        None => 0,
-    }
+    let t = terms::Timer::new(number_of(w))?;
+    Some(t.raw)
 }
 
 // The next word, as a timer.
@@ -64,7 +62,7 @@ pub fn timer_at(s: &[u8], at: usize) -> Option<Timed>
     let a = skip_blanks(s, at);
     let e = word_end(s, a);
     if a < e {
-        let t = timer_of(&s[a..e]);
+        let t = timer_of(&s[a..e])?;
         return Some(Timed { end: e, t: t });
     }
     None

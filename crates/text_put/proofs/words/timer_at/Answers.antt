@@ -20,8 +20,14 @@ returns-then-a-e c =
     let n = peel-name c.args.s.now c.args.at _ _ k r (timer_name t) us i c.if-a-e.true in
     record {
       left = peel-word c.args.s.now c.args.at _ _ k r (timer_name t) us i c.if-a-e.true;
-      timer = c.timer_of-t.ensures t us f (ap (λ x. word x ∷ us) n ∙ sym (timer-word t us));
+      timer = c.in_ok-t.ensures t us f (ap (λ x. word x ∷ us) n ∙ sym (timer-word t us));
     }
 
 pub returns : goal.returns
 returns c = λ t us f g. peel-none c.args.s.now c.args.at _ _ c.skip_blanks-a.ensures c.word_end-e.ensures (timer_name t) us (g ∙ timer-word t us) c.if-a-e.false
+
+pub returns-in_err-t : goal.returns-in_err-t
+returns-in_err-t c =
+    λ t us f g.
+    let n = peel-name c.args.s.now c.args.at _ _ c.skip_blanks-a.ensures c.word_end-e.ensures (timer_name t) us (g ∙ timer-word t us) c.if-a-e.true in
+    absurd (c.in_err-t.ensures t us f (ap (λ x. word x ∷ us) n ∙ sym (timer-word t us)))
