@@ -211,18 +211,7 @@ fn args_ok(w: &Script, i: usize, n: usize, m: u32) -> bool
     requires { Scoped w.now i n }
     ensures { result ≡ every (ref_ok w.now (names_at w.now i)) (args_at w.now i m) }
 {
-    let e = wide(m);
-    let mut k = 0;
-    while k < 4 {
-        if e <= k {
-            return true;
-        }
-        if !ref_ok(w, i, n, field(w, i, ARG_FIELD + k)) {
-            return false;
-        }
-        k += 1;
-    }
-    true
+    (0..wide(m).min(4)).all(|k| ref_ok(w, i, n, field(w, i, ARG_FIELD + k)))
 }
 
 fn call_ok(w: &Script, i: usize, n: usize) -> bool
@@ -272,18 +261,7 @@ fn plain_args(w: &Script, i: usize, m: u32) -> bool
     ensures { result ≡ true → (k : ℕ) → k < m → k < 4 → field w.now i (arg_field + k) < locs_in w.now }
 {
     let l = word(w, 1);
-    let e = wide(m);
-    let mut k = 0;
-    while k < 4 {
-        if e <= k {
-            return true;
-        }
-        if l <= field(w, i, ARG_FIELD + k) {
-            return false;
-        }
-        k += 1;
-    }
-    true
+    (0..wide(m).min(4)).all(|k| field(w, i, ARG_FIELD + k) < l)
 }
 
 // A held definition with its number of arguments, all of which are locations?
@@ -331,14 +309,7 @@ fn after_leaves(w: &Script, i: usize, n: usize) -> usize
     requires { (i ≤ n) × (n ≤ 4096) × (defs_in w.now ≤ 32) × (locs_in w.now ≤ 64) }
     ensures { (i ≤ result) × (result ≤ n) × ((k : ℕ) → k < result → i ≤ k → Leaf w.now k) }
 {
-    let mut j = i;
-    while j < n {
-        if !leaf_ok(w, j) {
-            return j;
-        }
-        j += 1;
-    }
-    j
+    (i..n).find(|j| !leaf_ok(w, *j)).unwrap_or(n)
 }
 
 // The names in the scopes of all parts, where no part below f has a variable in scope. An inner process has the scope of its part, or one name more, which was

@@ -2,7 +2,7 @@
 -- By induction on how many numbers there are.
 use Prim.Native.Nat.{ℕ, zero, suc, ◌+◌, ◌≤◌, ◌<◌}
 use native.Mathlib.Omega.{arith}
-use mathlib.Core.Bool.{Bool, true, false, ◌&&◌}
+use mathlib.Core.Bool.{Bool, true, false, ◌&&◌, false≢true}
 use mathlib.Core.Logic.{◌⊎◌, inl, inr}
 use mathlib.Core.Path.{◌≡◌, refl, sym, ap, subst, ◌∙◌}
 use lib.Dec.{eqb}
@@ -41,3 +41,10 @@ module _ (test : ℕ → Bool) where
       go : ((list_all test (range_with_len 0 n) ≡ true) × Holds 0 n) ⊎ ((list_all test (range_with_len 0 n) ≡ false) × Fails 0 n) → r ≡ B
       go (inl h) = e ∙ h.0 ∙ sym (each (λ k b. h.1 k (omega arith) (omega arith)))
       go (inr h) = e ∙ h.0 ∙ sym (miss h.1.0 (omega (arith, h.1.1.1.0)) h.1.1.1.1)
+
+  pub all-holds : (n : ℕ) (r : Bool) → r ≡ list_all test (range_with_len 0 n) → r ≡ true → (k : ℕ) → k < n → test k ≡ true
+  all-holds n r e t k b = go (scan 0 n)
+    where
+      go : ((list_all test (range_with_len 0 n) ≡ true) × Holds 0 n) ⊎ ((list_all test (range_with_len 0 n) ≡ false) × Fails 0 n) → test k ≡ true
+      go (inl h) = h.1 k (omega arith) (omega arith)
+      go (inr h) = absurd (false≢true (sym h.0 ∙ sym e ∙ t))

@@ -1,33 +1,26 @@
 -- Parts are passed as long as each is in order by its own.
--- By the invariant that all parts passed are in order.
-use Prim.Native.Nat.{◌≤◌}
+-- By what the library says of `find` over a range.
+use Prim.Native.Nat.{ℕ, ◌≤◌, ◌<◌}
 use native.Mathlib.Omega.{arith}
-use mathlib.Core.Path.{refl}
-use borrow.Author.Count.{below_more}
-use Rattle.table.proofs.ValidBool.{passed}
+use mathlib.Core.List.{List}
+use mathlib.Core.Path.{◌≡◌, sym}
+use Rattle.std.proofs.Common.{rules}
+use Rattle.std.specs.Prelude.{Option, Some, None}
+use Rattle.std.specs.Option.{MatchOption, unwrap_or}
+use Rattle.std.specs.Bool.{⊤}
+use Rattle.std.proofs.lemmas.Iterator.{first_from_Range}
+use borrow.Author.Tests.{tests}
 use Rattle.table_parts.specs.Tests.{Leaf}
 use Rattle.table_parts.proofs.after_leaves.Goals as goal
 
-pub loop-j-init : goal.loop-j-init
-loop-j-init c = (omega arith, omega (arith, c.requires), λ k l g. absurd (omega (arith, l, g)))
-
-pub leaf_ok-requires : goal.leaf_ok-requires
-leaf_ok-requires c = let p = c.requires in (omega (arith, p), p.2, p.3)
-
-pub returns-then-not-leaf_ok : goal.returns-then-not-leaf_ok
-returns-then-not-leaf_ok c = c.loop-j.invariant
-
-pub overflow_add-j : goal.overflow_add-j
-overflow_add-j c = omega (arith, c.requires)
-
-pub loop-j-smaller : goal.loop-j-smaller
-loop-j-smaller c = omega arith
-
-pub loop-j-preserved : goal.loop-j-preserved
-loop-j-preserved c =
-    let l = c.loop-j in
-    let a = c.args in
-    (omega (arith, l.invariant.0), omega arith, below_more (λ k. a.i ≤ k → Leaf a.w.now k) l.j l.invariant.2 (λ g. c.leaf_ok.ensures (passed c.if-not-leaf_ok.false refl)))
+found : (w : List ℕ) (i n r : ℕ) (o : Option ℕ) → i ≤ n → r ≡ unwrap_or o n
+    → MatchOption o ((k : ℕ) → i ≤ k → k < n → Leaf w k) (λ j. (i ≤ j) × (j < n) × ⊤ × ((k : ℕ) → i ≤ k → k < j → Leaf w k))
+    → (i ≤ r) × (r ≤ n) × ((k : ℕ) → k < r → i ≤ k → Leaf w k)
+found w i n r None b e h = (omega (arith, e), omega (arith, e), λ k c d. h k d (omega (arith, e)))
+found w i n r (Some j) b e h = (omega (arith, e, h.0), omega (arith, e, h.1), λ k c d. h.3 k d (omega (arith, e)))
 
 pub returns : goal.returns
-returns c = c.loop-j.invariant
+returns c =
+    let a = c.args in
+    found a.w.now a.i a.n c.unwrap_or.result c.find.result (omega (arith, c.requires)) c.unwrap_or.ensures
+    (first_from_Range _ _ _ c.find.result (λ k. ⊤) (λ k. Leaf a.w.now k) c.find.ensures.ran (λ x q k. tt) (λ x q k. search (rules, tests)))

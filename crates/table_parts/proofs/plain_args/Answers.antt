@@ -1,32 +1,25 @@
 -- The first m of the four arguments are compared with the number of locations.
--- By the invariant that all arguments passed are less.
+-- By what the library says of `all` over a range.
+use Prim.Native.Nat.{ℕ, ◌+◌, ◌<◌, min}
+use mathlib.Core.Bool.{true, false, false≢true}
 use native.Mathlib.Omega.{arith}
-use mathlib.Core.Bool.{false≢true}
-use borrow.Author.Count.{below_none, below_more}
+use mathlib.Core.Path.{◌≡◌, refl, sym, ap, ◌∙◌}
+use Rattle.std.proofs.Common.{rules}
+use Rattle.std.proofs.lemmas.Iterator.{YieldsList-from_range}
+use Rattle.std.proofs.lemmas.Iterator.Search.{all_from_yields_List}
+use borrow.Author.Tests.{tests}
+use lib.Dec.{ltb}
+use borrow.Author.Tests.{ltb-true}
+use Rattle.table.specs.Words.{field, locs_in, arg_field}
+use Rattle.table_scopes.proofs.Searched.{all-holds}
 use Rattle.table_parts.proofs.plain_args.Goals as goal
 
-pub loop-k-init : goal.loop-k-init
-loop-k-init c = (c.word-l.ensures, c.wide-e.ensures, omega arith, below_none _)
-
-pub returns-then-e-k : goal.returns-then-e-k
-returns-then-e-k c = let l = c.loop-k in λ e k b d. l.invariant.3 k (omega (arith, l.invariant.1))
-
-pub overflow_add-k : goal.overflow_add-k
-overflow_add-k c = omega arith
-
-pub returns-then-l-field : goal.returns-then-l-field
-returns-then-l-field c = λ e. absurd (false≢true e)
-
-pub overflow_add-k-in-loop-k : goal.overflow_add-k-in-loop-k
-overflow_add-k-in-loop-k c = omega arith
-
-pub loop-k-smaller : goal.loop-k-smaller
-loop-k-smaller c = omega arith
-
-pub loop-k-preserved : goal.loop-k-preserved
-loop-k-preserved c =
-    let l = c.loop-k in
-    (l.invariant.0, l.invariant.1, omega arith, below_more _ _ l.invariant.3 (omega (arith, c.if-l-field.false, c.field.ensures, l.invariant.0)))
-
 pub returns : goal.returns
-returns c = let l = c.loop-k in λ e k b d. l.invariant.3 k (omega arith)
+returns c =
+    let a = c.args in
+    let w = a.w.now in
+    let e : c.min.result ≡ min a.m 4 = c.min.ensures ∙ ap (λ x. min x 4) c.wide.ensures in
+    λ t k b d.
+    let h : ltb (field w a.i (arg_field + k)) c.word-l.result ≡ true = all-holds (λ j. ltb (field w a.i (arg_field + j)) c.word-l.result) c.min.result c.all.result
+      (all_from_yields_List (λ j. ltb (field w a.i (arg_field + j)) c.word-l.result) _ _ _ c.all.ensures.ran (YieldsList-from_range 0 c.min.result c.min.result refl (omega arith)) (λ x b q k. search (rules, tests))) t k (omega arith) in
+    omega (arith, ltb-true _ _ h, c.word-l.ensures)
