@@ -33,18 +33,9 @@ fn params_in(w: &Script, d: usize, b: usize, a: usize) -> bool
     requires { (d < 32) × (b < 4096) × (a ≤ 4) × (a ≡ arity_of w.now d) }
     ensures { result ≡ alike (scope_at w.now b) (params_at w.now d) }
 {
-    let m = at_most_8(field(w, b, COUNT_FIELD));
-    if m != a {
-        return false;
-    }
-    let mut k = 0;
-    while k < a {
-        if wide(field(w, b, SLOT_FIELD + k)) != FIRST_PARAM + d * ROW_SIZE + k * NAME_SIZE {
-            return false;
-        }
-        k += 1;
-    }
-    true
+    let first = FIRST_PARAM + d * ROW_SIZE;
+    at_most_8(field(w, b, COUNT_FIELD)) == a
+        && (0..a).all(|k| wide(field(w, b, SLOT_FIELD + k)) == first + k * NAME_SIZE)
 }
 
 fn def_ok(w: &Script, d: usize) -> bool
@@ -70,36 +61,21 @@ fn defs_ok(w: &Script) -> bool
     requires { (parts_in w.now ≤ 4096) × (defs_in w.now ≤ 32) }
     ensures { result ≡ below (defs_in w.now) (def_ok w.now) }
 {
-    let n = wide(word(w, 3));
-    let mut d = 0;
-    while d < n {
-        if !def_ok(w, d) {
-            return false;
-        }
-        d += 1;
-    }
-    true
+    (0..wide(word(w, 3))).all(|d| def_ok(w, d))
 }
 
 // ── the whole ──
 
 // The counts and the edition.
+#[tactic(auto, using(std::proofs::lemmas::Bool::Decides::nat_tests), unfolding(crate::specs::Tests::counts_ok))]
 fn counts_ok(w: &Script) -> bool
     ensures { result ≡ counts_ok w.now }
 {
-    if 4096 < word(w, 0) {
-        return false;
-    }
-    if 64 < word(w, 1) {
-        return false;
-    }
-    if 64 < word(w, 2) {
-        return false;
-    }
-    if 32 < word(w, 3) {
-        return false;
-    }
-    is_edition(word(w, EDITION))
+    word(w, 0) <= 4096
+        && word(w, 1) <= 64
+        && word(w, 2) <= 64
+        && word(w, 3) <= 32
+        && is_edition(word(w, EDITION))
 }
 
 // A script by itself.
@@ -126,46 +102,34 @@ pub fn script_ok(w: &Script) -> bool
 
 // ── components ──
 
+#[tactic(auto, using(std::proofs::lemmas::Bool::Decides::nat_tests))]
 fn mark_ok(l: u32, m: u32) -> bool
     ensures { result ≡ (eqb m 64 || ltb m l) }
 {
-    if m == 64 {
-        return true;
-    }
-    m < l
+    m == 64 || m < l
 }
 
 // The words of the component at position i but for its values.
+#[tactic(auto, using(std::proofs::lemmas::Bool::Decides::nat_tests), unfolding(crate::specs::Tests::head_fine, table::specs::Meaning::comp_in, table::specs::Valid::mark_ok, table::specs::Valid::wait_ok))]
 fn head_ok(w: &Script, c: &Words, i: usize) -> bool
     requires { i < 256 }
     ensures { result ≡ head_fine w.now (comp_in c.now i) }
 {
     let o = i * COMP_SIZE;
     let l = word(w, 1);
-    if l <= c[o] {
-        return false;
-    }
-    if !mark_ok(l, c[o + 1]) {
-        return false;
-    }
-    let p = word(w, 0);
-    if p <= c[o + 2] {
-        return false;
-    }
-    if !timer_ok(c[o + 3]) {
-        return false;
-    }
-    c[o + 12] <= LONGEST
+    c[o] < l
+        && mark_ok(l, c[o + 1])
+        && c[o + 2] < word(w, 0)
+        && timer_ok(c[o + 3])
+        && c[o + 12] <= LONGEST
 }
 
 // 1 for a value above m.
+#[tactic(auto, using(std::proofs::lemmas::Bool::Decides::nat_tests))]
 fn above(m: u32, v: u32) -> u32
     ensures { (result ≤ 1) × (eqb result 0 ≡ ltb v (m + 1)) }
 {
-    if m < v {
-        return 1;
-    }
-    0
+    u32::from(m < v)
 }
 
 // s, and 1 more for each of two values that is above m.
@@ -210,13 +174,11 @@ fn comps_ok(w: &Script, c: &Words, n: usize, m: u32) -> bool
         c: 0,
         d: 0,
     };
-    let mut i = 0;
-    while i < n {
+    for i in 0..n {
         if !head_ok(w, c, i) {
             return false;
         }
         s = count_above(s, m, c, i);
-        i += 1;
     }
     s.a + s.b + s.c + s.d == 0
 }
@@ -239,16 +201,11 @@ pub fn state_ok(w: &Script, c: &Words, n: usize) -> bool
 }
 
 // Question 17, of a state's words and the number of its components: the script, the components, and the total and the count.
+#[tactic(auto, unfolding(table::specs::Valid::valid))]
 pub fn is_valid(w: &Script, c: &Words, n: usize) -> bool
     ensures { result ≡ valid w.now (record { c = c.entry.now; n = n }) }
 {
-    if !script_ok(w) {
-        return false;
-    }
-    if !state_ok(w, c, n) {
-        return false;
-    }
-    ledger_ok(c)
+    script_ok(w) && state_ok(w, c, n) && ledger_ok(c)
 }
 
 // The network, if it passes.

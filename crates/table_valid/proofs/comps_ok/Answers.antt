@@ -17,7 +17,7 @@ use Rattle.table_valid.proofs.comps_ok.Goals as goal
 
 pub loop-i-init : goal.loop-i-init
 unfolding below
-loop-i-init c = (omega arith, below_none _, refl, record { a = omega arith; b = omega arith; c = omega arith; d = omega arith })
+loop-i-init c = (below_none _, refl, record { a = omega arith; b = omega arith; c = omega arith; d = omega arith })
 
 pub head_ok-requires : goal.head_ok-requires
 head_ok-requires c = omega (arith, c.requires.0)
@@ -31,13 +31,7 @@ returns-then-not-head_ok c =
 pub count_above-s-requires : goal.count_above-s-requires
 count_above-s-requires c =
     let p = c.requires in
-    (omega (arith, p.0), few-more c.loop-i.invariant.3 (omega (arith, p.0)))
-
-pub overflow_add-i : goal.overflow_add-i
-overflow_add-i c = omega (arith, c.requires.0)
-
-pub loop-i-smaller : goal.loop-i-smaller
-loop-i-smaller c = omega arith
+    (omega (arith, p.0), few-more c.loop-i.invariant.2 (omega (arith, p.0)))
 
 pub loop-i-preserved : goal.loop-i-preserved
 unfolding below
@@ -47,27 +41,26 @@ loop-i-preserved c =
     let r = c.count_above-s.ensures in
     let f : ℕ → Bool = λ k. every (λ v. ltb v (a.m + 1)) (comp_in a.c.now k).vals in
     let e : 2 * l.i + 2 ≡ 2 * (l.i + 1) = omega arith in (
-      omega arith,
-      below_more _ _ l.invariant.1 (passed c.if-not-head_ok.false c.head_ok.ensures),
-      r.sums ∙ ap (λ t. t && f l.i) l.invariant.2 ∙ ap (λ k. below k f) (sym (add-one l.i)),
-      subst (λ k. Few k c.count_above-s.result) e (r.few (2 * l.i) l.invariant.3),
+      below_more _ _ l.invariant.0 (passed c.if-not-head_ok.false c.head_ok.ensures),
+      r.sums ∙ ap (λ t. t && f l.i) l.invariant.1 ∙ ap (λ k. below k f) (sym (add-one l.i)),
+      subst (λ k. Few k c.count_above-s.result) e (r.few (2 * l.i) l.invariant.2),
     )
 
 pub overflow_add-result : goal.overflow_add-result
-overflow_add-result c = omega (arith, c.requires.0, c.loop-i.invariant.3)
+overflow_add-result c = omega (arith, c.requires.0, c.loop-i.invariant.2)
 
 pub overflow_add-result-2 : goal.overflow_add-result-2
-overflow_add-result-2 c = omega (arith, c.requires.0, c.loop-i.invariant.3)
+overflow_add-result-2 c = omega (arith, c.requires.0, c.loop-i.invariant.2)
 
 pub overflow_add-result-3 : goal.overflow_add-result-3
-overflow_add-result-3 c = omega (arith, c.requires.0, c.loop-i.invariant.3)
+overflow_add-result-3 c = omega (arith, c.requires.0, c.loop-i.invariant.2)
 
 pub returns : goal.returns
 returns c =
     let a = c.args in
     let l = c.loop-i in
     let e : l.i ≡ a.n = omega arith in
-    l.invariant.2
+    l.invariant.1
     ∙ ap (λ k. below k (λ j. every (λ v. ltb v (a.m + 1)) (comp_in a.c.now j).vals)) e
     ∙ ap (λ z. below a.n (λ j. every (λ v. ltb v z) (comp_in a.c.now j).vals)) c.requires.1
-    ∙ sym (comps-are a.w.now (record { c = a.c.now; n = a.n }) (λ k b. l.invariant.1 k (omega arith)))
+    ∙ sym (comps-are a.w.now (record { c = a.c.now; n = a.n }) (λ k b. l.invariant.0 k (omega arith)))

@@ -12,10 +12,6 @@ use Rattle.table_valid.proofs.comps_ok.Given as goal
 
 abbrev pub invariant-loop-i : goal.invariant-loop-i
 invariant-loop-i l =
-    (l.i ≤ l.n)
-    × ((k : ℕ) → k < l.i → head_fine l.w (comp_in l.c k) ≡ true)
+    ((k : ℕ) → k < l.i → head_fine l.w (comp_in l.c k) ≡ true)
     × (nothing l.s ≡ below l.i (λ k. every (λ v. ltb v (l.m + 1)) (comp_in l.c k).vals))
     × Few (2 * l.i) l.s
-
-abbrev pub decreases-loop-i : goal.decreases-loop-i
-decreases-loop-i l = l.n - l.i
