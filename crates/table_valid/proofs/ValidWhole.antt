@@ -1,5 +1,6 @@
 -- The tests of a script and of a state, from those of their parts.
 -- By the definitions; the names of a sort stand at equal distances.
+use Rattle.table.proofs.ValidDefs.{params-names}
 use Prim.Native.Nat.{ℕ, ◌+◌, ◌≤◌, ◌<◌}
 use native.Mathlib.Omega.{arith}
 use mathlib.Core.List.{List, [], ◌∷◌}
@@ -172,3 +173,12 @@ counted l s r v₀ v₁ v₂ v₃ v₄ v₅ v₆ v₇ e f g h = same_truth _ _ t
         let c = stays r.c s.c (ltb v₂ l) (ltb v₆ l) g (omega (arith, z)) p₂.0 p₆.0 in
         let d = stays r.d s.d (ltb v₃ l) (ltb v₇ l) h (omega (arith, z)) p₃.0 p₇.0 in
         eq-eqb (r.a + r.b + r.c + r.d) 0 (omega (arith, a, b, c, d))
+
+-- ── for the check to find ──
+-- without locations no component passes
+pub nowhere : (w : List ℕ) (c : List ℕ) (n : ℕ) → 0 < n → locs_in w ≡ 0 → every (comp_ok w) (comps_of (record { c = c; n = n })) ≡ false
+nowhere w c n h e = comps-miss (record { c = c; n = n }) (comp_ok w) 0 h (comp-nowhere w _ e)
+
+pub ruleset state_laws = (nowhere)
+
+pub ruleset def_laws = (params-names)

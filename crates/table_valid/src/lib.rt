@@ -38,23 +38,17 @@ fn params_in(w: &Script, d: usize, b: usize, a: usize) -> bool
         && (0..a).all(|k| wide(field(w, b, SLOT_FIELD + k)) == first + k * NAME_SIZE)
 }
 
+#[tactic(auto, using(std::proofs::lemmas::Bool::Decides::nat_tests, crate::proofs::ValidWhole::def_laws), unfolding(table::specs::Valid::def_ok, terms::specs::Letters::is_small))]
 fn def_ok(w: &Script, d: usize) -> bool
     requires { (d < 32) × (parts_in w.now ≤ 4096) }
     ensures { result ≡ def_ok w.now d }
 {
     let a = wide(arity_of(w, d));
-    if 4 < a {
-        return false;
-    }
     let b = wide(body_of(w, d));
-    let n = wide(word(w, 0));
-    if n <= b {
-        return false;
-    }
-    if !params_in(w, d, b, a) {
-        return false;
-    }
-    sort_ok(w, Sort::Small, FIRST_PARAM + d * ROW_SIZE, 4, a)
+    a <= 4
+        && b < wide(word(w, 0))
+        && params_in(w, d, b, a)
+        && sort_ok(w, Sort::Small, FIRST_PARAM + d * ROW_SIZE, 4, a)
 }
 
 fn defs_ok(w: &Script) -> bool
@@ -184,20 +178,12 @@ fn comps_ok(w: &Script, c: &Words, n: usize, m: u32) -> bool
 }
 
 // The components of a state.
+#[tactic(auto, using(std::proofs::lemmas::Bool::Decides::nat_tests, crate::proofs::ValidWhole::state_laws), unfolding(table::specs::Valid::state_ok))]
 pub fn state_ok(w: &Script, c: &Words, n: usize) -> bool
     ensures { result ≡ state_ok w.now (record { c = c.entry.now; n = n }) }
 {
-    if n == 0 {
-        return false;
-    }
-    if 256 < n {
-        return false;
-    }
     let l = word(w, 1);
-    if l == 0 {
-        return false;
-    }
-    comps_ok(w, c, n, l - 1)
+    n != 0 && n <= 256 && l != 0 && comps_ok(w, c, n, l - 1)
 }
 
 // Question 17, of a state's words and the number of its components: the script, the components, and the total and the count.
