@@ -18,7 +18,7 @@ use Rattle.table_names.specs.declared.Sort.{Sort}
 use Rattle.table_names.specs.declared.Sort.TheVariants.{Location, Small, Identifier}
 use Rattle.table.specs.Words.{chans_at, locs_at, parts_in, locs_in, chans_in, defs_in, loc_name, chan_name, def_name, ids_at, name_size, row_size}
 use Rattle.table.specs.Meaning.{list_from, comp_in, comps_of, no_comp}
-use Rattle.table.specs.Valid.{below, timer_ok, sort_ok, mark_ok, wait_ok, comp_ok}
+use Rattle.table.specs.Valid.{below, script_ok, def_ok, part_ok, timer_ok, sort_ok, mark_ok, wait_ok, comp_ok}
 use Rattle.table.specs.Tests.{row_name}
 use Rattle.table_names.specs.Tests.{first_of}
 use Rattle.table_valid.specs.declared.Sums.{Sums}
@@ -182,3 +182,25 @@ nowhere w c n h e = comps-miss (record { c = c; n = n }) (comp_ok w) 0 h (comp-n
 pub ruleset state_laws = (nowhere)
 
 pub ruleset def_laws = (params-names)
+
+pub script-is : (w : List ℕ)
+    → script_ok w ≡ (counts_ok w && (sort_ok is_location (list_from 0 (locs_in w) (loc_name w))
+    && (sort_ok is_small (list_from 0 (chans_in w) (chan_name w))
+    && (sort_ok is_identifier (list_from 0 (defs_in w) (def_name w)) && (below (defs_in w) (def_ok w) && below (parts_in w) (part_ok w))))))
+unfolding script_ok counts_ok
+script-is w = refl
+
+module _ (w : List ℕ) (e : counts_ok w ≡ true) where
+  pub few-parts : parts_in w ≤ 4_096
+  few-parts = (counts-hold w e).parts
+
+  pub few-locations : locs_in w ≤ 64
+  few-locations = (counts-hold w e).locs
+
+  pub few-channels : chans_in w ≤ 64
+  few-channels = (counts-hold w e).chans
+
+  pub few-definitions : defs_in w ≤ 32
+  few-definitions = (counts-hold w e).defs
+
+pub ruleset script_laws = (script-is, few-parts, few-locations, few-channels, few-definitions, locations-are, channels-are, identifiers-are)

@@ -73,25 +73,16 @@ fn counts_ok(w: &Script) -> bool
 }
 
 // A script by itself.
+#[tactic(auto, using(crate::proofs::ValidWhole::script_laws))]
 pub fn script_ok(w: &Script) -> bool
     ensures { result ≡ script_ok w.now }
 {
-    if !counts_ok(w) {
-        return false;
-    }
-    if !sort_ok(w, Sort::Location, LOCATIONS, 4, wide(word(w, 1))) {
-        return false;
-    }
-    if !sort_ok(w, Sort::Small, CHANNELS, 4, wide(word(w, 2))) {
-        return false;
-    }
-    if !sort_ok(w, Sort::Identifier, IDENTIFIERS, ROW_SIZE, wide(word(w, 3))) {
-        return false;
-    }
-    if !defs_ok(w) {
-        return false;
-    }
-    parts_ok(w)
+    counts_ok(w)
+        && sort_ok(w, Sort::Location, LOCATIONS, 4, wide(word(w, 1)))
+        && sort_ok(w, Sort::Small, CHANNELS, 4, wide(word(w, 2)))
+        && sort_ok(w, Sort::Identifier, IDENTIFIERS, ROW_SIZE, wide(word(w, 3)))
+        && defs_ok(w)
+        && parts_ok(w)
 }
 
 // ── components ──

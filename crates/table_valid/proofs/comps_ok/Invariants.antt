@@ -1,6 +1,6 @@
 -- Each head is tested, and each value counted that is too large.
 -- By the invariant that all heads passed are in order, and that nothing was counted exactly if all values passed are locations.
-use Prim.Native.Nat.{ℕ, ◌+◌, ◌*◌, ◌-◌, ◌≤◌, ◌<◌}
+use Prim.Native.Nat.{ℕ, ◌+◌, ◌*◌, ◌<◌}
 use mathlib.Core.Path.{◌≡◌}
 use mathlib.Core.Bool.{true}
 use lib.Dec.{ltb}

@@ -1,13 +1,13 @@
 -- Each definition is tested.
 -- By what the library says of `all` over a range.
 use native.Mathlib.Omega.{arith}
-use mathlib.Core.Path.{◌≡◌, refl, sym, ap, ◌∙◌}
+use mathlib.Core.Path.{refl, sym, ◌∙◌}
 use Rattle.std.proofs.Common.{rules}
 use Rattle.std.proofs.lemmas.Iterator.{YieldsList-from_range}
 use Rattle.std.proofs.lemmas.Iterator.Search.{all_from_yields_List}
 use borrow.Author.Tests.{tests}
 use Rattle.table.specs.Words.{defs_in}
-use Rattle.table.specs.Valid.{below, def_ok}
+use Rattle.table.specs.Valid.{def_ok}
 use Rattle.table.proofs.Ranges.{below-range}
 use Rattle.table_valid.proofs.defs_ok.Goals as goal
 
