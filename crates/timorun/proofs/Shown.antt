@@ -1,5 +1,5 @@
 -- Pieces written one after the other, and what was read of a text.
-use Rattle.std.proofs.Common.{ℕ, Bool, true, cond, ◌≡◌, ◌+◌, ◌≤◌, ◌<◌, ◌⊎◌, inl, inr, List, [], ◌∷◌, ◌++◌, None, Some, IfSome, Result, Ok, Err, OnOk, IsErrOf, IsErrAnd, MatchResult, length, take, sym, ap, ◌∙◌, subst, append_assoc, append-nil, take_all, eq-or-lt_of_le, le_of_eq}
+use Rattle.std.proofs.Common.{ℕ, ◌≡◌, ◌+◌, ◌≤◌, ◌<◌, ◌⊎◌, inl, inr, List, [], ◌∷◌, ◌++◌, None, Some, IfSome, Result, Ok, Err, OnOk, IsErrOf, IsErrAnd, MatchResult, length, take, sym, ap, ◌∙◌, subst, append_assoc, append-nil, take_all, eq-or-lt_of_le, le_of_eq}
 use Rattle.std.proofs.Math.Seq.{take-append-add}
 use Rattle.std.proofs.lemmas.List.{take-append-le}
 use Rattle.std.specs.Io.KnownBytes.{Appends, Consumes, IsAtEnd}
