@@ -51,8 +51,6 @@ module _ (w : List ℕ) (o at : ℕ) (k : Key) (n j : ℕ) (g : n ≡ held_in w 
     unfolding add_key
     enlisted-new l = record { place = last ∙ place_is; after = sym (way false (le-ltb j n h) ∙ rw (lt-ltb n 64 l)) }
 
-    pub enlisted-full : 64 ≤ n → Enlisted w (set w 4 1) o at k 64
-    unfolding add_key held_in
-    enlisted-full l =
-        let e : 64 ≡ n = omega arith in
-        record { place = e ∙ last ∙ place_is; after = sym (way false (le-ltb j n h) ∙ rw (le-ltb n 64 l)) }
+    pub enlisted-full : 64 ≤ n → Enlisted w (set w 4 1) o at k n
+    unfolding add_key
+    enlisted-full l = record { place = last ∙ place_is; after = sym (way false (le-ltb j n h) ∙ rw (le-ltb n 64 l)) }

@@ -41,24 +41,13 @@ ghost use Rattle.table.specs.Words.{row_size, last_name, parts_at, kind_field};
 use table::{LOW_FIELD, NAME_SIZE, NEXT_FIELD, PARTS, ROW_SIZE, SECOND_FIELD, Script};
 
 // ---- names ----
-// The byte at i; 0 past the end.
-fn byte_in(w: &[u8], i: usize) -> u8
-    ensures { result ≡ get_or w.now i 0 }
-{
-    w.get(i).copied().unwrap_or(0)
-}
-
-// The four bytes from o on in a word, the first lowest.
+// The four bytes from o on in a word, the first lowest; 0 past the end.
 fn quad(w: &[u8], o: usize) -> u32
     requires { o ≤ 12 }
     ensures { result ≡ quad_of w.now o }
 {
-    u32::from_le_bytes([
-        byte_in(w, o),
-        byte_in(w, o + 1),
-        byte_in(w, o + 2),
-        byte_in(w, o + 3),
-    ])
+    let byte = |i: usize| w.get(o + i).copied().unwrap_or(0);
+    u32::from_le_bytes([byte(0), byte(1), byte(2), byte(3)])
 }
 
 // A word of the text as a name: proofs/Letters says that its letters are the word's.
@@ -74,7 +63,7 @@ pub fn key_of(w: &[u8]) -> table::Key
 }
 
 // ---- scopes ----
-// The names in scope at a part: how many, and where they stand in the script.
+// The names in scope at a part: how many, and where they stand in the script. (Nothing allocates: of eight words the first n are in use.)
 #[derive(Clone, Copy)]
 pub struct Scope {
     pub n: usize,
@@ -119,10 +108,10 @@ pub fn number(w: &mut Script, o: usize, at: usize, k: table::Key) -> usize
     if n < 64 {
         put_key(w, o + n * NAME_SIZE, k);
         w[at] = (n + 1) as u32;
-        return n;
+    } else {
+        w[4] = 1;
     }
-    w[4] = 1;
-    64
+    n
 }
 
 // ---- rows ----

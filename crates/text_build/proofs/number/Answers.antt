@@ -34,9 +34,9 @@ returns-then-n-lt64 c =
     let h = enlisted-new a.w.now a.o a.at a.k _ _ c.held_in-n.ensures refl (omega arith) c.if-n-lt64.true in
     rw c.put_key.ensures h
 
-pub returns : goal.returns
+pub returns-else-n-lt64 : goal.returns-else-n-lt64
 unfolding number_in
-returns c =
+returns-else-n-lt64 c =
     let a = c.args in
     let n = c.held_in-n.result in
     let t = number-absent (list_from 0 n (row_name a.w.now a.o 4)) (key_name a.k) (sym c.find.ensures ∙ c.in_default.is) in
