@@ -42,7 +42,7 @@ pub struct Settings {
     pub rights: [Row; 64],
 }
 
-// The answer: 0 and the components, or the number of the question answered by no and no components.
+// The answer: 0 and the components, or the number of the question answered by no and no components. (The C interface has a number and a state by value.)
 #[repr(C)]
 #[derive(Drop)]
 pub struct Reading {
