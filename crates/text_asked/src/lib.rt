@@ -2,6 +2,7 @@
 //
 //   specs/Answer  the number of the first question that is answered by no
 //   src/lib       one function for each question, one for each row or definition that it goes through, one for all
+//   proofs/Each   a test of each definition or part, as a chain over their numbers
 //   proofs/Rows   what the head of a part says of its tests, and the parameters of a definition
 #![tactic(auto)]
 

@@ -1,22 +1,18 @@
 -- Identifiers differ, and the parameters of each definition.
 -- The identifiers stand 24 words apart.
 use Prim.Native.Nat.{ℕ}
-use native.Mathlib.Omega.{arith}
 use mathlib.Core.List.{List}
-use mathlib.Core.Path.{◌≡◌, refl, ap, sym, ◌∙◌}
+use mathlib.Core.Path.{◌≡◌, ap, sym, ◌∙◌}
 use mathlib.Core.Bool.{true, false}
 use borrow.Author.Rules.{rules}
 use borrow.Author.Tests.{tests}
-use Rattle.std.proofs.lemmas.Iterator.{YieldsList-from_range}
-use Rattle.std.proofs.lemmas.Iterator.Search.{all_from_yields_List}
 use Rattle.terms.specs.Letters.{distinct}
 use Rattle.table.specs.Words.{defs_in, def_name, params_of, ids_at, row_size}
 use Rattle.table.specs.Meaning.{list_from}
 use Rattle.table.specs.Tests.{row_name}
-use Rattle.table.specs.Valid.{below}
-use Rattle.table.proofs.Ranges.{below-range}
 use Rattle.text_build.specs.Rows.{ids_of}
 use Rattle.text_tree.specs.Asked.{apart}
+use Rattle.text_asked.proofs.Each.{each-below}
 use Rattle.text_asked.proofs.apart.Goals as goal
 
 ids-row : (w : List ℕ) (n : ℕ) → n ≡ defs_in w → distinct (list_from 0 n (row_name w ids_at row_size)) ≡ distinct (ids_of w)
@@ -27,18 +23,14 @@ pub returns-then-all_apart : goal.returns-then-all_apart
 unfolding apart
 returns-then-all_apart c =
     let w = c.args.w.now in
-    let n = c.wide-n.result in
-    let e : n ≡ defs_in w = c.wide-n.ensures ∙ c.word.ensures in
-    let h : distinct (ids_of w) ≡ true = sym (c.all_apart.ensures ∙ ids-row w n e) ∙ c.if-all_apart.true in
-    rw h (all_from_yields_List (λ d. distinct (params_of w d)) _ _ _ c.all.ensures.ran (YieldsList-from_range 0 n n refl (omega arith)) (λ x b q k. search (rules, tests))
-    ∙ sym (below-range n (λ d. distinct (params_of w d)))
-    ∙ ap (λ m. below m (λ d. distinct (params_of w d))) e)
+    let n = c.wide-n.ensures ∙ c.word.ensures in
+    let h : distinct (ids_of w) ≡ true = sym (c.all_apart.ensures ∙ ids-row w _ n) ∙ c.if-all_apart.true in
+    rw h (each-below (λ d. distinct (params_of w d)) _ _ n _ _ _ c.all.ensures.ran (λ x b q k. search (rules, tests)))
 
 pub returns-else-all_apart : goal.returns-else-all_apart
 unfolding apart
 returns-else-all_apart c =
     let w = c.args.w.now in
-    let n = c.wide-n.result in
-    let e : n ≡ defs_in w = c.wide-n.ensures ∙ c.word.ensures in
-    let h : distinct (ids_of w) ≡ false = sym (c.all_apart.ensures ∙ ids-row w n e) ∙ c.if-all_apart.false in
+    let n = c.wide-n.ensures ∙ c.word.ensures in
+    let h : distinct (ids_of w) ≡ false = sym (c.all_apart.ensures ∙ ids-row w _ n) ∙ c.if-all_apart.false in
     rw h c.if-all_apart.false
