@@ -165,10 +165,7 @@ fn out_ok(w: &Script, i: usize, n: usize) -> bool
     requires { Scoped w.now i n }
     ensures { result ≡ out_ok w.now i }
 {
-    if plain_out(w, i, n) {
-        return true;
-    }
-    any_out(w, i, n)
+    plain_out(w, i, n) || any_out(w, i, n)
 }
 
 fn plain_in(w: &Script, i: usize, n: usize) -> bool
@@ -201,10 +198,7 @@ fn in_ok(w: &Script, i: usize, n: usize) -> bool
     requires { Scoped w.now i n }
     ensures { result ≡ in_ok w.now i }
 {
-    if plain_in(w, i, n) {
-        return true;
-    }
-    any_in(w, i, n)
+    plain_in(w, i, n) || any_in(w, i, n)
 }
 
 fn args_ok(w: &Script, i: usize, n: usize, m: u32) -> bool
