@@ -264,14 +264,8 @@ fn plain_call(w: &Script, i: usize) -> bool
     ensures { result ≡ true → PlainCall w.now i }
 {
     let d = field(w, i, NAME_FIELD);
-    if word(w, 3) <= d {
-        return false;
-    }
     let m = field(w, i, VALUE_FIELD);
-    if m != arity_of(w, wide(d)) {
-        return false;
-    }
-    plain_args(w, i, m)
+    d < word(w, 3) && m == arity_of(w, wide(d)) && plain_args(w, i, m)
 }
 
 // Is it stop or such a call, with no variable in scope and nothing after it? Most parts are, and pass by few tests; any other has to pass `part_ok`.
