@@ -55,3 +55,5 @@ joined f i j a b k h = by-test (ltb k i) refl
     by-test : (t : Bool) → ltb k i ≡ t → f k ≡ true
     by-test true e = a k (ltb-true k i e)
     by-test false e = b k h (ltb-false k i e)
+
+pub ruleset leaf_laws = (leaf-stop, leaf-call)

@@ -269,27 +269,19 @@ fn plain_call(w: &Script, i: usize) -> bool
 }
 
 // Is it stop or such a call, with no variable in scope and nothing after it? Most parts are, and pass by few tests; any other has to pass `part_ok`.
+#[tactic(auto, using(crate::proofs::ValidLeaves::leaf_laws))]
 fn leaf_ok(w: &Script, i: usize) -> bool
     requires { (i < 4096) × (defs_in w.now ≤ 32) × (locs_in w.now ≤ 64) }
     ensures { result ≡ true → Leaf w.now i }
 {
-    if wide(low_at(w, i)) != i {
+    if wide(low_at(w, i)) != i || field(w, i, COUNT_FIELD) != 0 || next_at(w, i) != 0 {
         return false;
     }
-    if field(w, i, COUNT_FIELD) != 0 {
-        return false;
+    match field(w, i, KIND_FIELD) {
+        0 => true,
+        4 => plain_call(w, i),
+        _ => false,
     }
-    if next_at(w, i) != 0 {
-        return false;
-    }
-    let k = field(w, i, KIND_FIELD);
-    if k == 0 {
-        return true;
-    }
-    if k != 4 {
-        return false;
-    }
-    plain_call(w, i)
 }
 
 // The first part from i on that is no such one, or n.
