@@ -14,7 +14,8 @@ ghost use Rattle.std.specs.Prelude.{◌≡◌, ◌≤◌, ◌+◌, ◌*◌, leng
 ghost use Rattle.table.specs.Words.{name_at, name_size, chans_at, word, locs_in, chans_in, loc_name, chan_name};
 ghost use Rattle.table.specs.Fire.{label_of};
 ghost use Rattle.calls_fire.specs.Fired.{tag_of};
-ghost use Rattle.text_write.specs.Answer.{Answers};
+ghost use Rattle.terms.specs.Refusals.{answer_of};
+ghost use Rattle.text_write.specs.Answer.{written, Answers};
 ghost use Rattle.run_line.specs.Line.{label_text};
 ghost use Rattle.host.specs.Shown.{holding, count_answer, counted, name_answer, label_answer, line_answer};
 
@@ -25,6 +26,7 @@ use run_line::{put_label, put_line};
 use table::words::{wide, word};
 use table::{CHANNELS, LOCATIONS, NAME_SIZE, Script, Words};
 use table_valid::is_valid;
+use terms::refusal::Refusal;
 use text_letters::Page;
 use text_write::Written;
 
@@ -36,50 +38,58 @@ pub struct Counted {
     pub count: u32,
 }
 
+impl From<Result<u32, Refusal>> for Counted {
+    ghost from_gives = { λ x r. r ≡ counted (answer_of (λ k. k) x) };
+
+    fn from(x: Result<u32, Refusal>) -> Counted {
+        match x {
+            Ok(count) => Counted { code: 0, count },
+            Err(e) => Counted {
+                code: e.number(),
+                count: 0,
+            },
+        }
+    }
+}
+
 // The number that the word i of the script holds: question 17.
-fn count_at(w: &Script, c: &Words, n: usize, i: usize) -> Counted
-    ensures { result ≡ counted (count_answer w.now (record { c = c.entry.now; n = n }) (word w.now i)) }
+fn count_at(w: &Script, c: &Words, n: usize, i: usize) -> Result<u32, Refusal>
+    ensures { answer_of (λ k. k) result ≡ count_answer w.now (record { c = c.entry.now; n = n }) (word w.now i) }
 {
     if is_valid(w, c, n) {
-        return Counted {
-            code: 0,
-            count: word(w, i),
-        };
+        return Ok(word(w, i));
     }
-    Counted { code: 17, count: 0 }
+    Err(Refusal::NotValid)
 }
 
 // How many locations a network has: question 17.
 pub fn locations(w: &Script, c: &Words, n: usize) -> Counted
     ensures { result ≡ counted (count_answer w.now (record { c = c.entry.now; n = n }) (locs_in w.now)) }
 {
-    count_at(w, c, n, 1)
+    Counted::from(count_at(w, c, n, 1))
 }
 
 // How many channels, likewise.
 pub fn channels(w: &Script, c: &Words, n: usize) -> Counted
     ensures { result ≡ counted (count_answer w.now (record { c = c.entry.now; n = n }) (chans_in w.now)) }
 {
-    count_at(w, c, n, 2)
+    Counted::from(count_at(w, c, n, 2))
 }
 
 // The bytes of s to the front of the lent bytes, or 15.
-fn give(s: &[u8], buf: &mut [u8]) -> Written
-    ensures { Answers (holding s.now (length buf.old)) buf.old result buf.new }
+fn give(s: &[u8], buf: &mut [u8]) -> Result<usize, Refusal>
+    ensures { Answers (holding s.now (length buf.old)) buf.old (written result) buf.new }
 {
     if buf.len() < s.len() {
-        return Written { code: 15, len: 0 };
+        return Err(Refusal::BufferShort);
     }
     buf[..s.len()].copy_from_slice(s);
-    Written {
-        code: 0,
-        len: s.len(),
-    }
+    Ok(s.len())
 }
 
 // The name that stands at the word o, or 15. A name has at most 16 bytes.
-fn give_name(w: &Script, o: usize, buf: &mut [u8]) -> Written
-    ensures { Answers (holding (name_at w.now o) (length buf.old)) buf.old result buf.new }
+fn give_name(w: &Script, o: usize, buf: &mut [u8]) -> Result<usize, Refusal>
+    ensures { Answers (holding (name_at w.now o) (length buf.old)) buf.old (written result) buf.new }
 {
     let mut text = [0; 16];
     let mut page = Page::new(&mut text);
@@ -88,15 +98,23 @@ fn give_name(w: &Script, o: usize, buf: &mut [u8]) -> Written
 }
 
 // The name numbered k of a sort whose number the word i holds and whose names begin at the word o: questions 17, 8, 15.
-fn name_at(w: &Script, c: &Words, n: usize, i: usize, o: usize, k: u32, buf: &mut [u8]) -> Written
+fn name_at(
+    w: &Script,
+    c: &Words,
+    n: usize,
+    i: usize,
+    o: usize,
+    k: u32,
+    buf: &mut [u8],
+) -> Result<usize, Refusal>
     requires { o ≤ chans_at }
-    ensures { Answers (name_answer w.now (record { c = c.entry.now; n = n }) (word w.now i) (λ j. name_at w.now (o + j * name_size)) k (length buf.old)) buf.old result buf.new }
+    ensures { Answers (name_answer w.now (record { c = c.entry.now; n = n }) (word w.now i) (λ j. name_at w.now (o + j * name_size)) k (length buf.old)) buf.old (written result) buf.new }
 {
     if !is_valid(w, c, n) {
-        return Written { code: 17, len: 0 };
+        return Err(Refusal::NotValid);
     }
     if word(w, i) <= k {
-        return Written { code: 8, len: 0 };
+        return Err(Refusal::OutOfRange);
     }
     give_name(w, o + wide(k) * NAME_SIZE, buf)
 }
@@ -105,19 +123,19 @@ fn name_at(w: &Script, c: &Words, n: usize, i: usize, o: usize, k: u32, buf: &mu
 pub fn location_name(w: &Script, c: &Words, n: usize, l: u32, buf: &mut [u8]) -> Written
     ensures { Answers (name_answer w.now (record { c = c.entry.now; n = n }) (locs_in w.now) (loc_name w.now) l (length buf.old)) buf.old result buf.new }
 {
-    name_at(w, c, n, 1, LOCATIONS, l, buf)
+    Written::from(name_at(w, c, n, 1, LOCATIONS, l, buf))
 }
 
 // The name of the channel numbered h, likewise.
 pub fn channel_name(w: &Script, c: &Words, n: usize, h: u32, buf: &mut [u8]) -> Written
     ensures { Answers (name_answer w.now (record { c = c.entry.now; n = n }) (chans_in w.now) (chan_name w.now) h (length buf.old)) buf.old result buf.new }
 {
-    name_at(w, c, n, 2, CHANNELS, h, buf)
+    Written::from(name_at(w, c, n, 2, CHANNELS, h, buf))
 }
 
 // The text of a label, or 15. It has at most 51 bytes.
-fn give_label(w: &Script, x: Label, buf: &mut [u8]) -> Written
-    ensures { Answers (holding (label_text (label_of w.now (tag_of x))) (length buf.old)) buf.old result buf.new }
+fn give_label(w: &Script, x: Label, buf: &mut [u8]) -> Result<usize, Refusal>
+    ensures { Answers (holding (label_text (label_of w.now (tag_of x))) (length buf.old)) buf.old (written result) buf.new }
 {
     let mut text = [0; 51];
     let mut page = Page::new(&mut text);
@@ -139,7 +157,7 @@ pub fn action_label(
     ensures { Answers (label_answer w.now (record { c = c.entry.now; n = n }) kind p q (length buf.old)) buf.old result buf.new }
 {
     if !is_valid(w, c, n) {
-        return Written { code: 17, len: 0 };
+        return Written::from(Err(Refusal::NotValid));
     }
     let r = label_at(w, c, n, kind, p, q);
     if r.code != 0 {
@@ -148,8 +166,7 @@ pub fn action_label(
             len: 0,
         };
     }
-    let x = r.label;
-    give_label(w, x, buf)
+    Written::from(give_label(w, r.label, buf))
 }
 
 // The line of the step at the location numbered l, as `timorun` prints it: questions 17, 8, 18, 13 as for the step, 15. The step is made on a copy. A line
@@ -158,7 +175,7 @@ pub fn step_line(w: &Script, c: &Words, n: usize, l: u32, buf: &mut [u8]) -> Wri
     ensures { Answers (line_answer w.now (record { c = c.entry.now; n = n }) l (length buf.old)) buf.old result buf.new }
 {
     if !is_valid(w, c, n) {
-        return Written { code: 17, len: 0 };
+        return Written::from(Err(Refusal::NotValid));
     }
     let mut next = *c;
     let mut records = [[0; 3]; 256];
@@ -172,5 +189,5 @@ pub fn step_line(w: &Script, c: &Words, n: usize, l: u32, buf: &mut [u8]) -> Wri
     let mut text = [0; 13329];
     let mut page = Page::new(&mut text);
     put_line(w, c, n, l, &records[..s.count], &mut page);
-    give(page.text(), buf)
+    Written::from(give(page.text(), buf))
 }

@@ -1,14 +1,13 @@
 -- The answers of the write call: 17, and on a valid table 14, 15, and the text.
 -- Idea: what the measure counts is the text's length, or no buffer is as long as that.
-use Prim.Native.Nat.{ℕ, ◌+◌, ◌≤◌, ◌<◌}
+use Prim.Native.Nat.{ℕ, ◌≤◌, ◌<◌}
 use native.Mathlib.Omega.{arith}
-use native.Mathlib.Numerals.{add-one}
 use mathlib.Core.List.{List, ◌++◌}
 use mathlib.Core.Bool.{Bool, true, false}
 use mathlib.Core.Path.{◌≡◌, refl, ap, sym, ◌∙◌}
 use lib.Dec.{ltb}
-use lib.ListN.{length, take, drop, get_or, set}
-use lib.Seq.{take_at, paste, paste-suc}
+use lib.ListN.{length, take, drop}
+use lib.Seq.{take_at}
 use borrow.Author.Tests.{le-leb, lt-leb, ltb-true, ltb-false}
 use Rattle.table.specs.declared.State.{State}
 use Rattle.table.specs.Valid.{valid}
@@ -54,12 +53,3 @@ module _ (w : List ℕ) (st : State) (d : List ℕ) (good : valid w st ≡ true)
         let m = measured (text_of w st) d n count h k in
         let f : take n t' ≡ text_of w st = ap (take n) (x.bytes ∙ over-whole t (text_of w st) (omega arith) (omega arith)) ∙ take_at (text_of w st) _ n (sym m) in
         rw (good, free, le-leb (length (text_of w st)) (length d) (omega arith)) (record { code = refl; len = m; bytes = c ∙ ap (λ y. y ++ drop n d) f ∙ ap (λ y. text_of w st ++ drop y d) m })
-
--- ── a copy, byte by byte ──
-pub pasted-on : (d s e : List ℕ) (i : ℕ) → e ≡ paste d 0 s i → i < length d → i < length s → set e i (get_or s i 0) ≡ paste d 0 s (i + 1)
-pasted-on d s e i f h k =
-    let z : 0 + i ≡ i = omega arith in
-    ap (λ y. set y i (get_or s i 0)) f ∙ ap (λ j. set (paste d 0 s i) j (get_or s i 0)) (sym z) ∙ paste-suc d 0 s i 0 (omega arith) k ∙ ap (paste d 0 s) (sym (add-one i))
-
-pub pasted-all : (d s e : List ℕ) (n i : ℕ) → i ≡ n → e ≡ paste d 0 s i → e ≡ take n s ++ drop n d
-pasted-all d s e n i q f = let z : 0 + n ≡ n = omega arith in f ∙ ap (paste d 0 s) q ∙ ap (λ j. take n s ++ drop j d) z

@@ -1,2 +1,1 @@
-pub mod Unmarked
 pub mod Answered

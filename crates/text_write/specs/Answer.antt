@@ -2,6 +2,9 @@
 -- 17 of every call on a network, then 14, does no component bear a mark, then 15, does the lent buffer hold the whole text.
 -- The text and question 14 stand in the crate `text_network`, Text.
 use Rattle.std.specs.Prelude.{ℕ, List, ◌++◌, cond, ◌≡◌, leb, length, drop}
+use Rattle.std.specs.Prelude.{Result, Ok, Err}
+use Rattle.terms.specs.declared.refusal.Refusal.{Refusal}
+use Rattle.terms.specs.Refusals.{number_of}
 use Rattle.terms.specs.Rules.{Answer}
 use Rattle.terms.specs.Rules.Answer.{refused, accepted}
 use Rattle.table.specs.declared.State.{State}
@@ -33,6 +36,11 @@ len_of (accepted s) = length s
 abbrev pub bytes_after : Answer (List ℕ) → List ℕ → List ℕ
 bytes_after (refused n) d = d
 bytes_after (accepted s) d = s ++ drop (length s) d
+
+-- the call's answer from the text's length, or a refusal
+abbrev pub written : Result ℕ Refusal → Written
+written (Ok n) = record { code = 0; len = n }
+written (Err e) = record { code = number_of e; len = 0 }
 
 -- the call returns r and leaves e in the buffer that held d
 pub record Answers (x : Answer (List ℕ)) (d : List ℕ) (r : Written) (e : List ℕ) : Type 0 where

@@ -9,7 +9,7 @@ use Rattle.host.proofs.action_label.Goals as goal
 
 pub returns-then-not-is_valid : goal.returns-then-not-is_valid
 unfolding label_answer
-returns-then-not-is_valid c = let v = sym c.is_valid.ensures ∙ c.if-not-is_valid.true in rw v (refuses 17 _)
+returns-then-not-is_valid c = let v = sym c.is_valid.ensures ∙ c.if-not-is_valid.true in rw (v, c.from.ensures) (refuses 17 _)
 
 pub label_at-r-requires : goal.label_at-r-requires
 label_at-r-requires c = sym c.is_valid.ensures ∙ c.if-not-is_valid.false
@@ -22,4 +22,4 @@ returns-then-r-ne0 c =
 pub returns : goal.returns
 returns c =
     let v = sym c.is_valid.ensures ∙ c.if-not-is_valid.false in
-    answers-as (label-taken _ _ _ _ _ _ c.label_at-r.result v c.label_at-r.ensures (omega (arith, c.if-r-ne0.false))) c.give_label.ensures
+    answers-as (label-taken _ _ _ _ _ _ c.label_at-r.result v c.label_at-r.ensures (omega (arith, c.if-r-ne0.false))) (rw c.from-2.ensures c.give_label.ensures)

@@ -4,4 +4,4 @@ use Rattle.host.proofs.channel_name.Goals as goal
 
 pub returns : goal.returns
 unfolding chan_name
-returns c = c.name_at.ensures
+returns c = rw c.from.ensures c.name_at.ensures

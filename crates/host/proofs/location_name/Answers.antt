@@ -4,4 +4,4 @@ use Rattle.host.proofs.location_name.Goals as goal
 
 pub returns : goal.returns
 unfolding loc_name
-returns c = c.name_at.ensures
+returns c = rw c.from.ensures c.name_at.ensures

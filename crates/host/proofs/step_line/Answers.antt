@@ -12,7 +12,7 @@ use Rattle.host.proofs.step_line.Goals as goal
 
 pub returns-then-not-is_valid : goal.returns-then-not-is_valid
 unfolding line_answer
-returns-then-not-is_valid c = let v = sym c.is_valid.ensures ∙ c.if-not-is_valid.true in rw v (refuses 17 _)
+returns-then-not-is_valid c = let v = sym c.is_valid.ensures ∙ c.if-not-is_valid.true in rw (v, c.from.ensures) (refuses 17 _)
 
 pub step_valid-s-requires : goal.step_valid-s-requires
 step_valid-s-requires c = sym c.is_valid.ensures ∙ c.if-not-is_valid.false
@@ -33,4 +33,4 @@ returns c =
     let v = sym c.is_valid.ensures ∙ c.if-not-is_valid.false in
     let z = c.if-s-ne0.false in
     let told = rw c.text.ensures at c.give.ensures in
-    answers-as (line_taken _ _ _ _ _ _ _ _ (asked-first _ _ _ 0 _ _ _ _ v c.step_valid-s.ensures) (omega arith)) (handed (from_start c.new-page.ensures.begins c.put_line.ensures) (line-short _ _ v _) (omega arith) told)
+    answers-as (line_taken _ _ _ _ _ _ _ _ (asked-first _ _ _ 0 _ _ _ _ v c.step_valid-s.ensures) (omega arith)) (handed (from_start c.new-page.ensures.begins c.put_line.ensures) (line-short _ _ v _) (omega arith) (rw c.from-2.ensures told))

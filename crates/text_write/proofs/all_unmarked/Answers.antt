@@ -1,29 +1,22 @@
 -- No component in use is marked.
--- Idea: what is left to test is the components from the position on.
+-- By what the library says of `all` over a range.
 use native.Mathlib.Omega.{arith}
 use mathlib.Core.Bool.{not}
-use mathlib.Core.Path.{refl, ap, ◌∙◌}
-use borrow.Author.Tests.{lt-ltb, le-ltb}
-use Rattle.text_write.proofs.Unmarked.{every-yes, every-no, every-end}
-use Rattle.text_write.proofs.all_unmarked.Invariants.{free}
+use mathlib.Core.Path.{refl, sym, ◌∙◌}
+use borrow.Author.Rules.{rules}
+use borrow.Author.Tests.{tests}
+use lib.Dec.{ltb}
+use Rattle.std.proofs.lemmas.Iterator.{YieldsList-from_range}
+use Rattle.std.proofs.lemmas.Iterator.Search.{all_from_yields_List}
+use Rattle.table.specs.declared.Comp.{Comp}
+use Rattle.table.specs.Meaning.{comp_in, comps_of}
+use Rattle.table.proofs.Ranges.{every-range}
 use Rattle.text_write.proofs.all_unmarked.Goals as goal
 
-pub loop-k-init : goal.loop-k-init
-loop-k-init c = (omega arith, refl)
-
-pub returns-then-x-lt64 : goal.returns-then-x-lt64
-returns-then-x-lt64 c =
-    let a = c.args in
-    let l = c.loop-k in
-    every-no free (record { c = a.c.now; n = a.n }) l.k (omega arith) (ap not (lt-ltb _ 64 (rw c.comp_at-x.ensures at c.if-x-lt64.true))) ∙ l.invariant.1
-
-pub loop-k-preserved : goal.loop-k-preserved
-loop-k-preserved c =
-    let a = c.args in
-    let l = c.loop-k in
-    (omega arith, every-yes free (record { c = a.c.now; n = a.n }) l.k (omega arith) (ap not (le-ltb _ 64 (rw c.comp_at-x.ensures at c.if-x-lt64.false))) ∙ l.invariant.1)
-
 pub returns : goal.returns
+unfolding comps_of
 returns c =
-    let a = c.args in
-    every-end free (record { c = a.c.now; n = a.n }) c.loop-k.k (omega arith) ∙ c.loop-k.invariant.1
+    let k = c.args in
+    let t = λ (x : Comp). not (ltb x.mark 64) in
+    all_from_yields_List (λ j. t (comp_in k.c.now j)) _ _ _ c.all.ensures.ran (YieldsList-from_range 0 k.n k.n refl (omega arith)) (λ x b q h. search (rules, tests))
+    ∙ sym (every-range t 0 k.n (comp_in k.c.now))

@@ -1,6 +1,9 @@
 -- An unmarked network's text, or 15.
 -- Idea: the text is written beside the buffer first, so that a refusal leaves the buffer as it was.
 use native.Mathlib.Omega.{arith}
+use mathlib.Core.List.{◌++◌}
+use mathlib.Core.Path.{ap}
+use lib.ListN.{drop}
 use Rattle.text_write.proofs.Answered.{says-15, says-text, says-copied}
 use Rattle.text_write.proofs.write_beside.Goals as goal
 
@@ -26,4 +29,4 @@ pub returns : goal.returns
 returns c =
     let a = c.args in
     let p = c.requires in
-    says-copied a.w.now (record { c = a.c.now; n = a.n }) a.buf.now p.0 p.1 c.write_text-k.result c.write_text-k.ensures.place c.if-buf-k.false (omega arith) (omega arith) (omega arith) c.write_text-k.ensures c.copy_front.ensures
+    says-copied a.w.now (record { c = a.c.now; n = a.n }) a.buf.now p.0 p.1 c.write_text-k.result c.write_text-k.ensures.place c.if-buf-k.false (omega arith) (omega arith) (omega arith) c.write_text-k.ensures (ap (λ s. s ++ drop c.write_text-k.result a.buf.now) c.copy_from_slice.ensures.after)
