@@ -1,4 +1,5 @@
 -- The numbers of refusals: document 01, *Questions, asked downward*; and what an answer of the code stands for.
+-- Serves inner contracts only.
 use Rattle.std.specs.Prelude.{ℕ, Result, Ok, Err}
 use Rattle.terms.specs.Rules.{Answer}
 use Rattle.terms.specs.Rules.Answer.{refused, accepted}

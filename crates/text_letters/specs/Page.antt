@@ -1,4 +1,5 @@
 -- What the contracts of the functions that put something on a page say: a page is lent bytes, and the place in them of the next byte.
+-- Serves inner contracts only.
 use Rattle.std.specs.Prelude.{ℕ, List, ◌≡◌}
 use Rattle.text_letters.specs.Put.{Wrote}
 use Rattle.text_letters.specs.declared.Page.{Page}
