@@ -14,7 +14,7 @@ use table_valid::is_valid;
 use terms::refusal::Refusal;
 use text_answer::Settings;
 
-// One call of a list: 4 and a location for a tick, else the kind and the positions of an action. Question 17 was answered before.
+// One call of a list: 4 and a location for a tick, else the kind and the positions of an action, numbers of any content that the caller lends. Question 17 was answered before.
 fn call(w: &Script, good: bool, c: &mut Words, n: usize, kind: u32, p: u32, q: u32) -> Ticked
     requires { good ≡ valid w.now (record { c = c.now; n = n }) }
     ensures { DoesAs w.now (record { c = c.entry.now; n = n }) (answer_to w.now (record { c = c.entry.now; n = n }) (given_by (kind ∷ p ∷ q ∷ []))) result.code (left result c.exit.now) }

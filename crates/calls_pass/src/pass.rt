@@ -200,6 +200,7 @@ fn pass_rest(w: &Script, c: &Words, n: usize, l: u32, j: usize, out: &mut Words)
     requires { (valid w.now (record { c = c.now; n = n }) ≡ true) × (length out.old ≡ state_words) × (j ≤ n) }
     ensures { PassesAs (passed_from w.now l (record { c = c.entry.now; n = n }) j out.old) out.old out.new result }
 {
+    // i stays where a component that splits has a further turn, so that no range serves
     let mut k = j;
     let mut i = j;
     let mut next = None;

@@ -29,11 +29,13 @@ pub fn read_input<R: Read>(from: &mut R, buf: &mut [u8]) -> Result<usize, ReadFa
     ensures end { IfOk result (λ n. n < length buf.new → IsAtEnd (R.remaining from.new)) }
     ensures failed { IfErr result (λ e. (e.before < length buf.new) × Consumes (R.remaining from.old) (R.remaining from.new) (take e.before buf.new)) }
 {
+    // by `read`, since the library's `read_exact` and `read_to_end` try an interrupted call again (decision 54)
     let mut n = 0;
     while n < buf.len() {
         match from.read(&mut buf[n..]) {
             Ok(0) => return Ok(n),
             Ok(k) => n += k,
+            // in an arm: with `map_err(..)?` the edit a_failed_read_is_the_end would be refused for another reason
             Err(_) => return Err(ReadFailed { before: n }),
         }
     }
@@ -45,6 +47,7 @@ pub fn emit<W: Write>(to: &mut W, out: &[u8]) -> io::Result<()>
     ensures { MatchResult result (λ _. Appends (W.contents to.old) (W.contents to.new) out.now)
         (λ _. (k : ℕ) × (k ≤ length out.now) × Appends (W.contents to.old) (W.contents to.new) (take k out.now)) }
 {
+    // by `write`, since the library's `write_all` tries an interrupted call again (decision 54)
     let mut rest = out;
     while !rest.is_empty() {
         let k = to.write(rest)?;

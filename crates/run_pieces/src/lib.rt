@@ -24,6 +24,7 @@ use text_letters::Page;
 
 // How far a printout by pieces is: its next piece is a refusal, by its number; or the line of the step at the location l in a round, from 0 to 3; or the
 // network; or the mean; or it is over.
+// (The refusal is a number, since it is handed on from a reading, whose answer is the C interface's.)
 #[derive(Drop)]
 pub enum Progress {
     Refused(u32),

@@ -124,7 +124,7 @@ fn key_end(w: &Script, o: usize) -> Key
     }
 }
 
-// Are two names the same?
+// Are two names the same? The words are compared, and the promise is about letters.
 pub fn same_key(x: Key, y: Key) -> bool
     ensures { result ≡ same_name (key_name x) (key_name y) }
 {

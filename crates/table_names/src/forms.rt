@@ -22,6 +22,7 @@ fn low_byte(x: u32) -> u8
 fn solid_word(x: u32) -> bool
     ensures { result ≡ every is_alnum (strip (four_bytes x [])) }
 {
+    // over what is left of the word, and no index: how many bytes there are is not known before
     let mut y = x;
     while y != 0 {
         if !is_alnum(low_byte(y)) {

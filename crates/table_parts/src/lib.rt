@@ -298,6 +298,7 @@ fn scopes_named(w: &Script, f: usize) -> bool
     requires { (parts_in w.now ≤ 4096) × (below (parts_in w.now) (row_ok w.now) ≡ true) × ((k : ℕ) → k < f → field w.now k count_field ≡ 0) }
     ensures { result ≡ below (parts_in w.now) (scope_named w.now) }
 {
+    // from one place to a place that the part there names, so that no range serves
     let mut i = wide(word(w, 0));
     while f < i {
         let r = i - 1;
@@ -316,6 +317,7 @@ pub fn parts_ok(w: &Script) -> bool
 {
     let n = wide(word(w, 0));
     let f = after_leaves(w, 0, n);
+    // from one part that is no leaf to the next one, which is searched for, so that no range serves
     let mut i = f;
     while i < n {
         if !part_ok(w, i) {

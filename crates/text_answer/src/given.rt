@@ -49,6 +49,7 @@ fn put_row(w: &mut Script, o: usize, row: &Row)
 fn put_rights(w: &mut Script, rights: &[Row; 64])
     ensures { w.new ≡ sets w.old rights_at (rights_words rights.now) }
 {
+    // by position: of a zip with `iter_mut` the proof does not know what was written
     for l in 0..64 {
         put_row(w, RIGHTS + l * RIGHTS_SIZE, &rights[l]);
     }

@@ -26,7 +26,7 @@ enum Failure {
 }
 
 impl Failure {
-    // The line that says so.
+    // The line that says so, as bytes and not by `Display`: it goes out by `emit`, which tries nothing again.
     fn message(self) -> &'static [u8] {
         match self {
             Failure::NotRead => b"timorun: standard input could not be read\n",

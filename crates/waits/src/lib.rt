@@ -21,7 +21,7 @@ pub const LONGEST: u32 = 1000000;
 
 pub const MOST: u32 = 1000000;
 
-// One tick more.
+// One tick more. (`(n + 1).min(LONGEST)` would shorten a wait above it, and pass the last number.)
 pub fn longer(n: u32) -> u32
     ensures { result ≡ W.longer n }
 {
