@@ -10,17 +10,18 @@
 ghost use Rattle.std.specs.Prelude.{◌≡◌, true, map, ◌≤◌, ◌<◌};
 ghost use Rattle.table.specs.Words.{defs_in};
 ghost use Rattle.table.specs.Meaning.{def_of, defs_of, means, net_of};
-ghost use Rattle.table.specs.Valid.{script_ok, comp_ok, valid};
+ghost use Rattle.table.specs.Valid.{script_ok, comp_ok};
 ghost use Rattle.text_letters.specs.Put.{Wrote};
 ghost use Rattle.text_letters.specs.Page.{Adds};
 ghost use Rattle.text_network.specs.Forms.{def_text, defs_text, comp_text, net_text};
 ghost use Rattle.text_network.specs.Text.{text_of, no_mark};
 
 use table::comps::comp_at;
+use table::network::Network;
 use table::words::{arity_of, body_of, wide, word};
 use table::{
     Comp, FIRST_PARAM, FOURTH_PARAM, IDENTIFIERS, LOCATIONS, NAME_SIZE, ROW_SIZE, SECOND_PARAM,
-    Script, THIRD_PARAM, Words,
+    Script, THIRD_PARAM,
 };
 use text_letters::Page;
 use text_process::{write_part, write_process};
@@ -65,25 +66,25 @@ fn write_comp(w: &Script, c: Comp, page: &mut Page)
 }
 
 // The line of the components, in order.
-fn write_comps(w: &Script, c: &Words, n: usize, page: &mut Page)
-    requires { (valid w.now (record { c = c.now; n = n }) ≡ true) × (no_mark w.now (record { c = c.now; n = n }) ≡ true) }
-    ensures { Adds page.old (net_text (map comp_text (net_of w.now (record { c = c.entry.now; n = n })))) page.new }
+fn write_comps(net: Network, page: &mut Page)
+    requires { no_mark net.script.now (record { c = net.words.now; n = net.n }) ≡ true }
+    ensures { Adds page.old (net_text (map comp_text (net_of net.entry.script.now (record { c = net.entry.words.now; n = net.entry.n })))) page.new }
 {
-    write_comp(w, comp_at(c, 0), page);
-    for k in 1..n {
+    write_comp(net.script, comp_at(net.words, 0), page);
+    for k in 1..net.n {
         page.put_bar();
-        write_comp(w, comp_at(c, k), page);
+        write_comp(net.script, comp_at(net.words, k), page);
     }
     page.put_end();
 }
 
 // The whole text, from the start of the buffer on.
-pub fn write_text(w: &Script, c: &Words, n: usize, buf: &mut [u8]) -> usize
-    requires { (valid w.now (record { c = c.now; n = n }) ≡ true) × (no_mark w.now (record { c = c.now; n = n }) ≡ true) }
-    ensures { Wrote buf.old 0 (text_of w.now (record { c = c.entry.now; n = n })) buf.new result }
+pub fn write_text(net: Network, buf: &mut [u8]) -> usize
+    requires { no_mark net.script.now (record { c = net.words.now; n = net.n }) ≡ true }
+    ensures { Wrote buf.old 0 (text_of net.entry.script.now (record { c = net.entry.words.now; n = net.entry.n })) buf.new result }
 {
     let mut page = Page::new(buf);
-    write_defs(w, &mut page);
-    write_comps(w, c, n, &mut page);
+    write_defs(net.script, &mut page);
+    write_comps(net, &mut page);
     page.at
 }

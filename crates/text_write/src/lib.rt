@@ -8,14 +8,14 @@
 ghost use Rattle.std.specs.Prelude.{◌≡◌, true, not, ◌≤◌, ltb, length};
 ghost use Rattle.terms.specs.Same.{every};
 ghost use Rattle.table.specs.Meaning.{comps_of};
-ghost use Rattle.table.specs.Valid.{valid};
 ghost use Rattle.text_network.specs.Text.{no_mark};
 ghost use Rattle.text_write.specs.Answer.{write_answer, written, Answers};
 
 use table::comps::comp_at;
+use table::network::Network;
 use table::words::word;
 use table::{Script, Words};
-use table_valid::is_valid;
+use table_valid::network;
 use terms::refusal::Refusal;
 use text_network::write_text;
 
@@ -46,30 +46,24 @@ impl From<Result<usize, Refusal>> for Written {
 pub fn write(w: &Script, c: &Words, n: usize, buf: &mut [u8]) -> Written
     ensures { Answers (write_answer w.now (record { c = c.entry.now; n = n }) (length buf.old)) buf.old result buf.new }
 {
-    if !is_valid(w, c, n) {
-        return Written::from(Err(Refusal::NotValid));
+    match network(w, c, n) {
+        None => Written::from(Err(Refusal::NotValid)),
+        Some(net) => Written::from(write_valid(net, buf)),
     }
-    Written::from(write_valid(w, c, n, buf))
 }
 
 // The text of an unmarked network, or 15: it is written beside the buffer first, into bytes whose content does not matter. Only a text that is longer than
 // these is written a second time.
-fn write_beside(
-    w: &Script,
-    c: &Words,
-    n: usize,
-    text: &mut [u8],
-    buf: &mut [u8],
-) -> Result<usize, Refusal>
-    requires { (valid w.now (record { c = c.now; n = n }) ≡ true) × (no_mark w.now (record { c = c.now; n = n }) ≡ true) }
-    ensures { Answers (write_answer w.now (record { c = c.entry.now; n = n }) (length buf.old)) buf.old (written result) buf.new }
+fn write_beside(net: Network, text: &mut [u8], buf: &mut [u8]) -> Result<usize, Refusal>
+    requires { no_mark net.script.now (record { c = net.words.now; n = net.n }) ≡ true }
+    ensures { Answers (write_answer net.entry.script.now (record { c = net.entry.words.now; n = net.entry.n }) (length buf.old)) buf.old (written result) buf.new }
 {
-    let k = write_text(w, c, n, text);
+    let k = write_text(net, text);
     if buf.len() < k {
         return Err(Refusal::BufferShort);
     }
     if text.len() < k {
-        write_text(w, c, n, buf);
+        write_text(net, buf);
         return Ok(k);
     }
     buf[..k].copy_from_slice(&text[..k]);
@@ -77,19 +71,18 @@ fn write_beside(
 }
 
 // The same on a network that passes question 17: 14, then 15 and the text. Few parts mostly have a short text.
-fn write_valid(w: &Script, c: &Words, n: usize, buf: &mut [u8]) -> Result<usize, Refusal>
-    requires { valid w.now (record { c = c.now; n = n }) ≡ true }
-    ensures { Answers (write_answer w.now (record { c = c.entry.now; n = n }) (length buf.old)) buf.old (written result) buf.new }
+fn write_valid(net: Network, buf: &mut [u8]) -> Result<usize, Refusal>
+    ensures { Answers (write_answer net.entry.script.now (record { c = net.entry.words.now; n = net.entry.n }) (length buf.old)) buf.old (written result) buf.new }
 {
-    if !all_unmarked(c, n) {
+    if !all_unmarked(net.words, net.n) {
         return Err(Refusal::MarkedText);
     }
-    if word(w, 0) <= 128 {
+    if word(net.script, 0) <= 128 {
         let mut short = [0; 4096];
-        return write_beside(w, c, n, &mut short, buf);
+        return write_beside(net, &mut short, buf);
     }
     let mut text = [0; 65536];
-    write_beside(w, c, n, &mut text, buf)
+    write_beside(net, &mut text, buf)
 }
 
 // 14: is no component marked?

@@ -11,10 +11,10 @@ use Rattle.text_network.proofs.write_comps.Goals as goal
 pub write_comp-requires : goal.write_comp-requires
 write_comp-requires c =
     let k = c.args in
-    let v = c.requires in
-    let st : State = record { c = k.c.now; n = k.n } in
-    let g = comp-good k.w.now st 0 (valid-state k.w.now st v.0).some v.0 v.1 in
-    (valid-script k.w.now st v.0, rw c.comp_at.ensures g.0, rw c.comp_at.ensures g.1)
+    let v = k.net.passes in
+    let st : State = record { c = k.net.words.now; n = k.net.n } in
+    let g = comp-good k.net.script.now st 0 (valid-state k.net.script.now st v).some v c.requires in
+    (valid-script k.net.script.now st v, rw c.comp_at.ensures g.0, rw c.comp_at.ensures g.1)
 
 pub loop-k-init : goal.loop-k-init
 loop-k-init c = begun
@@ -22,29 +22,29 @@ loop-k-init c = begun
 pub comp_at-requires-in-loop-k : goal.comp_at-requires-in-loop-k
 comp_at-requires-in-loop-k c =
     let k = c.args in
-    omega (arith, c.loop-k-test.true, (valid-state k.w.now (record { c = k.c.now; n = k.n }) c.requires.0).few)
+    omega (arith, c.loop-k-test.true, (valid-state k.net.script.now (record { c = k.net.words.now; n = k.net.n }) k.net.passes).few)
 
 pub write_comp-requires-in-loop-k : goal.write_comp-requires-in-loop-k
 write_comp-requires-in-loop-k c =
     let k = c.args in
-    let v = c.requires in
-    let st : State = record { c = k.c.now; n = k.n } in
-    let g = comp-good k.w.now st c.loop-k.k c.loop-k-test.true v.0 v.1 in
-    (valid-script k.w.now st v.0, rw c.comp_at-in-loop-k.ensures g.0, rw c.comp_at-in-loop-k.ensures g.1)
+    let v = k.net.passes in
+    let st : State = record { c = k.net.words.now; n = k.net.n } in
+    let g = comp-good k.net.script.now st c.loop-k.k c.loop-k-test.true v c.requires in
+    (valid-script k.net.script.now st v, rw c.comp_at-in-loop-k.ensures g.0, rw c.comp_at-in-loop-k.ensures g.1)
 
 pub loop-k-preserved : goal.loop-k-preserved
 loop-k-preserved c =
     let k = c.args in
     let l = c.loop-k in
-    let st : State = record { c = k.c.now; n = k.n } in
+    let st : State = record { c = k.net.words.now; n = k.net.n } in
     let e = rw c.comp_at-in-loop-k.ensures at c.write_comp-in-loop-k.ensures in
-    step (step (left_as (comps-next k.w.now st l.k c.loop-k-test.true) l.invariant) c.put_bar.ensures) e
+    step (step (left_as (comps-next k.net.script.now st l.k c.loop-k-test.true) l.invariant) c.put_bar.ensures) e
 
 pub returns : goal.returns
 returns c =
     let k = c.args in
     let l = c.loop-k in
-    let st : State = record { c = k.c.now; n = k.n } in
-    let f = valid-state k.w.now st c.requires.0 in
+    let st : State = record { c = k.net.words.now; n = k.net.n } in
+    let f = valid-state k.net.script.now st k.net.passes in
     let e = rw c.comp_at.ensures at c.write_comp.ensures in
-    same (sym (comps-first k.w.now st f.some)) (then e (last (left_as (comps-end k.w.now st l.k (omega arith)) l.invariant) c.put_end.ensures))
+    same (sym (comps-first k.net.script.now st f.some)) (then e (last (left_as (comps-end k.net.script.now st l.k (omega arith)) l.invariant) c.put_end.ensures))

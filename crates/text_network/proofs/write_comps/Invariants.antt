@@ -6,4 +6,4 @@ use Rattle.text_network.proofs.Networks.{left}
 use Rattle.text_network.proofs.write_comps.Given as goal
 
 abbrev pub invariant-loop-k : goal.invariant-loop-k
-invariant-loop-k l = LeftOf l.initial.page (barred (left l.w (record { c = l.c; n = l.n }) 1)) l.page (barred (left l.w (record { c = l.c; n = l.n }) l.k))
+invariant-loop-k l = LeftOf l.initial.page (barred (left l.net.script.now (record { c = l.net.words.now; n = l.net.n }) 1)) l.page (barred (left l.net.script.now (record { c = l.net.words.now; n = l.net.n }) l.k))

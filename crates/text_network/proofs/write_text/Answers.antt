@@ -7,8 +7,8 @@ use Rattle.text_network.proofs.Networks.{text-is}
 use Rattle.text_network.proofs.write_text.Goals as goal
 
 pub write_defs-requires : goal.write_defs-requires
-write_defs-requires c = valid-script c.args.w.now (record { c = c.args.c.now; n = c.args.n }) c.requires.0
+write_defs-requires c = valid-script c.args.net.script.now (record { c = c.args.net.words.now; n = c.args.net.n }) c.args.net.passes
 
 pub returns : goal.returns
 returns c =
-    let e = same (text-is c.args.w.now (record { c = c.args.c.now; n = c.args.n })) (then c.write_defs.ensures c.write_comps.ensures) in let f = e.wrote in search rules
+    let e = same (text-is c.args.net.script.now (record { c = c.args.net.words.now; n = c.args.net.n })) (then c.write_defs.ensures c.write_comps.ensures) in let f = e.wrote in search rules

@@ -13,8 +13,7 @@ write_text-k-requires c = c.requires
 pub returns-then-buf-k : goal.returns-then-buf-k
 returns-then-buf-k c =
     let a = c.args in
-    let p = c.requires in
-    says-15 a.w.now (record { c = a.c.now; n = a.n }) a.buf.now p.0 p.1 c.write_text-k.result c.write_text-k.ensures.place c.if-buf-k.true
+    says-15 a.net.script.now (record { c = a.net.words.now; n = a.net.n }) a.buf.now a.net.passes c.requires c.write_text-k.result c.write_text-k.ensures.place c.if-buf-k.true
 
 pub write_text-requires : goal.write_text-requires
 write_text-requires c = c.requires
@@ -22,11 +21,9 @@ write_text-requires c = c.requires
 pub returns-then-text-k : goal.returns-then-text-k
 returns-then-text-k c =
     let a = c.args in
-    let p = c.requires in
-    says-text a.w.now (record { c = a.c.now; n = a.n }) a.buf.now p.0 p.1 c.write_text-k.result c.write_text-k.ensures.place c.if-buf-k.false (omega arith) c.write_text.ensures
+    says-text a.net.script.now (record { c = a.net.words.now; n = a.net.n }) a.buf.now a.net.passes c.requires c.write_text-k.result c.write_text-k.ensures.place c.if-buf-k.false (omega arith) c.write_text.ensures
 
 pub returns : goal.returns
 returns c =
     let a = c.args in
-    let p = c.requires in
-    says-copied a.w.now (record { c = a.c.now; n = a.n }) a.buf.now p.0 p.1 c.write_text-k.result c.write_text-k.ensures.place c.if-buf-k.false (omega arith) (omega arith) (omega arith) c.write_text-k.ensures (ap (λ s. s ++ drop c.write_text-k.result a.buf.now) c.copy_from_slice.ensures.after)
+    says-copied a.net.script.now (record { c = a.net.words.now; n = a.net.n }) a.buf.now a.net.passes c.requires c.write_text-k.result c.write_text-k.ensures.place c.if-buf-k.false (omega arith) (omega arith) (omega arith) c.write_text-k.ensures (ap (λ s. s ++ drop c.write_text-k.result a.buf.now) c.copy_from_slice.ensures.after)
