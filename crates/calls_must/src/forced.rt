@@ -1,13 +1,14 @@
 // Is the tick at l not allowed? First the channels that are heard there, then each component by itself.
 ghost use Rattle.std.specs.Prelude.{◌≡◌, true, false, get_or, unwrap_or};
 ghost use Rattle.table.specs.Meaning.{comps_of};
-ghost use Rattle.table.specs.Valid.{script_ok, comp_ok, valid};
+ghost use Rattle.table.specs.Valid.{script_ok, comp_ok};
 ghost use Rattle.table.specs.Fire.{ready_at, sent_on, would_act, must_act, forced_at};
 ghost use Rattle.calls_must.specs.Heard.{heard_on, hears_at, sends_on, Heard, pressed_by};
 
 use calls_fire::rights::right_in;
 use table::comps::comp_at;
-use table::{Comp, Head, Script, Words, words};
+use table::network::Network;
+use table::{Comp, Head, Script, words};
 use terms::Timer;
 
 pub fn ready_at(l: u32, c: Comp) -> bool
@@ -36,14 +37,13 @@ pub fn hears_at(w: &Script, l: u32, c: Comp) -> Option<u32>
 }
 
 // The channels that are heard.
-fn heard_at(w: &Script, c: &Words, n: usize, l: u32) -> [bool; 64]
-    requires { valid w.now (record { c = c.now; n = n }) ≡ true }
-    ensures { Heard w.now l (comps_of (record { c = c.entry.now; n = n })) result }
+fn heard_at(net: Network, l: u32) -> [bool; 64]
+    ensures { Heard net.entry.script.now l (comps_of (record { c = net.entry.words.now; n = net.entry.n })) result }
 {
     let mut heard = [false; 64];
-    for j in 0..n {
-        let x = comp_at(c, j);
-        if let Some(d) = hears_at(w, l, x) {
+    for j in 0..net.n {
+        let x = comp_at(net.words, j);
+        if let Some(d) = hears_at(net.script, l, x) {
             heard[words::wide(d)] = true;
         }
     }
@@ -103,10 +103,9 @@ fn pressed_by(w: &Script, l: u32, ears: &[bool; 64], c: Comp) -> bool
     must_act(w, heard, c, h)
 }
 
-pub fn forced_at(w: &Script, c: &Words, n: usize, l: u32) -> bool
-    requires { valid w.now (record { c = c.now; n = n }) ≡ true }
-    ensures { result ≡ forced_at w.now l (comps_of (record { c = c.entry.now; n = n })) }
+pub fn forced_at(net: Network, l: u32) -> bool
+    ensures { result ≡ forced_at net.entry.script.now l (comps_of (record { c = net.entry.words.now; n = net.entry.n })) }
 {
-    let ears = heard_at(w, c, n, l);
-    (0..n).any(|j| pressed_by(w, l, &ears, comp_at(c, j)))
+    let ears = heard_at(net, l);
+    (0..net.n).any(|j| pressed_by(net.script, l, &ears, comp_at(net.words, j)))
 }

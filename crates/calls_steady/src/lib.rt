@@ -9,11 +9,12 @@ ghost use Rattle.std.specs.Prelude.{◌≡◌, true, ◌&&◌, ◌<◌};
 ghost use Rattle.terms.specs.Same.{every};
 ghost use Rattle.table.specs.Words.{head_at};
 ghost use Rattle.table.specs.Meaning.{comps_of};
-ghost use Rattle.table.specs.Valid.{script_ok, comp_ok, valid};
+ghost use Rattle.table.specs.Valid.{script_ok, comp_ok};
 ghost use Rattle.calls_steady.specs.Steady.{touches, one_part, leaves_one, stays_one};
 
 use table::comps::comp_at;
-use table::{Comp, Head, Script, Words, words};
+use table::network::Network;
+use table::{Comp, Head, Script, words};
 
 // Has the tick at l anything to do with c?
 pub fn touched(l: u32, c: Comp) -> bool
@@ -60,17 +61,16 @@ fn stays_one(w: &Script, l: u32, c: Comp) -> bool
 }
 
 // Is it known at little cost that every component stays one? Where more than 64 have to be looked at, a copy of all components costs less, and nothing is said.
-pub fn known_steady(w: &Script, c: &Words, n: usize, l: u32) -> bool
-    requires { valid w.now (record { c = c.now; n = n }) ≡ true }
-    ensures { result ≡ true → every (stays_one w.now l) (comps_of (record { c = c.entry.now; n = n })) ≡ true }
+pub fn known_steady(net: Network, l: u32) -> bool
+    ensures { result ≡ true → every (stays_one net.entry.script.now l) (comps_of (record { c = net.entry.words.now; n = net.entry.n })) ≡ true }
 {
     let mut left: usize = 64;
-    for j in 0..n {
-        let x = comp_at(c, j);
+    for j in 0..net.n {
+        let x = comp_at(net.words, j);
         if !touched(l, x) {
             continue;
         }
-        if left == 0 || !stays_one(w, l, x) {
+        if left == 0 || !stays_one(net.script, l, x) {
             return false;
         }
         left -= 1;

@@ -12,6 +12,7 @@ use calls_pass::pass;
 use calls_steady::known_steady;
 use calls_sweep::sweep;
 use table::comps::sized;
+use table::network::Network;
 use table::{Script, Words, words};
 use table_waits::{count_messages, messages};
 use terms::refusal::Refusal;
@@ -33,14 +34,13 @@ fn put_records(acts: &[[u32; 3]; 256], count: usize, records: &mut [[u32; 3]])
 
 // Is it known at little cost that none of 15, 18 and 13 is answered by no? There is room for an action at every position, a count for a message of each, and
 // every component stays one.
-fn spared(w: &Script, c: &Words, n: usize, l: u32, size: usize) -> bool
-    requires { valid w.now (record { c = c.now; n = n }) ≡ true }
-    ensures { result ≡ true → (n ≤ size) × (count_in c.entry.now + n ≤ 1000000) × (every (stays_one w.now l) (comps_of (record { c = c.entry.now; n = n })) ≡ true) }
+fn spared(net: Network, l: u32, size: usize) -> bool
+    ensures { result ≡ true → (net.entry.n ≤ size) × (count_in net.entry.words.now + net.entry.n ≤ 1000000) × (every (stays_one net.entry.script.now l) (comps_of (record { c = net.entry.words.now; n = net.entry.n })) ≡ true) }
 {
-    if size < n || MOST - 256 < messages(c) {
+    if size < net.n || MOST - 256 < messages(net.words) {
         return false;
     }
-    known_steady(w, c, n, l)
+    known_steady(net, l)
 }
 
 // The step where it is so: nothing is to be put back, the records are written where they are wanted, and as many components are left as there were.
@@ -119,7 +119,12 @@ fn step_by(
     if words::word(w, 1) <= l {
         return Err(Refusal::OutOfRange);
     }
-    if spared(w, c, n, l, records.len()) {
+    let net = Network {
+        script: w,
+        words: &*c,
+        n,
+    };
+    if spared(net, l, records.len()) {
         return Ok(step_free(w, c, n, l, records));
     }
     step_kept(w, c, n, l, records)

@@ -13,6 +13,7 @@ use calls_must::forced;
 use calls_pass::pass;
 use calls_steady::known_steady;
 use table::comps::sized;
+use table::network::Network;
 use table::{Script, Words, words};
 use terms::refusal::Refusal;
 
@@ -68,10 +69,15 @@ fn tick_by(w: &Script, c: &mut Words, n: usize, l: u32) -> Result<usize, Refusal
     if words::word(w, 1) <= l {
         return Err(Refusal::OutOfRange);
     }
-    if forced::forced_at(w, c, n, l) {
+    let net = Network {
+        script: w,
+        words: &*c,
+        n,
+    };
+    if forced::forced_at(net, l) {
         return Err(Refusal::Forced);
     }
-    if known_steady(w, c, n, l) {
+    if known_steady(net, l) {
         tick_free(w, c, n, l);
         return Ok(n);
     }

@@ -8,4 +8,4 @@ use Rattle.calls_steady.specs.Steady.{stays_one}
 use Rattle.calls_steady.proofs.known_steady.Given as goal
 
 abbrev pub invariant-loop-j : goal.invariant-loop-j
-invariant-loop-j l = every (stays_one l.w l.l) (take l.j (comps_of (record { c = l.c; n = l.n }))) ≡ true
+invariant-loop-j l = every (stays_one l.net.script.now l.l) (take l.j (comps_of (record { c = l.net.words.now; n = l.net.n }))) ≡ true

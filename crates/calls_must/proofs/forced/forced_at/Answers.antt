@@ -15,17 +15,17 @@ use Rattle.calls_must.proofs.forced.forced_at.Goals as goal
 pub any-requires : goal.any-requires
 any-requires c =
     let a = c.args in
-    let v = c.requires in
-    let st : State = record { c = a.c.now; n = a.n } in
+    let v = c.args.net.passes in
+    let st : State = record { c = a.net.words.now; n = a.net.n } in
     record {
       can = tt;
       finite = tt;
-      callable = serves_from_Range (λ x q r. search rules) (λ x b e. let f : x < 256 = omega (arith, few-comps a.w.now st v) in let s = valid-script a.w.now st v in let g = comp-held a.w.now st v x e in search (rules, f, s, g));
+      callable = serves_from_Range (λ x q r. search rules) (λ x b e. let f : x < 256 = omega (arith, few-comps a.net.script.now st v) in let s = valid-script a.net.script.now st v in let g = comp-held a.net.script.now st v x e in search (rules, f, s, g));
     }
 
 pub returns : goal.returns
 returns c =
     let a = c.args in
-    let st : State = record { c = a.c.now; n = a.n } in
-    any_from_yields_List (λ j. pressed_by a.w.now a.l c.heard_at-ears.result (comp_in a.c.now j)) _ _ _ c.any.ensures.ran (YieldsList-from_range 0 a.n a.n (cc) (omega arith)) (λ x b q k. search (rules, tests))
-    ∙ presses-any a.w.now st a.l c.heard_at-ears.result c.requires c.heard_at-ears.ensures
+    let st : State = record { c = a.net.words.now; n = a.net.n } in
+    any_from_yields_List (λ j. pressed_by a.net.script.now a.l c.heard_at-ears.result (comp_in a.net.words.now j)) _ _ _ c.any.ensures.ran (YieldsList-from_range 0 a.net.n a.net.n (cc) (omega arith)) (λ x b q k. search (rules, tests))
+    ∙ presses-any a.net.script.now st a.l c.heard_at-ears.result c.args.net.passes c.heard_at-ears.ensures

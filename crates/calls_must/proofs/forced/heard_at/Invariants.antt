@@ -6,4 +6,4 @@ use Rattle.calls_must.specs.Heard.{Heard}
 use Rattle.calls_must.proofs.forced.heard_at.Given as goal
 
 abbrev pub invariant-loop-j : goal.invariant-loop-j
-invariant-loop-j l = (length l.heard ≡ 64) × Heard l.w l.l (take l.j (comps_of (record { c = l.c; n = l.n }))) l.heard
+invariant-loop-j l = (length l.heard ≡ 64) × Heard l.net.script.now l.l (take l.j (comps_of (record { c = l.net.words.now; n = l.net.n }))) l.heard
