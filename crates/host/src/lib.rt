@@ -25,7 +25,7 @@ use calls_step::step::step_valid;
 use run_line::{put_label, put_line};
 use table::words::{wide, word};
 use table::{CHANNELS, LOCATIONS, NAME_SIZE, Script, Words};
-use table_valid::is_valid;
+use table_valid::{is_valid, network};
 use terms::refusal::Refusal;
 use text_letters::Page;
 use text_write::Written;
@@ -156,10 +156,10 @@ pub fn action_label(
 ) -> Written
     ensures { Answers (label_answer w.now (record { c = c.entry.now; n = n }) kind p q (length buf.old)) buf.old result buf.new }
 {
-    if !is_valid(w, c, n) {
+    let Some(net) = network(w, c, n) else {
         return Written::from(Err(Refusal::NotValid));
-    }
-    let r = label_at(w, c, n, kind, p, q);
+    };
+    let r = label_at(net, kind, p, q);
     if r.code != 0 {
         return Written {
             code: r.code,

@@ -13,7 +13,6 @@ ghost use mathlib.Core.List.{[], ◌∷◌, ◌++◌, flat_map};
 ghost use Rattle.terms.specs.Names.{bytes};
 ghost use Rattle.terms.specs.Same.{every};
 ghost use Rattle.table.specs.Words.{name_at, loc_name, chan_name};
-ghost use Rattle.table.specs.Valid.{valid};
 ghost use Rattle.table.specs.Fire.{label_of};
 ghost use Rattle.calls_fire.specs.Fired.{tag_of};
 ghost use Rattle.text_letters.specs.Page.{Adds};
@@ -22,6 +21,7 @@ ghost use Rattle.run_line.specs.Records.{label_in, may_fire, Holds};
 
 use calls_act::naming::label_at;
 use calls_fire::Label;
+use table::network::Network;
 use table::words::wide;
 use table::{CHANNELS, IDENTIFIERS, LOCATIONS, NAME_SIZE, ROW_SIZE, Script, Words};
 use text_letters::Page;
@@ -60,23 +60,23 @@ pub fn put_label(w: &Script, x: Label, page: &mut Page)
 }
 
 // A space, and the label of the action of a record, which may fire.
-fn put_action(w: &Script, c: &Words, n: usize, e: &[u32; 3], page: &mut Page)
-    requires { (valid w.now (record { c = c.now; n = n }) ≡ true) × (may_fire w.now (record { c = c.now; n = n }) e.now ≡ true) }
-    ensures { Adds page.old (spaced (label_in w.now (record { c = c.entry.now; n = n }) e.now)) page.new }
+fn put_action(net: Network, e: &[u32; 3], page: &mut Page)
+    requires { may_fire net.script.now (record { c = net.words.now; n = net.n }) e.now ≡ true }
+    ensures { Adds page.old (spaced (label_in net.entry.script.now (record { c = net.entry.words.now; n = net.entry.n }) e.now)) page.new }
 {
     let [kind, p, q] = *e;
-    let r = label_at(w, c, n, kind, wide(p), wide(q));
+    let r = label_at(net, kind, wide(p), wide(q));
     page.put(b' ');
-    put_label(w, r.label, page);
+    put_label(net.script, r.label, page);
 }
 
 // The labels of the actions of the records, which may all fire.
-fn put_actions(w: &Script, c: &Words, n: usize, records: &[[u32; 3]], page: &mut Page)
-    requires { (valid w.now (record { c = c.now; n = n }) ≡ true) × (every (may_fire w.now (record { c = c.now; n = n })) records.now ≡ true) }
-    ensures { Adds page.old (spaced (flat_map (label_in w.now (record { c = c.entry.now; n = n })) records.now)) page.new }
+fn put_actions(net: Network, records: &[[u32; 3]], page: &mut Page)
+    requires { every (may_fire net.script.now (record { c = net.words.now; n = net.n })) records.now ≡ true }
+    ensures { Adds page.old (spaced (flat_map (label_in net.entry.script.now (record { c = net.entry.words.now; n = net.entry.n })) records.now)) page.new }
 {
     for e in records {
-        put_action(w, c, n, e, page);
+        put_action(net, e, page);
     }
 }
 
@@ -86,6 +86,7 @@ pub fn put_line(w: &Script, c: &Words, n: usize, l: u32, records: &[[u32; 3]], p
     ensures { Adds page.old (line_text (loc_name w.now l) (step_labels w.now (record { c = c.entry.now; n = n }) l)) page.new }
 {
     page.put_name(w, LOCATIONS + wide(l) * NAME_SIZE);
-    put_actions(w, c, n, records, page);
+    let net = Network { script: w, words: c, n };
+    put_actions(net, records, page);
     page.put(b'\n');
 }

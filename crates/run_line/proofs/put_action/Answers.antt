@@ -9,4 +9,4 @@ pub returns : goal.returns
 returns c =
     let k = c.args in
     let e = rw (c.wide.ensures, c.wide-2.ensures) at c.label_at-r.ensures in
-    same (action-text k.w.now (answer_by k.w.now (record { c = k.c.now; n = k.n }) k.e.now) c.label_at-r.result e c.requires.1) (then c.put.ensures c.put_label.ensures)
+    same (action-text k.net.script.now (answer_by k.net.script.now (record { c = k.net.words.now; n = k.net.n }) k.e.now) c.label_at-r.result e c.requires) (then c.put.ensures c.put_label.ensures)

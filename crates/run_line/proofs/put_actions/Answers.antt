@@ -14,15 +14,15 @@ loop-e-init c = begun
 pub put_action-requires : goal.put_action-requires
 put_action-requires c =
     let k = c.args in
-    (c.requires.0, fires-at k.w.now (record { c = k.c.now; n = k.n }) k.records.now c.loop-e.e-index c.loop-e-test.true c.requires.1)
+    fires-at k.net.script.now (record { c = k.net.words.now; n = k.net.n }) k.records.now c.loop-e.e-index c.loop-e-test.true c.requires
 
 pub loop-e-preserved : goal.loop-e-preserved
 loop-e-preserved c =
     let k = c.args in
     let l = c.loop-e in
-    step {t = spaced (label_in k.w.now (record { c = k.c.now; n = k.n }) (get_or k.records.now l.e-index []))} (left_as (rest-next k.w.now (record { c = k.c.now; n = k.n }) k.records.now l.e-index c.loop-e-test.true) l.invariant) c.put_action.ensures
+    step {t = spaced (label_in k.net.script.now (record { c = k.net.words.now; n = k.net.n }) (get_or k.records.now l.e-index []))} (left_as (rest-next k.net.script.now (record { c = k.net.words.now; n = k.net.n }) k.records.now l.e-index c.loop-e-test.true) l.invariant) c.put_action.ensures
 
 pub returns : goal.returns
 returns c =
     let k = c.args in
-    done (left_as (rest_end k.w.now (record { c = k.c.now; n = k.n }) k.records.now c.loop-e.e-index c.loop-e-test.false) c.loop-e.invariant)
+    done (left_as (rest_end k.net.script.now (record { c = k.net.words.now; n = k.net.n }) k.records.now c.loop-e.e-index c.loop-e-test.false) c.loop-e.invariant)

@@ -8,4 +8,4 @@ use Rattle.run_line.proofs.Lines.{rest}
 use Rattle.run_line.proofs.put_actions.Given as goal
 
 abbrev pub invariant-loop-e : goal.invariant-loop-e
-invariant-loop-e l = LeftOf l.initial.page (spaced (flat_map (label_in l.w (record { c = l.c; n = l.n })) l.records)) l.page (rest l.w (record { c = l.c; n = l.n }) l.records l.e-index)
+invariant-loop-e l = LeftOf l.initial.page (spaced (flat_map (label_in l.net.script.now (record { c = l.net.words.now; n = l.net.n })) l.records)) l.page (rest l.net.script.now (record { c = l.net.words.now; n = l.net.n }) l.records l.e-index)

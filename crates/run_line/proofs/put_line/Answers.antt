@@ -13,8 +13,7 @@ use Rattle.run_line.proofs.put_line.Goals as goal
 pub put_actions-requires : goal.put_actions-requires
 put_actions-requires c =
     let k = c.args in
-    let h = c.requires in
-    (h.good, rw take-length at (held-fire k.w.now (record { c = k.c.now; n = k.n }) k.l k.records.now (length k.records.now) h))
+    rw take-length at (held-fire k.w.now (record { c = k.c.now; n = k.n }) k.l k.records.now (length k.records.now) c.requires)
 
 pub returns : goal.returns
 unfolding line_text loc_name
