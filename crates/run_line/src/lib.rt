@@ -86,7 +86,11 @@ pub fn put_line(w: &Script, c: &Words, n: usize, l: u32, records: &[[u32; 3]], p
     ensures { Adds page.old (line_text (loc_name w.now l) (step_labels w.now (record { c = c.entry.now; n = n }) l)) page.new }
 {
     page.put_name(w, LOCATIONS + wide(l) * NAME_SIZE);
-    let net = Network { script: w, words: c, n };
+    let net = Network {
+        script: w,
+        words: c,
+        n,
+    };
     put_actions(net, records, page);
     page.put(b'\n');
 }
