@@ -74,7 +74,8 @@ fn act_pair(w: &Script, c: &mut Words, n: usize, p: usize, q: usize) -> Result<L
     Ok(m.label)
 }
 
-fn act_by(
+// Questions 8 to 11, 20 and 18 of an action, and what it leaves.
+pub fn act_by(
     w: &Script,
     c: &mut Words,
     n: usize,
@@ -91,7 +92,7 @@ fn act_by(
     }
 }
 
-// Questions 8 to 11, 20 and 18 of an action, and what it leaves.
+// The same, as a caller in another language gets it.
 pub fn act_valid(w: &Script, c: &mut Words, n: usize, kind: u32, p: usize, q: usize) -> Acted
     requires { valid w.now (record { c = c.now; n = n }) ≡ true }
     ensures { ActsAs w.now (record { c = c.entry.now; n = n }) (action_rule w.now (record { c = c.entry.now; n = n }) kind p q) result c.exit.now }

@@ -1,6 +1,6 @@
 -- The proposal by the rules: document 01, *The other calls* and *Questions, asked downward*, and document 02, R-1. The actions of a list in order, each on what those
 -- before it left and firing at the location, then the tick; the first no ends it.
-use Rattle.std.specs.Prelude.{ℕ, ◌<◌, List, [], ◌∷◌, true, cond, ◌≡◌, eqb, ltb, Result, Ok, Err}
+use Rattle.std.specs.Prelude.{ℕ, ◌<◌, List, [], ◌∷◌, true, cond, ◌≡◌, eqb, ltb}
 use Rattle.terms.specs.Names.{Name, same_name}
 use Rattle.terms.specs.Terms.{Context, fires_at}
 use Rattle.terms.specs.Rules.{Answer, Action, ◌>>=◌}
@@ -57,16 +57,6 @@ pub record Held (w : List ℕ) (l : ℕ) (st : State) (cs : List ℕ) : Type 0 w
 pub record Next (w : List ℕ) (l : ℕ) (st : State) (x : Answer Counted) (k : ℕ) (cs : List ℕ) : Type 0 where
   pub far : so_far w k (after st cs) ≡ x
   pub held : k ≡ 0 → Held w l st cs
-
--- 0, or the number of the question answered by no
-abbrev pub code_by : Result (Unit {0}) ℕ → ℕ
-code_by (Ok u) = 0
-code_by (Err k) = k
-
--- a no has a number that is not 0
-abbrev pub Numbered : Result (Unit {0}) ℕ → Type 0
-Numbered (Ok u) = Unit {0}
-Numbered (Err k) = k ≡ 0 → ⊥
 
 -- before the first action
 unfoldable pub begun : List ℕ → State → ℕ → Answer Counted

@@ -11,12 +11,11 @@ pub fn propose(w: &Script, c: &mut Words, n: usize, l: u32, records: &[Record]) 
     ensures { TicksAs w.now (record { c = c.entry.now; n = n }) (propose_answer w.now (record { c = c.entry.now; n = n }) l records.now) result c.exit.now }
 {
     let held = *c;
-    if let Err(code) = next::all_fired(w, c, n, l, records) {
-        return tick::put_back(code, n, &held, c);
+    if let Err(e) = next::all_fired(w, c, n, l, records) {
+        return tick::put_back(e.number(), n, &held, c);
     }
-    let t = tick::tick_valid(w, c, n, l);
-    if t.code != 0 {
-        return tick::put_back(t.code, n, &held, c);
+    match tick::tick_by(w, c, n, l) {
+        Ok(m) => Ticked { code: 0, n: m },
+        Err(e) => tick::put_back(e.number(), n, &held, c),
     }
-    t
 }

@@ -62,7 +62,7 @@ fn tick_kept(w: &Script, c: &mut Words, n: usize, l: u32) -> Result<usize, Refus
 }
 
 // How many components there are after the tick.
-fn tick_by(w: &Script, c: &mut Words, n: usize, l: u32) -> Result<usize, Refusal>
+pub fn tick_by(w: &Script, c: &mut Words, n: usize, l: u32) -> Result<usize, Refusal>
     requires { valid w.now (record { c = c.now; n = n }) ≡ true }
     ensures { TicksAs w.now (record { c = c.entry.now; n = n }) (tick_rule w.now (record { c = c.entry.now; n = n }) l) (ticked_of n result) c.exit.now }
 {
@@ -84,6 +84,7 @@ fn tick_by(w: &Script, c: &mut Words, n: usize, l: u32) -> Result<usize, Refusal
     tick_kept(w, c, n, l)
 }
 
+// The same, as a caller in another language gets it.
 pub fn tick_valid(w: &Script, c: &mut Words, n: usize, l: u32) -> Ticked
     requires { valid w.now (record { c = c.now; n = n }) ≡ true }
     ensures { TicksAs w.now (record { c = c.entry.now; n = n }) (tick_rule w.now (record { c = c.entry.now; n = n }) l) result c.exit.now }

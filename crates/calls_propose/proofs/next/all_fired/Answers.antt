@@ -1,10 +1,10 @@
 -- `all_fired` meets its contract: the components so far stand for what the records so far make of those at entry (Proposing).
 use native.Mathlib.Omega.{arith}
-use mathlib.Core.Path.{◌≡◌, refl, sym, ap, ◌∙◌}
+use mathlib.Core.Path.{refl, sym, ap, ◌∙◌}
 use Prim.Native.Nat.{◌+◌}
 use lib.ListN.{drop}
-use borrow.Author.Rules.{rules}
-use Rattle.std.specs.Prelude.{Err}
+use Rattle.std.proofs.lemmas.Result.{err_from_is_err_and}
+use Rattle.terms.proofs.Refusals.{number-some}
 use Rattle.table.specs.declared.State.{State}
 use Rattle.table_waits.proofs.Ledger.{others-then}
 use Rattle.calls_act.specs.Acted.{after}
@@ -16,13 +16,13 @@ pub returns-in_err-opening : goal.returns-in_err-opening
 returns-in_err-opening c =
     let a = c.args in
     let s : State = record { c = a.c.now; n = a.n } in
-    let q : c.from_residual.result ≡ Err c.in_err-opening.field-0.0 = search rules in
+    let p = err_from_is_err_and c.from_residual.result c.from_residual.ensures.1 in
     let f = c.in_err-opening.ensures in
-    rw q (record { next = fired-no a.w.now a.l s a.records.now _ _ _ _ f.number refl f.next.far; number = f.number })
+    rw (p.1, p.2) (fired-no a.w.now a.l s a.records.now _ _ _ _ (number-some c.in_err-opening.field-0.0) refl f.far)
 
 pub loop-r-init : goal.loop-r-init
 loop-r-init c =
-    let f = c.in_ok-opening.ensures.next in
+    let f = c.in_ok-opening.ensures in
     record { held = f.held (omega arith); far = ap (fired_all c.args.w.now c.args.l c.args.records.now) f.far }
 
 pub act_next-requires : goal.act_next-requires
@@ -33,17 +33,17 @@ returns-in_err-act_next c =
     let a = c.args in
     let s : State = record { c = a.c.now; n = a.n } in
     let l = c.loop-r in
-    let q : c.from_residual-in_err-act_next.result ≡ Err c.in_err-act_next.field-0.0 = search rules in
+    let p = err_from_is_err_and c.from_residual-in_err-act_next.result c.from_residual-in_err-act_next.ensures.1 in
     let f = c.in_err-act_next.ensures in
     let e = sym (one_more a.w.now a.l a.records.now (so_far a.w.now 0 (after s l.c)) l.r-index c.loop-r-test.true) ∙ l.invariant.far in
-    rw q (record { next = fired-no a.w.now a.l s (drop (l.r-index + 1) a.records.now) _ _ _ _ f.number e f.next.far; number = f.number })
+    rw (p.1, p.2) (fired-no a.w.now a.l s (drop (l.r-index + 1) a.records.now) _ _ _ _ (number-some c.in_err-act_next.field-0.0) e f.far)
 
 pub loop-r-preserved : goal.loop-r-preserved
 loop-r-preserved c =
     let a = c.args in
     let s : State = record { c = a.c.now; n = a.n } in
     let l = c.loop-r in
-    let f = c.in_ok-act_next.ensures.next in
+    let f = c.in_ok-act_next.ensures in
     let h = f.held (omega arith) in
     record {
       held = record { good = h.good; here = h.here; past = others-then (omega arith) l.invariant.held.past h.past };
@@ -55,7 +55,4 @@ returns c =
     let a = c.args in
     let s : State = record { c = a.c.now; n = a.n } in
     let i = c.loop-r.invariant in
-    record {
-      next = record { far = sym (all-fired a.w.now a.l a.records.now (so_far a.w.now 0 (after s c.loop-r.c)) c.loop-r.r-index c.loop-r-test.false) ∙ i.far; held = λ z. i.held };
-      number = tt;
-    }
+    record { far = sym (all-fired a.w.now a.l a.records.now (so_far a.w.now 0 (after s c.loop-r.c)) c.loop-r.r-index c.loop-r-test.false) ∙ i.far; held = λ z. i.held }

@@ -7,14 +7,14 @@ use Rattle.calls_propose.proofs.next.opening.Goals as goal
 pub returns-then-not-is_valid : goal.returns-then-not-is_valid
 returns-then-not-is_valid c =
     let a = c.args in
-    record { next = rw c.number.ensures (begin-bad a.w.now (record { c = a.c.now; n = a.n }) a.l (failed c.if-not-is_valid.true c.is_valid.ensures)); number = λ z. omega (arith, c.number.ensures) }
+    begin-bad a.w.now (record { c = a.c.now; n = a.n }) a.l (failed c.if-not-is_valid.true c.is_valid.ensures)
 
 pub returns-then-word-l : goal.returns-then-word-l
 returns-then-word-l c =
     let a = c.args in
-    record { next = rw c.number-then-word-l.ensures (begin-out a.w.now (record { c = a.c.now; n = a.n }) a.l (passed c.if-not-is_valid.false c.is_valid.ensures) (omega (arith, c.word.ensures))); number = λ z. omega (arith, c.number-then-word-l.ensures) }
+    begin-out a.w.now (record { c = a.c.now; n = a.n }) a.l (passed c.if-not-is_valid.false c.is_valid.ensures) (omega (arith, c.word.ensures))
 
 pub returns : goal.returns
 returns c =
     let a = c.args in
-    record { next = begin-in a.w.now (record { c = a.c.now; n = a.n }) a.l (passed c.if-not-is_valid.false c.is_valid.ensures) (omega (arith, c.word.ensures)); number = tt }
+    begin-in a.w.now (record { c = a.c.now; n = a.n }) a.l (passed c.if-not-is_valid.false c.is_valid.ensures) (omega (arith, c.word.ensures))

@@ -1,8 +1,9 @@
 -- `propose` meets its contract: the actions, and the tick on what they leave; a refusal puts the first components back (Proposing).
-use native.Mathlib.Omega.{arith}
-use mathlib.Core.Path.{sym, ap, subst, ◌∙◌}
+use mathlib.Core.Path.{refl, sym, ap, subst, ◌∙◌}
+use Rattle.terms.specs.Refusals.{number_of}
+use Rattle.terms.proofs.Refusals.{number-some}
 use Rattle.table.specs.declared.State.{State}
-use Rattle.calls_tick.specs.Ticked.{TicksAs}
+use Rattle.calls_tick.specs.Ticked.{TicksAs, refusal}
 use Rattle.calls_propose.specs.Proposed.{ticked_last}
 use Rattle.calls_propose.proofs.Proposing.{last-refused, last_none, last-all, proposal-is}
 use Rattle.calls_propose.proofs.outward.propose.Goals as goal
@@ -11,26 +12,29 @@ pub returns-in-Err : goal.returns-in-Err
 returns-in-Err c =
     let a = c.args in
     let s : State = record { c = a.c.now; n = a.n } in
-    let f = c.in-Err.ensures in
+    let e = c.in-Err.e in
+    let h = rw c.number.ensures at c.put_back.ensures in
     subst (λ x. TicksAs a.w.now s x c.put_back.result c.put_back.new.c)
-    (sym (last-refused a.w.now a.l s c.all_fired.new.c c.in-Err.code f.number) ∙ ap (ticked_last a.w.now a.l) f.next.far ∙ proposal-is a.w.now s a.l a.records.now) c.put_back.ensures
+    (sym (last-refused a.w.now a.l s c.all_fired.new.c (number_of e) (number-some e)) ∙ ap (ticked_last a.w.now a.l) c.in-Err.ensures.far ∙ proposal-is a.w.now s a.l a.records.now) h
 
-pub tick_valid-t-requires : goal.tick_valid-t-requires
-tick_valid-t-requires c = (c.in_default.ensures.next.held (omega arith)).good
+pub tick_by-requires : goal.tick_by-requires
+tick_by-requires c = (c.in_default.ensures.held refl).good
 
-pub returns-then-t-ne0 : goal.returns-then-t-ne0
-returns-then-t-ne0 c =
+pub returns-in-Err-tick_by : goal.returns-in-Err-tick_by
+returns-in-Err-tick_by c =
     let a = c.args in
     let s : State = record { c = a.c.now; n = a.n } in
-    let f = c.in_default.ensures.next in
-    subst (λ x. TicksAs a.w.now s x c.put_back-then-t-ne0.result c.put_back-then-t-ne0.new.c)
-    (sym (last_none a.w.now a.l s c.all_fired.new.c (f.held (omega arith)).here _ _ c.tick_valid-t.ensures c.if-t-ne0.true) ∙ ap (ticked_last a.w.now a.l) f.far ∙ proposal-is a.w.now s a.l a.records.now) c.put_back-then-t-ne0.ensures
+    let f = c.in_default.ensures in
+    let e = c.in-Err-tick_by.e in
+    let h = rw c.number-in-Err-tick_by.ensures at c.put_back-in-Err-tick_by.ensures in
+    subst (λ x. TicksAs a.w.now s x c.put_back-in-Err-tick_by.result c.put_back-in-Err-tick_by.new.c)
+    (sym (last_none a.w.now a.l s c.all_fired.new.c (f.held refl).here (refusal (number_of e) a.n) _ c.in-Err-tick_by.ensures (number-some e)) ∙ ap (ticked_last a.w.now a.l) f.far ∙ proposal-is a.w.now s a.l a.records.now) h
 
-pub returns : goal.returns
-returns c =
+pub returns-in-Ok : goal.returns-in-Ok
+returns-in-Ok c =
     let a = c.args in
     let s : State = record { c = a.c.now; n = a.n } in
-    let f = c.in_default.ensures.next in
-    let h = f.held (omega arith) in
-    subst (λ x. TicksAs a.w.now s x c.tick_valid-t.result c.tick_valid-t.new.c) (ap (ticked_last a.w.now a.l) f.far ∙ proposal-is a.w.now s a.l a.records.now)
-    (last-all a.w.now a.l s c.all_fired.new.c h.here _ _ c.tick_valid-t.ensures h.past (omega arith))
+    let f = c.in_default.ensures in
+    let h = f.held refl in
+    subst (λ x. TicksAs a.w.now s x (record { code = 0; n = c.in-Ok.m }) c.tick_by.new.c) (ap (ticked_last a.w.now a.l) f.far ∙ proposal-is a.w.now s a.l a.records.now)
+    (last-all a.w.now a.l s c.all_fired.new.c h.here _ _ c.in-Ok.ensures h.past refl)
