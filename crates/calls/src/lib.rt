@@ -30,7 +30,7 @@ use calls_profile::{Tested, outward};
 use calls_step::{Stepped, step};
 use calls_tick::{Ticked, tick};
 use table::{Script, Words};
-use table_valid::is_valid;
+use table_valid::{is_valid, network};
 use terms::refusal::Refusal;
 
 // How many calls of a list were made, and the number of components after them.
@@ -84,10 +84,10 @@ pub fn step_at(w: &Script, c: &mut Words, n: usize, l: u32, records: &mut [[u32;
 pub fn conforms(w: &Script, c: &Words, n: usize, l: u32) -> Tested
     ensures { result ≡ tested (test_answer w.now (record { c = c.entry.now; n = n }) l) }
 {
-    if is_valid(w, c, n) {
-        return outward::test_valid(w, c, n, l);
+    match network(w, c, n) {
+        Some(net) => outward::test_valid(net, l),
+        None => outward::refuse(Refusal::NotValid.number()),
     }
-    outward::refuse(Refusal::NotValid.number())
 }
 
 // The step at the location numbered l, where it conforms: questions 17, 8, 26, and then as the step's, 15, 18, 13.
@@ -110,13 +110,13 @@ pub fn step_conforming(
 pub fn forced_report(w: &Script, c: &Words, n: usize) -> Report
     ensures { result ≡ forced_report w.now (record { c = c.entry.now; n = n }) }
 {
-    if is_valid(w, c, n) {
-        return forced::forced_valid(w, c, n);
-    }
-    Report {
-        code: Refusal::NotValid.number(),
-        set: 0,
-        count: 0,
-        lowest: 0,
+    match network(w, c, n) {
+        Some(net) => forced::forced_valid(net),
+        None => Report {
+            code: Refusal::NotValid.number(),
+            set: 0,
+            count: 0,
+            lowest: 0,
+        },
     }
 }

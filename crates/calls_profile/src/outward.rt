@@ -7,6 +7,7 @@ ghost use Rattle.calls_profile.specs.Profiled.{test_rule, tested, conforming_rul
 
 use super::{Tested, test};
 use calls_step::{Stepped, step};
+use table::network::Network;
 use table::{Script, Words, words};
 use terms::refusal::Refusal;
 
@@ -17,22 +18,20 @@ pub fn refuse(code: u32) -> Tested
 }
 
 // Does the location numbered l conform? Question 8.
-fn conforms_valid(w: &Script, c: &Words, n: usize, l: u32) -> Result<bool, Refusal>
-    requires { valid w.now (record { c = c.now; n = n }) ≡ true }
-    ensures { answer_of (λ y. y) result ≡ test_rule w.now (record { c = c.entry.now; n = n }) l }
+fn conforms_valid(net: Network, l: u32) -> Result<bool, Refusal>
+    ensures { answer_of (λ y. y) result ≡ test_rule net.entry.script.now (record { c = net.entry.words.now; n = net.entry.n }) l }
 {
-    if words::word(w, 1) <= l {
+    if words::word(net.script, 1) <= l {
         return Err(Refusal::OutOfRange);
     }
-    Ok(test::conforms_at(w, c, n, l))
+    Ok(test::conforms_at(net, l))
 }
 
 // The same in the call's form.
-pub fn test_valid(w: &Script, c: &Words, n: usize, l: u32) -> Tested
-    requires { valid w.now (record { c = c.now; n = n }) ≡ true }
-    ensures { result ≡ tested (test_rule w.now (record { c = c.entry.now; n = n }) l) }
+pub fn test_valid(net: Network, l: u32) -> Tested
+    ensures { result ≡ tested (test_rule net.entry.script.now (record { c = net.entry.words.now; n = net.entry.n }) l) }
 {
-    match conforms_valid(w, c, n, l) {
+    match conforms_valid(net, l) {
         Ok(yes) => Tested { code: 0, yes },
         Err(e) => refuse(e.number()),
     }
@@ -49,7 +48,12 @@ pub fn step_conforming_valid(
     requires { valid w.now (record { c = c.now; n = n }) ≡ true }
     ensures { StepsAs w.now (record { c = c.entry.now; n = n }) (conforming_rule w.now (record { c = c.entry.now; n = n }) l (length records.old)) result c.exit.now records.old records.new }
 {
-    match conforms_valid(w, c, n, l) {
+    let net = Network {
+        script: w,
+        words: &*c,
+        n,
+    };
+    match conforms_valid(net, l) {
         Err(e) => step::refuse(e.number(), n),
         Ok(false) => step::refuse(Refusal::NotConforming.number(), n),
         Ok(true) => step::step_valid(w, c, n, l, records),

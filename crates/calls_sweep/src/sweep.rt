@@ -11,6 +11,7 @@ use calls_fire::rights::right_in;
 use calls_must::forced;
 use calls_wait::wait_all;
 use table::comps::{comp_at, put_comp};
+use table::network::Network;
 use table::{Comp, Head, Script, Words, words};
 
 // The place of a channel in the table of those who wait. 64 for none, and no Option: the table has a spare place there, so that the sweep reads and writes it
@@ -125,7 +126,12 @@ pub fn sweep(w: &Script, c: &mut Words, n: usize, l: u32, acts: &mut [[u32; 3]])
 {
     let mut heads = [None; 65];
     let mut nexts = [None; 256];
-    wait_all(w, c, n, l, &mut heads, &mut nexts);
+    let net = Network {
+        script: w,
+        words: &*c,
+        n,
+    };
+    wait_all(net, l, &mut heads, &mut nexts);
     let mut count = 0;
     let mut sent = 0;
     let mut sum = 0;

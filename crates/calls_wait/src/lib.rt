@@ -7,14 +7,14 @@
 //   proofs/Dealing   the chains are those of who waits
 #![tactic(auto)]
 
-ghost use Rattle.std.specs.Prelude.{◌≡◌, true, None, ◌≤◌, ◌<◌, length, take, replicate};
+ghost use Rattle.std.specs.Prelude.{◌≡◌, None, ◌≤◌, ◌<◌, length, take, replicate};
 ghost use Rattle.table.specs.Meaning.{comps_of};
-ghost use Rattle.table.specs.Valid.{valid};
 ghost use Rattle.calls_wait.specs.Waits.{key_of, Apart, Gathered, Dealt, Queued};
 
 use calls_must::forced;
 use table::comps::comp_at;
-use table::{Comp, Script, Words, words};
+use table::network::Network;
+use table::{Comp, words};
 use terms::Timer;
 
 // A number for the component at a position, less where it is to be served first: by its timer, then by the position.
@@ -27,21 +27,14 @@ fn key_of(i: usize, x: Comp) -> u32
 }
 
 // For each component that hears a channel, the channel goes into ears at its position, and a number for it into keys, in the order of positions. How many these are.
-fn gather(
-    w: &Script,
-    c: &Words,
-    n: usize,
-    l: u32,
-    ears: &mut [u32; 256],
-    keys: &mut [u32; 256],
-) -> usize
-    requires { (valid w.now (record { c = c.now; n = n }) ≡ true) × (length ears.old ≡ 256) × (length keys.old ≡ 256) }
-    ensures { Gathered w.now l (comps_of (record { c = c.entry.now; n = n })) ears.new keys.new result }
+fn gather(net: Network, l: u32, ears: &mut [u32; 256], keys: &mut [u32; 256]) -> usize
+    requires { (length ears.old ≡ 256) × (length keys.old ≡ 256) }
+    ensures { Gathered net.entry.script.now l (comps_of (record { c = net.entry.words.now; n = net.entry.n })) ears.new keys.new result }
 {
     let mut m = 0;
-    for i in 0..n {
-        let x = comp_at(c, i);
-        if let Some(h) = forced::hears_at(w, l, x) {
+    for i in 0..net.n {
+        let x = comp_at(net.words, i);
+        if let Some(h) = forced::hears_at(net.script, l, x) {
             ears[i] = h;
             keys[m] = key_of(i, x);
             m += 1;
@@ -69,20 +62,13 @@ fn deal(
 }
 
 // For each channel the position that is served first, and from each position the next.
-pub fn wait_all(
-    w: &Script,
-    c: &Words,
-    n: usize,
-    l: u32,
-    heads: &mut [Option<u8>; 65],
-    nexts: &mut [Option<u8>; 256],
-)
-    requires { (valid w.now (record { c = c.now; n = n }) ≡ true) × (length nexts.old ≡ 256) × (heads.old ≡ replicate 65 None) }
-    ensures { Queued w.now l (comps_of (record { c = c.entry.now; n = n })) heads.new nexts.new }
+pub fn wait_all(net: Network, l: u32, heads: &mut [Option<u8>; 65], nexts: &mut [Option<u8>; 256])
+    requires { (length nexts.old ≡ 256) × (heads.old ≡ replicate 65 None) }
+    ensures { Queued net.entry.script.now l (comps_of (record { c = net.entry.words.now; n = net.entry.n })) heads.new nexts.new }
 {
     let mut ears = [0u32; 256];
     let mut keys = [0u32; 256];
-    let m = gather(w, c, n, l, &mut ears, &mut keys);
+    let m = gather(net, l, &mut ears, &mut keys);
     ranks::sort(&mut keys, m);
     deal(&keys[..m], &ears, heads, nexts);
 }

@@ -1,19 +1,15 @@
 -- `conforms` meets its contract: question 17, then the test on a valid table.
-use mathlib.Core.Path.{sym, ◌∙◌}
 use Rattle.calls_profile.specs.Profiled.{test_answer}
 use Rattle.calls.proofs.conforms.Goals as goal
 
-pub test_valid-requires : goal.test_valid-requires
-test_valid-requires c = sym c.is_valid.ensures ∙ c.if-is_valid.true
-
-pub returns-then-is_valid : goal.returns-then-is_valid
+pub returns-in-Some : goal.returns-in-Some
 unfolding test_answer
-returns-then-is_valid c =
-    let v = sym c.is_valid.ensures ∙ c.if-is_valid.true in
-    rw v c.test_valid.ensures
+returns-in-Some c =
+    let e = rw c.in-Some.is at c.network.ensures in
+    rw (← e.0, ← e.1, ← e.2, c.in-Some.net.passes) c.test_valid.ensures
 
-pub returns : goal.returns
+pub returns-in-None : goal.returns-in-None
 unfolding test_answer
-returns c =
-    let v = sym c.is_valid.ensures ∙ c.if-is_valid.false in
+returns-in-None c =
+    let v = rw c.in-None.is at c.network.ensures in
     rw v (rw c.number.ensures at c.refuse.ensures)

@@ -1,19 +1,15 @@
 -- `forced_report` meets its contract: question 17, then the report of a valid table.
-use mathlib.Core.Path.{sym, ◌∙◌}
 use Rattle.calls_forced.specs.Report.{forced_report}
 use Rattle.calls.proofs.forced_report.Goals as goal
 
-pub forced_valid-requires : goal.forced_valid-requires
-forced_valid-requires c = sym c.is_valid.ensures ∙ c.if-is_valid.true
-
-pub returns-then-is_valid : goal.returns-then-is_valid
+pub returns-in-Some : goal.returns-in-Some
 unfolding forced_report
-returns-then-is_valid c =
-    let v = sym c.is_valid.ensures ∙ c.if-is_valid.true in
-    rw v c.forced_valid.ensures
+returns-in-Some c =
+    let e = rw c.in-Some.is at c.network.ensures in
+    rw (← e.0, ← e.1, ← e.2, c.in-Some.net.passes) c.forced_valid.ensures
 
-pub returns : goal.returns
+pub returns-in-None : goal.returns-in-None
 unfolding forced_report
-returns c =
-    let v = sym c.is_valid.ensures ∙ c.if-is_valid.false in
+returns-in-None c =
+    let v = rw c.in-None.is at c.network.ensures in
     rw (v, c.number.ensures)

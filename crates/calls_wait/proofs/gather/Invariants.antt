@@ -6,4 +6,4 @@ use Rattle.calls_wait.specs.Waits.{Gathered}
 use Rattle.calls_wait.proofs.gather.Given as goal
 
 abbrev pub invariant-loop-i : goal.invariant-loop-i
-invariant-loop-i l = (l.m ≤ l.i) × Gathered l.w l.l (take l.i (comps_of (record { c = l.c; n = l.n }))) l.ears l.keys l.m
+invariant-loop-i l = (l.m ≤ l.i) × Gathered l.net.script.now l.l (take l.i (comps_of (record { c = l.net.words.now; n = l.net.n }))) l.ears l.keys l.m

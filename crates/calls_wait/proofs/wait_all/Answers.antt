@@ -14,36 +14,36 @@ use Rattle.calls_wait.proofs.wait_all.Goals as goal
 pub sort-requires : goal.sort-requires
 sort-requires c =
     let a = c.args in
-    let st : State = record { c = a.c.now; n = a.n } in
-    omega (arith, c.gather-m.ensures.few, comps-length st, few-comps a.w.now st c.requires.0)
+    let st : State = record { c = a.net.words.now; n = a.net.n } in
+    omega (arith, c.gather-m.ensures.few, comps-length st, few-comps a.net.script.now st a.net.passes)
 
 pub slice_bounds-keys-end : goal.slice_bounds-keys-end
 slice_bounds-keys-end c =
     let a = c.args in
-    let st : State = record { c = a.c.now; n = a.n } in
-    omega (arith, c.gather-m.ensures.few, comps-length st, few-comps a.w.now st c.requires.0)
+    let st : State = record { c = a.net.words.now; n = a.net.n } in
+    omega (arith, c.gather-m.ensures.few, comps-length st, few-comps a.net.script.now st a.net.passes)
 
 pub slice_bounds-deal-end : goal.slice_bounds-deal-end
 slice_bounds-deal-end c =
     let a = c.args in
-    let st : State = record { c = a.c.now; n = a.n } in
-    sym (length-take-le c.gather-m.result c.sort.new.a (omega (arith, c.gather-m.ensures.few, comps-length st, few-comps a.w.now st c.requires.0)))
+    let st : State = record { c = a.net.words.now; n = a.net.n } in
+    sym (length-take-le c.gather-m.result c.sort.new.a (omega (arith, c.gather-m.ensures.few, comps-length st, few-comps a.net.script.now st a.net.passes)))
 
 pub deal-requires : goal.deal-requires
 deal-requires c =
     let a = c.args in
     let p = c.requires in
-    let st : State = record { c = a.c.now; n = a.n } in
+    let st : State = record { c = a.net.words.now; n = a.net.n } in
     let g = c.gather-m.ensures in
-    let n : length (comps_of st) ≤ 256 = omega (arith, comps-length st, few-comps a.w.now st p.0) in
-    let o = sorted_apart a.w.now a.l (comps_of st) _ _ _ _ n g c.sort.ensures in
-    (p.1, p.2, o.2)
+    let n : length (comps_of st) ≤ 256 = omega (arith, comps-length st, few-comps a.net.script.now st a.net.passes) in
+    let o = sorted_apart a.net.script.now a.l (comps_of st) _ _ _ _ n g c.sort.ensures in
+    (p.0, p.1, o.2)
 
 pub returns : goal.returns
 returns c =
     let a = c.args in
     let p = c.requires in
-    let st : State = record { c = a.c.now; n = a.n } in
+    let st : State = record { c = a.net.words.now; n = a.net.n } in
     let g = c.gather-m.ensures in
-    let n : length (comps_of st) ≤ 256 = omega (arith, comps-length st, few-comps a.w.now st p.0) in
-    sorted-queued a.w.now a.l (comps_of st) _ _ _ _ n g c.sort.ensures _ _ c.deal.ensures
+    let n : length (comps_of st) ≤ 256 = omega (arith, comps-length st, few-comps a.net.script.now st a.net.passes) in
+    sorted-queued a.net.script.now a.l (comps_of st) _ _ _ _ n g c.sort.ensures _ _ c.deal.ensures

@@ -8,6 +8,7 @@ use Rattle.std.specs.Prelude.{Some, None, true, false}
 use Rattle.table.specs.declared.State.{State}
 use Rattle.table.specs.Meaning.{comps_of, no_comp}
 use Rattle.table.proofs.InUse.{comps-length, in_use}
+use Rattle.calls_act.proofs.Positions.{few-comps}
 use Rattle.calls_forced.specs.Marked.{Marked}
 use Rattle.calls_forced.proofs.Marking.{marked-none, marked-one, marked-past}
 use Rattle.calls_forced.proofs.marks.marked.Goals as goal
@@ -16,14 +17,17 @@ use Rattle.calls_forced.proofs.marks.marked.Goals.{in-Some, in_default}
 pub loop-j-init : goal.loop-j-init
 loop-j-init g c = (length-replicate g.row.N false, λ f p. marked-none g.row.N f)
 
+pub comp_at-requires : goal.comp_at-requires
+comp_at-requires g c = omega (arith, few-comps _ _ c.args.net.passes)
+
 pub loop-j-preserved : goal.loop-j-preserved
 loop-j-preserved g c =
     let a = c.args in
-    let st : State = record { c = a.c.now; n = a.n } in
+    let st : State = record { c = a.net.words.now; n = a.net.n } in
     let i = c.loop-j.invariant in
     let j = c.loop-j.j in
     let ys = c.loop-j.out in
-    let h : j < a.n = c.loop-j-test.true in
+    let h : j < a.net.n = c.loop-j-test.true in
     let b : j < length (comps_of st) = omega (arith, comps-length st) in
     elim c.match-place.branch [
       | in-Some t ↦
@@ -37,5 +41,5 @@ loop-j-preserved g c =
 pub returns : goal.returns
 returns g c =
     let a = c.args in
-    let st : State = record { c = a.c.now; n = a.n } in
+    let st : State = record { c = a.net.words.now; n = a.net.n } in
     λ f p. subst (λ cs. Marked g.row.N f cs c.loop-j.out) (take_all c.loop-j.j (comps_of st) (omega (arith, comps-length st))) (c.loop-j.invariant.1 f p)

@@ -10,4 +10,4 @@ use Rattle.calls_forced.proofs.marks.marked.Given as goal
 
 abbrev pub invariant-loop-j : goal.invariant-loop-j
 invariant-loop-j g l =
-    (length l.out ≡ g.row.N) × ((f : Comp → Option ℕ) → ((j : ℕ) (r : Option ℕ) → j < l.n → goal.F-post g l.place (comp_in l.c j) r → r ≡ f (comp_in l.c j)) → Marked g.row.N f (take l.j (comps_of (record { c = l.c; n = l.n }))) l.out)
+    (length l.out ≡ g.row.N) × ((f : Comp → Option ℕ) → ((j : ℕ) (r : Option ℕ) → j < l.net.n → goal.F-post g l.place (comp_in l.net.words.now j) r → r ≡ f (comp_in l.net.words.now j)) → Marked g.row.N f (take l.j (comps_of (record { c = l.net.words.now; n = l.net.n }))) l.out)

@@ -11,12 +11,12 @@ pub returns-then-word-l : goal.returns-then-word-l
 unfolding test_rule
 returns-then-word-l c =
     let a = c.args in
-    let h : locs_in a.w.now ≤ a.l = omega (arith, c.word.ensures) in
+    let h : locs_in a.net.script.now ≤ a.l = omega (arith, c.word.ensures) in
     rw (le-ltb _ _ h)
 
 pub returns : goal.returns
 unfolding test_rule conforms_in
 returns c =
     let a = c.args in
-    let h : a.l < locs_in a.w.now = omega (arith, c.word.ensures) in
-    rw (lt-ltb _ _ h, conforms-means a.w.now (record { c = a.c.now; n = a.n }) a.l c.requires h, ← c.conforms_at.ensures)
+    let h : a.l < locs_in a.net.script.now = omega (arith, c.word.ensures) in
+    rw (lt-ltb _ _ h, conforms-means a.net.script.now (record { c = a.net.words.now; n = a.net.n }) a.l c.args.net.passes h, ← c.conforms_at.ensures)

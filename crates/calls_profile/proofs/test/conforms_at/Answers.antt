@@ -19,13 +19,13 @@ use Rattle.calls_profile.proofs.test.conforms_at.Goals.{in-Place+else-taken-k, i
 
 pub loop-j-init : goal.loop-j-init
 unfolding apart
-loop-j-init c = let a = c.args in (refl, marked-none no_role (λ c. Some (role_of a.w.now a.l c)), refl)
+loop-j-init c = let a = c.args in (refl, marked-none no_role (λ c. Some (role_of a.net.script.now a.l c)), refl)
 
 pub comp_at-x-requires : goal.comp_at-x-requires
-comp_at-x-requires c = omega (arith, few-comps _ _ c.requires)
+comp_at-x-requires c = omega (arith, few-comps _ _ c.args.net.passes)
 
 pub role_of-requires : goal.role_of-requires
-role_of-requires c = (valid-script _ _ c.requires, rw c.comp_at-x.ensures (comp-held _ _ c.requires c.loop-j.j c.loop-j-test.true))
+role_of-requires c = (valid-script _ _ c.args.net.passes, rw c.comp_at-x.ensures (comp-held _ _ c.args.net.passes c.loop-j.j c.loop-j-test.true))
 
 pub bounds-taken-k : goal.bounds-taken-k
 bounds-taken-k c = let r = rw c.in-Place.is at c.role_of.ensures in omega (arith, r)
@@ -33,13 +33,13 @@ bounds-taken-k c = let r = rw c.in-Place.is at c.role_of.ensures in omega (arith
 pub returns-then-taken-k : goal.returns-then-taken-k
 returns-then-taken-k c =
     let a = c.args in
-    let st : State = record { c = a.c.now; n = a.n } in
+    let st : State = record { c = a.net.words.now; n = a.net.n } in
     let i = c.loop-j.invariant in
     let j = c.loop-j.j in
     let ys = c.loop-j.taken in
-    let h : j < a.n = c.loop-j-test.true in
+    let h : j < a.net.n = c.loop-j-test.true in
     let b : j < length (comps_of st) = omega (arith, comps-length st) in
-    let f = role_of a.w.now a.l in
+    let f = role_of a.net.script.now a.l in
     let x = ap f (in_use st no_comp j h ∙ sym c.comp_at-x.ensures) in
     let e = next-apart f (comps_of st) ys j no_comp b i.1 i.2 in
     let r = rw c.in-Place.is at c.role_of.ensures in
@@ -48,13 +48,13 @@ returns-then-taken-k c =
 pub returns-in-Late : goal.returns-in-Late
 returns-in-Late c =
     let a = c.args in
-    let st : State = record { c = a.c.now; n = a.n } in
+    let st : State = record { c = a.net.words.now; n = a.net.n } in
     let i = c.loop-j.invariant in
     let j = c.loop-j.j in
     let ys = c.loop-j.taken in
-    let h : j < a.n = c.loop-j-test.true in
+    let h : j < a.net.n = c.loop-j-test.true in
     let b : j < length (comps_of st) = omega (arith, comps-length st) in
-    let f = role_of a.w.now a.l in
+    let f = role_of a.net.script.now a.l in
     let x = ap f (in_use st no_comp j h ∙ sym c.comp_at-x.ensures) in
     let e = next-apart f (comps_of st) ys j no_comp b i.1 i.2 in
     let r = rw c.in-Late.is at c.role_of.ensures in
@@ -63,13 +63,13 @@ returns-in-Late c =
 pub loop-j-preserved : goal.loop-j-preserved
 loop-j-preserved c =
     let a = c.args in
-    let st : State = record { c = a.c.now; n = a.n } in
+    let st : State = record { c = a.net.words.now; n = a.net.n } in
     let i = c.loop-j.invariant in
     let j = c.loop-j.j in
     let ys = c.loop-j.taken in
-    let h : j < a.n = c.loop-j-test.true in
+    let h : j < a.net.n = c.loop-j-test.true in
     let b : j < length (comps_of st) = omega (arith, comps-length st) in
-    let f = role_of a.w.now a.l in
+    let f = role_of a.net.script.now a.l in
     let x = ap f (in_use st no_comp j h ∙ sym c.comp_at-x.ensures) in
     let e = next-apart f (comps_of st) ys j no_comp b i.1 i.2 in
     elim c.match-role_of.branch [
@@ -84,5 +84,5 @@ loop-j-preserved c =
 pub returns : goal.returns
 returns c =
     let a = c.args in
-    let st : State = record { c = a.c.now; n = a.n } in
-    sym (subst (λ cs. apart (role_of a.w.now a.l) cs ≡ true) (take_all c.loop-j.j (comps_of st) (omega (arith, comps-length st))) c.loop-j.invariant.2)
+    let st : State = record { c = a.net.words.now; n = a.net.n } in
+    sym (subst (λ cs. apart (role_of a.net.script.now a.l) cs ≡ true) (take_all c.loop-j.j (comps_of st) (omega (arith, comps-length st))) c.loop-j.invariant.2)

@@ -10,4 +10,4 @@ use Rattle.calls_profile.proofs.test.conforms_at.Given as goal
 
 abbrev pub invariant-loop-j : goal.invariant-loop-j
 invariant-loop-j l =
-    (length l.taken ≡ no_role) × Marked no_role (λ c. Some (role_of l.w l.l c)) (take l.j (comps_of (record { c = l.c; n = l.n }))) l.taken × (apart (role_of l.w l.l) (take l.j (comps_of (record { c = l.c; n = l.n }))) ≡ true)
+    (length l.taken ≡ no_role) × Marked no_role (λ c. Some (role_of l.net.script.now l.l c)) (take l.j (comps_of (record { c = l.net.words.now; n = l.net.n }))) l.taken × (apart (role_of l.net.script.now l.l) (take l.j (comps_of (record { c = l.net.words.now; n = l.net.n }))) ≡ true)
