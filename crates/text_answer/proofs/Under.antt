@@ -30,6 +30,7 @@ use Rattle.text_answer.specs.declared.Row.{Row}
 use Rattle.text_answer.specs.declared.Settings.{Settings}
 use Rattle.text_answer.specs.declared.Reading.{Reading}
 use Rattle.text_answer.specs.Answer.{no_row, given, flag, flags, row_words, rights_words, under, locations_in, channels_in, Took}
+use Rattle.text_answer.proofs.Kept.{Front}
 use Rattle.text_answer.proofs.Named.{Agree, by_name-agree}
 
 -- ── one right ──
@@ -238,5 +239,18 @@ module _ (g : Settings) (w : List ℕ) (size : length w ≡ script_words) (k : L
           ap (word (set back edition_at (word w edition_at))) i ∙ get_or-set_same back edition_at (word w edition_at) 0 (omega (arith, back_long)) ∙ ap (word w) (sym i)
       go o h false e = let n = eqb-false o edition_at e in set_out back edition_at o (word w edition_at) n ∙ back-word o h n
 
-  pub given_back : {u v x y : List ℕ} {b : ℕ} → u ≡ under g w → v ≡ u → x ≡ sets v rights_at k → b ≡ word w edition_at → y ≡ set x edition_at b → y ≡ w
-  given_back p q r s t = t ∙ rw (r, q, p, s) again
+  pub copied_back : {u v x y : List ℕ} {b : ℕ} → u ≡ under g w → v ≡ u → x ≡ sets v rights_at k → b ≡ word w edition_at → y ≡ set x edition_at b → y ≡ w
+  copied_back p q r s t = t ∙ rw (r, q, p, s) again
+
+-- the same of rights that were kept aside in front of some words
+module _ (g : Settings) (w : List ℕ) (size : length w ≡ script_words) {k₀ k : List ℕ} (kept : Front (64 * rights_size) (λ o. word w (rights_at + o)) k₀ k) (room : 64 * rights_size ≤ length k) where
+  front-taken : take (64 * rights_size) k ≡ take (64 * rights_size) (drop rights_at w)
+  front-taken =
+      let a = length-take-le (64 * rights_size) k room in
+      let b = length-take-le (64 * rights_size) (drop rights_at w) (omega (arith, length-drop rights_at w, size)) in
+      ext_get_or 0 (take (64 * rights_size) k) (take (64 * rights_size) (drop rights_at w)) (a ∙ sym b) (λ o h.
+      let j : o < 64 * rights_size = omega (arith, a) in
+      get_or-take (64 * rights_size) k o 0 j ∙ kept.front o j ∙ sym (get_or-take (64 * rights_size) (drop rights_at w) o 0 j ∙ get_or-drop rights_at w o 0))
+
+  pub given_back : {u v x y : List ℕ} {b : ℕ} → u ≡ under g w → v ≡ u → x ≡ sets v rights_at (take (64 * rights_size) k) → b ≡ word w edition_at → y ≡ set x edition_at b → y ≡ w
+  given_back p q r s t = copied_back g w size (take (64 * rights_size) k) front-taken p q r s t

@@ -5,8 +5,8 @@
 // proofs/Answering  the answer from the scan, the script and the questions asked of it
 #![tactic(auto)]
 
-ghost use Rattle.std.specs.Prelude.{◌≡◌, ◌+◌, ◌*◌, ◌≤◌};
-ghost use Rattle.table.specs.Words.{row_size, parts_at, script_words};
+ghost use Rattle.std.specs.Prelude.{◌≡◌, ◌+◌, ◌*◌, ◌^◌, ◌≤◌, ◌<◌};
+ghost use Rattle.table.specs.Words.{row_size, parts_at};
 ghost use Rattle.text_scan.specs.Answers.{scan_of};
 ghost use Rattle.text_scan.specs.Limits.{limits};
 ghost use Rattle.text_enter.specs.Entered.{Entered, Tried};
@@ -40,7 +40,7 @@ pub fn enter_kept<const N: usize>(
     w: &mut Script,
     out: &mut Places,
 ) -> Result<usize, Refusal>
-    requires { (c ≡ scan_of text.now) × (limits c ≡ 0) × (parts_at + c.parts * row_size ≤ N) × (N ≤ script_words) }
+    requires { (c ≡ scan_of text.now) × (limits c ≡ 0) × (parts_at + c.parts * row_size ≤ N) × (N < 2 ^ 61) }
     ensures { Tried text.now w.old w.new out.new result }
 {
     let mut kept = [0u32; N];

@@ -7,7 +7,7 @@ use mathlib.Core.Path.{◌≡◌, refl, sym, ap}
 use Rattle.terms.specs.Refusals.{code_of}
 use Rattle.table.proofs.ValidBool.{failed, passed}
 use Rattle.text_build.proofs.Stores.{put_mid-sets}
-use Rattle.text_answer.proofs.Under.{given_back}
+use Rattle.text_answer.proofs.Under.{copied_back}
 use Rattle.text_enter.proofs.Answering.{way-1, answer-no, edition-no, edition-yes}
 use Rattle.text_read.proofs.read.Goals as goal
 
@@ -29,5 +29,5 @@ returns-in-Err-try_enter c =
     let kept = c.copy_from_slice.ensures.after in
     let long : length c.copy_from_slice.new.self ≡ 64 * rights_size = omega (arith, c.copy_from_slice.ensures.len, length-replicate {A = ℕ} (64 * rights_size) 0) in
     let put = put_mid-sets _ _ _ _ c.copy_from_slice.new.self c.copy_from_slice-in-Err-try_enter.ensures.after (sym long) (omega (arith, long, c.try_enter.array_long)) in
-    let back = given_back _ _ c.told-w _ kept c.put_settings.ensures (c.try_enter.ensures.back _ m) put refl c.put_edition.ensures in
+    let back = copied_back _ _ c.told-w _ kept c.put_settings.ensures (c.try_enter.ensures.back _ m) put refl c.put_edition.ensures in
     edition-yes _ _ (passed c.if-not-is_edition.false c.is_edition.ensures) _ _ _ _ (answer-no c.try_enter.ensures.answer _ m _ _ _ _ _ c.refuse-in-Err-try_enter.ensures back)
