@@ -167,7 +167,8 @@ fn link(w: &Script, i: usize, k: usize) -> usize
     wide(field(w, i, k))
 }
 
-// The values in the P of the input at i: the slot of its name holds none.
+// The values in the P of the input at i: the slot of its name holds none. (Not within the recursion below, whose levels it would make larger.)
+#[inline(never)]
 fn hidden<'a>(w: &View<'a>, i: usize) -> View<'a>
     requires { i < 4096 }
     ensures { (result.table.now ≡ w.now.table.now) × (result.vals ≡ set w.now.vals (field w.now.table.now i value_field) 64) }
