@@ -33,7 +33,9 @@ pub fn enter(text: &[u8], c: Scanned, w: &mut Script, out: &mut Places) -> Resul
     Ok(n)
 }
 
-// The same, with the words that are written kept aside in N others: a refusal puts them back.
+// The same, with the words that are written kept aside in N others: a refusal puts them back. (Not within its caller, which would need the room for these
+// words on its stack while a text is scanned, whose nesting needs the most.)
+#[inline(never)]
 pub fn enter_kept<const N: usize>(
     text: &[u8],
     c: Scanned,
