@@ -76,14 +76,16 @@ pub fn channels(w: &Script, c: &Words, n: usize) -> Counted
     Counted::from(count_at(w, c, n, 2))
 }
 
-// The bytes of s to the front of the lent bytes, or 15.
+// The bytes of s to the front of the lent bytes, or 15. (Not by `copy_from_slice`: for all that the compiler knows the two overlap, and the library would want
+// `memmove` from outside.)
 fn give(s: &[u8], buf: &mut [u8]) -> Result<usize, Refusal>
     ensures { Answers (holding s.now (length buf.old)) buf.old (written result) buf.new }
 {
     if buf.len() < s.len() {
         return Err(Refusal::BufferShort);
     }
-    buf[..s.len()].copy_from_slice(s);
+    let mut page = Page::new(buf);
+    page.put_all(s);
     Ok(s.len())
 }
 

@@ -44,9 +44,9 @@ use Rattle.run_print.specs.Print.{shown, mean_text, mean_line, ended, ending, fo
 use Rattle.run_print.specs.Rounds.{remaining}
 use Rattle.run_print.proofs.Playing.{locs-some, all-rounds, remaining-next, remaining-over, locs-length, loc-at, first_read, whole-number, whole-good, not-refused, shown-refused, shown-text, ending-kept, ending-short, ending-past}
 use Rattle.run_print.proofs.Means.{mean-short}
-use Rattle.run_pieces.specs.Pieces.{followed_pieces, ended_pieces, playing_pieces, pieces_of, pieces, pieces_left, first_by, first_of, ProgressOk, PieceIs}
+use Rattle.run_pieces.specs.Pieces.{followed_pieces, ended_pieces, playing_pieces, pieces_of, pieces, left_at, pieces_left, first_by, first_of, StageOk, ProgressOk, PieceAt}
+use Rattle.run_pieces.specs.declared.Stage.TheVariants.{Refused, Step, Network, Mean, Over}
 use Rattle.run_pieces.specs.declared.Progress.{Progress}
-use Rattle.run_pieces.specs.declared.Progress.TheVariants.{Refused, Step, Network, Mean, Over}
 
 -- ── joined, the pieces are the printout ──
 playing-joined : (d : Context) (ls : List Name) (k : Counted) → playing d ls k ≡ flatten (playing_pieces d ls k)
@@ -98,25 +98,25 @@ shown-low d cs = go (every unmarked cs) (leb (length (write (record { defs = d.d
 -- ── a piece of each kind: its text stands at the front of the buffer, and the bytes past it are as they were ──
 module _ (w : List ℕ) where
   -- a refusal
-  pub piece-refused : {d e : List ℕ} {a : ℕ} (n : ℕ) → n < 16 → length d ≡ 65_536 → Wrote d 0 (refused_text n) e a → PieceIs w (Refused n) d e (record { len = a; next = Over })
-  piece-refused {d} {e} {a} n m k b =
+  pub piece-refused : {d e : List ℕ} {a : ℕ} (n : ℕ) (st : State) → n < 16 → length d ≡ 65_536 → Wrote d 0 (refused_text n) e a → PieceAt w (Refused n) st d e (record { len = a; next = record { stage = Over false; state = st } })
+  piece-refused {d} {e} {a} n st m k b =
       let h : a ≤ 65_536 = omega (arith, refused-ends n (omega arith) b) in
       let f = fronted b h k in
-      record { few = h; first = ap (λ y. y ∷ []) (sym f.0); past = f.1; ok = tt }
+      record { few = h; first = ap (λ y. y ∷ []) (sym f.0); past = f.1; ok = λ z. absurd cc }
 
   module _ (st : State) (good : valid w st ≡ true) where
     -- the mean
-    pub piece-mean : {d e : List ℕ} {a : ℕ} → length d ≡ 65_536 → Wrote d 0 (mean_text (mean_of (total_in st.c) (count_in st.c))) e a → PieceIs w (Mean st) d e (record { len = a; next = Over })
+    pub piece-mean : {d e : List ℕ} {a : ℕ} → length d ≡ 65_536 → Wrote d 0 (mean_text (mean_of (total_in st.c) (count_in st.c))) e a → PieceAt w Mean st d e (record { len = a; next = record { stage = Over true; state = st } })
     unfolding tally_of
     piece-mean {d} {e} {a} k b =
         let h : a ≤ 65_536 = omega (arith, ends 8 b (mean-short (total_in st.c) (count_in st.c) (valid-ledger w st good).within)) in
         let f = fronted b h k in
-        record { few = h; first = ap (λ y. y ∷ []) (sym f.0); past = f.1; ok = tt }
+        record { few = h; first = ap (λ y. y ∷ []) (sym f.0); past = f.1; ok = λ z. good }
 
     -- the network
     module _ {t t' : List ℕ} (long : length t ≡ 65_536) (r : Written) (x : Answers (write_answer w st (length t)) t r t') where
       -- refused
-      pub piece-unwritten : {e : List ℕ} {a : ℕ} → (r.code ≡ 0 → ⊥) → length t' ≡ 65_536 → Wrote t' 0 (refused_text r.code) e a → PieceIs w (Network st) t e (record { len = a; next = Over })
+      pub piece-unwritten : {e : List ℕ} {a : ℕ} → (r.code ≡ 0 → ⊥) → length t' ≡ 65_536 → Wrote t' 0 (refused_text r.code) e a → PieceAt w Network st t e (record { len = a; next = record { stage = Over true; state = st } })
       piece-unwritten {e} {a} n k b =
           let m : r.code < 27 = subst Low (shown-refused w st good long r x n) (shown-low (context_of w) (net_of w st)) in
           let h : a ≤ 65_536 = omega (arith, refused-ends r.code m b) in
@@ -125,11 +125,11 @@ module _ (w : List ℕ) where
             few = h;
             first = ap (λ y. ended_pieces y (tally_of st)) (shown-refused w st good long r x n) ∙ ap (λ y. y ∷ []) (sym f.0);
             past = f.1 ∙ ap (drop a) (ending-kept w st good long r x n);
-            ok = tt;
+            ok = λ z. good;
           }
 
       -- written: the mean is left
-      pub piece-written : r.code ≡ 0 → PieceIs w (Network st) t t' (record { len = r.len; next = Mean st })
+      pub piece-written : r.code ≡ 0 → PieceAt w Network st t t' (record { len = r.len; next = record { stage = Mean; state = st } })
       piece-written z = record {
         few = ending-short w st good long r x z;
         first = ap (λ y. ended_pieces y (tally_of st)) (shown-text w st good long r x z);
@@ -148,7 +148,7 @@ module _ (w : List ℕ) where
       abbrev Now : Answer Turn
       Now = turn_of (context_of w) (loc_name w l) (counted_of w st)
 
-      step-now : pieces_left w (Step round l st) ≡ followed_pieces Now On
+      step-now : left_at w (Step round l) st ≡ followed_pieces Now On
       unfolding playing_pieces
       step-now =
           ap (λ ls. playing_pieces (context_of w) ls (counted_of w st)) (ap (λ m. remaining m l (locs_of w)) rounds-left ∙ remaining-next (3 - round) l (locs_of w) (omega (arith, locs-length w, inl)) ∙ ap (λ x. x ∷ remaining (suc (3 - round)) (l + 1) (locs_of w)) (loc-at w l inl) ∙ ap (λ m. loc_name w l ∷ remaining m (l + 1) (locs_of w)) (sym rounds-left))
@@ -158,18 +158,18 @@ module _ (w : List ℕ) where
         few r t = omega (arith, start.1, turn-ends w st l good p q r t)
 
         -- refused
-        pub piece-stopped : TurnIs w Now p q None → PieceIs w (Step round l st) d q.buf.now (record { len = q.at; next = Over })
+        pub piece-stopped : TurnIs w Now p q None → PieceAt w (Step round l) st d q.buf.now (record { len = q.at; next = record { stage = Over true; state = st } })
         piece-stopped t = go Now step-now t (few None t)
           where
-            go : (y : Answer Turn) → pieces_left w (Step round l st) ≡ followed_pieces y On → TurnIs w y p q None → q.at ≤ 65_536 → PieceIs w (Step round l st) d q.buf.now (record { len = q.at; next = Over })
-            go (refused m) e s h = let f = fronted (from_start start s) h k in record { few = h; first = e ∙ ap (λ y. y ∷ []) (sym f.0); past = f.1; ok = tt }
+            go : (y : Answer Turn) → left_at w (Step round l) st ≡ followed_pieces y On → TurnIs w y p q None → q.at ≤ 65_536 → PieceAt w (Step round l) st d q.buf.now (record { len = q.at; next = record { stage = Over true; state = st } })
+            go (refused m) e s h = let f = fronted (from_start start s) h k in record { few = h; first = e ∙ ap (λ y. y ∷ []) (sym f.0); past = f.1; ok = λ z. good }
             go (accepted u) e s h = elim s [ ]
 
         -- done
-        pub piece-on : (st' : State) → TurnIs w Now p q (Some st') → (x : Progress) → ProgressOk w x → pieces_left w x ≡ On (counted_of w st') → PieceIs w (Step round l st) d q.buf.now (record { len = q.at; next = x })
+        pub piece-on : (st' : State) → TurnIs w Now p q (Some st') → (x : Progress) → ProgressOk w x → pieces_left w x ≡ On (counted_of w st') → PieceAt w (Step round l) st d q.buf.now (record { len = q.at; next = x })
         piece-on st' t x ok left = go Now step-now t (few (Some st') t)
           where
-            go : (y : Answer Turn) → pieces_left w (Step round l st) ≡ followed_pieces y On → TurnIs w y p q (Some st') → q.at ≤ 65_536 → PieceIs w (Step round l st) d q.buf.now (record { len = q.at; next = x })
+            go : (y : Answer Turn) → left_at w (Step round l) st ≡ followed_pieces y On → TurnIs w y p q (Some st') → q.at ≤ 65_536 → PieceAt w (Step round l) st d q.buf.now (record { len = q.at; next = x })
             go (refused m) e s h = elim s [ ]
             go (accepted u) e s h =
                 let f = fronted (from_start start s.wrote) h k in
@@ -193,7 +193,7 @@ module _ (w : List ℕ) where
       let m : 4 - round ≡ suc (4 - (round + 1)) = omega arith in
       ap (λ n. remaining n l (locs_of w)) m ∙ remaining-over (4 - (round + 1)) l (locs_of w) (omega (arith, locs-length w))
 
-  pub steps-over : (round l : ℕ) (st : State) → round ≡ 3 → locs_in w ≤ l → pieces_left w (Network st) ≡ playing_pieces (context_of w) (remaining (4 - round) l (locs_of w)) (counted_of w st)
+  pub steps-over : (round l : ℕ) (st : State) → round ≡ 3 → locs_in w ≤ l → left_at w Network st ≡ playing_pieces (context_of w) (remaining (4 - round) l (locs_of w)) (counted_of w st)
   unfolding playing_pieces remaining
   steps-over round l st e h =
       let m : 4 - (round + 1) ≡ 0 = omega arith in
@@ -221,16 +221,16 @@ module _ (s u w v : List ℕ) (r : Reading) (x : ReadsAnswer s print_settings (r
           ∙ ap₂ (λ cs t. playing_pieces (print_context m) (four (locations_in (form s))) (record { comps = cs; tally = t })) (ap (λ n. n.comps) k.network) k.tally
 
   -- the first piece is that of a first step, or the refusal
-  pub first-step : r.code ≡ 0 → ProgressOk v (Step 0 0 r.state) × (pieces_left v (Step 0 0 r.state) ≡ pieces s) × (Step 0 0 r.state ≡ first_of r)
+  pub first-step : r.code ≡ 0 → StageOk v (Step 0 0) r.state × (left_at v (Step 0 0) r.state ≡ pieces s) × (◌≡◌ {A = Progress} (record { stage = Step 0 0; state = r.state }) (first_of r))
   first-step z = (
     (whole-good s u w v r x z, locs-some v r.state (whole-good s u w v r x z), omega arith),
     ap (λ ls. playing_pieces (context_of v) ls (counted_of v r.state)) (all-rounds (locs_of v)) ∙ whole-playing_pieces z,
-    ap (λ n. first_by n r.state) (sym z),
+    ap (λ n. record { stage = first_by n; state = r.state }) (sym z),
   )
 
-  pub first-refused : (r.code ≡ 0 → ⊥) → ProgressOk v (Refused r.code) × (pieces_left v (Refused r.code) ≡ pieces s) × (Refused r.code ≡ first_of r)
-  first-refused n = (omega (arith, whole-number s u w v r x n), whole-stopped n, go r.code n)
+  pub first-refused : (r.code ≡ 0 → ⊥) → StageOk v (Refused r.code) r.state × (left_at v (Refused r.code) r.state ≡ pieces s) × (◌≡◌ {A = Progress} (record { stage = Refused r.code; state = r.state }) (first_of r))
+  first-refused n = (omega (arith, whole-number s u w v r x n), whole-stopped n, ap (λ g. record { stage = g; state = r.state }) (go r.code n))
     where
-      go : (m : ℕ) → (m ≡ 0 → ⊥) → Refused m ≡ first_by m r.state
+      go : (m : ℕ) → (m ≡ 0 → ⊥) → Refused m ≡ first_by m
       go zero n = absurd (n refl)
       go (suc m) n = refl

@@ -14,8 +14,9 @@ use Rattle.table.specs.Valid.{valid}
 use Rattle.text_build.specs.Rows.{locs_of}
 use Rattle.text_answer.specs.declared.Reading.{Reading}
 use Rattle.text_answer.specs.Answer.{locations_in}
+use Rattle.run_pieces.specs.declared.Stage.{Stage}
+use Rattle.run_pieces.specs.declared.Stage.TheVariants.{Refused, Step, Network, Mean, Over}
 use Rattle.run_pieces.specs.declared.Progress.{Progress}
-use Rattle.run_pieces.specs.declared.Progress.TheVariants.{Refused, Step, Network, Mean, Over}
 use Rattle.run_pieces.specs.declared.Piece.{Piece}
 use Rattle.run_turn.specs.Turn.{Turn, refused_text, turn_of}
 use Rattle.run_print.specs.Print.{shown, mean_line, four, print_context}
@@ -45,32 +46,41 @@ pieces s = pieces_of (locations_in (form s)) (read s)
 
 -- ── where a printout by pieces stands ──
 -- the pieces that are left: a refusal; or those of the steps that are left with the network; or the network and the mean; or the mean; or none
-abbrev pub pieces_left : List ℕ → Progress → List (List ℕ)
-pieces_left w (Refused n) = refused_text n ∷ []
-pieces_left w (Step round l st) = playing_pieces (context_of w) (remaining (4 - round) l (locs_of w)) (counted_of w st)
-pieces_left w (Network st) = ended_pieces (shown (context_of w) (net_of w st)) (tally_of st)
-pieces_left w (Mean st) = mean_line (tally_of st) ∷ []
-pieces_left w Over = []
+abbrev pub left_at : List ℕ → Stage → State → List (List ℕ)
+left_at w (Refused n) st = refused_text n ∷ []
+left_at w (Step round l) st = playing_pieces (context_of w) (remaining (4 - round) l (locs_of w)) (counted_of w st)
+left_at w Network st = ended_pieces (shown (context_of w) (net_of w st)) (tally_of st)
+left_at w Mean st = mean_line (tally_of st) ∷ []
+left_at w (Over read) st = []
 
--- the refusal has a question's number, or the next step can be made, or the network has passed question 17
+abbrev pub pieces_left : List ℕ → Progress → List (List ℕ)
+pieces_left w c = left_at w c.stage c.state
+
+-- the refusal has a question's number, or the next step can be made, or the network passes question 17; it still does when the printout of a text that was read is over
+abbrev pub StageOk : List ℕ → Stage → State → Type 0
+StageOk w (Refused n) st = n < 16
+StageOk w (Step round l) st = (valid w st ≡ true) × (l < locs_in w) × (round < 4)
+StageOk w Network st = valid w st ≡ true
+StageOk w Mean st = valid w st ≡ true
+StageOk w (Over read) st = read ≡ true → valid w st ≡ true
+
 abbrev pub ProgressOk : List ℕ → Progress → Type 0
-ProgressOk w (Refused n) = n < 16
-ProgressOk w (Step round l st) = (valid w st ≡ true) × (l < locs_in w) × (round < 4)
-ProgressOk w (Network st) = valid w st ≡ true
-ProgressOk w (Mean st) = valid w st ≡ true
-ProgressOk w Over = Unit {0}
+ProgressOk w c = StageOk w c.stage c.state
 
 -- before the first piece: the refusal to read, or the first step
-abbrev pub first_by : ℕ → State → Progress
-first_by zero st = Step 0 0 st
-first_by (suc n) st = Refused (suc n)
+abbrev pub first_by : ℕ → Stage
+first_by zero = Step 0 0
+first_by (suc n) = Refused (suc n)
 
 abbrev pub first_of : Reading → Progress
-first_of r = first_by r.code r.state
+first_of r = record { stage = first_by r.code; state = r.state }
 
--- the first piece of those that are left stands at the front of the buffer e, which was d before; the bytes past it are as they were
-pub record PieceIs (w : List ℕ) (c : Progress) (d e : List ℕ) (r : Piece) : Type 0 where
+-- the first piece of those that are left at a stage stands at the front of the buffer e, which was d before; the bytes past it are as they were
+pub record PieceAt (w : List ℕ) (g : Stage) (st : State) (d e : List ℕ) (r : Piece) : Type 0 where
   pub few : r.len ≤ 65_536
-  pub first : pieces_left w c ≡ take r.len e ∷ pieces_left w r.next
+  pub first : left_at w g st ≡ take r.len e ∷ pieces_left w r.next
   pub past : drop r.len e ≡ drop r.len d
   pub ok : ProgressOk w r.next
+
+abbrev pub PieceIs : List ℕ → Progress → List ℕ → List ℕ → Piece → Type 0
+PieceIs w c d e r = PieceAt w c.stage c.state d e r

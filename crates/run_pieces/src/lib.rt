@@ -1,10 +1,12 @@
-// Layer 4, the program: the printout of a text by pieces, a line as its step is done: `begin`, then `next_piece` until it is over.
+// Layer 4, the program: the printout of a text by pieces, a line as its step is done: `begin`, then `put_next` until it is over, or `next_piece`, which hands the
+// progress on by value.
 //
 // specs/Pieces   the printout by pieces, and what is left of it
 // proofs/Pieces  the pieces joined are the printout; the ways of the code to them
 #![tactic(auto)]
 
-ghost use Rattle.std.specs.Prelude.{true, ◌≡◌, ◌+◌, ◌-◌, ◌<◌, length, MatchOption};
+ghost use Rattle.std.specs.Prelude.{true, Bool, ◌≡◌, ◌+◌, ◌-◌, ◌<◌, length, MatchOption};
+ghost use Rattle.table.specs.declared.State.{State};
 ghost use Rattle.table.specs.Words.{locs_in};
 ghost use Rattle.table.specs.Meaning.{context_of, counted_of};
 ghost use Rattle.table.specs.Valid.{valid};
@@ -13,7 +15,7 @@ ghost use Rattle.text_answer.specs.Answer.{ReadsOver};
 ghost use Rattle.text_build.specs.Rows.{locs_of};
 ghost use Rattle.run_print.specs.Print.{print_settings};
 ghost use Rattle.run_print.specs.Rounds.{remaining};
-ghost use Rattle.run_pieces.specs.Pieces.{playing_pieces, pieces, pieces_left, first_of, ProgressOk, PieceIs};
+ghost use Rattle.run_pieces.specs.Pieces.{playing_pieces, pieces, left_at, pieces_left, first_of, StageOk, ProgressOk, PieceAt, PieceIs};
 
 use run_print::put_mean;
 use run_turn::{put_refused, turn};
@@ -22,16 +24,24 @@ use table::{Script, State};
 use text_answer::given::all_rights;
 use text_letters::Page;
 
-// How far a printout by pieces is: its next piece is a refusal, by its number; or the line of the step at the location l in a round, from 0 to 3; or the
-// network; or the mean; or it is over.
+// What the next piece of a printout is: a refusal, by its number; or the line of the step at the location l in a round, from 0 to 3; or the network; or the
+// mean; or none, after a text that was read or one that was refused.
 // (The refusal is a number, since it is handed on from a reading, whose answer is the C interface's.)
-#[derive(Drop)]
-pub enum Progress {
+#[derive(Clone, Copy)]
+pub enum Stage {
     Refused(u32),
-    Step { round: usize, l: u32, state: State },
-    Network(State),
-    Mean(State),
-    Over,
+    Step { round: usize, l: u32 },
+    Network,
+    Mean,
+    Over { read: bool },
+}
+
+// How far a printout by pieces is, and the components of its network, if the text was read. (The components stand beside the stage and not in it: an enum
+// that held them was copied word by word where its variants differ, and a run took half as long again.)
+#[derive(Drop)]
+pub struct Progress {
+    pub stage: Stage,
+    pub state: State,
 }
 
 // A piece, which is the first len bytes of the lent buffer, and how far the printout is after it.
@@ -42,61 +52,53 @@ pub struct Piece {
 }
 
 // After the step at the location l in a round: the next location's, or the next round's first, or after four rounds the network.
-fn after_step(w: &Script, round: usize, l: u32, state: State) -> Progress
-    requires { (valid w.now state ≡ true) × (l < locs_in w.now) × (round < 4) }
-    ensures { ProgressOk w.now result × (pieces_left w.now result ≡ playing_pieces (context_of w.now) (remaining (4 - round) (l + 1) (locs_of w.now)) (counted_of w.now state)) }
+fn after_step(w: &Script, round: usize, l: u32) -> Stage
+    requires { (l < locs_in w.now) × (round < 4) }
+    ensures { (st : State) → valid w.now st ≡ true → StageOk w.now result st × (left_at w.now result st ≡ playing_pieces (context_of w.now) (remaining (4 - round) (l + 1) (locs_of w.now)) (counted_of w.now st)) }
 {
     if l + 1 < word(w, 1) {
-        Progress::Step {
-            round,
-            l: l + 1,
-            state,
-        }
+        Stage::Step { round, l: l + 1 }
     } else if round < 3 {
-        Progress::Step {
+        Stage::Step {
             round: round + 1,
             l: 0,
-            state,
         }
     } else {
-        Progress::Network(state)
+        Stage::Network
     }
 }
 
-// The line of the step at the location l in a round, or its refusal.
-fn line_piece(w: &Script, round: usize, l: u32, state: State, buf: &mut [u8]) -> Piece
-    requires { ProgressOk w.now (Progress.Step round l state) × (length buf.old ≡ 65536) }
-    ensures { PieceIs w.now (Progress.Step round l state) buf.old buf.new result }
+// The line of the step at the location l in a round, or its refusal: its length.
+fn put_step(w: &Script, round: usize, l: u32, now: &mut Progress, buf: &mut [u8]) -> usize
+    requires { StageOk w.now (Stage.Step round l) now.old.state × (length buf.old ≡ 65536) }
+    ensures { PieceAt w.now (Stage.Step round l) now.old.state buf.old buf.new (record { len = result; next = now.new }) }
 {
     let mut page = Page::new(buf);
+    let c = now.state.c;
+    let state = State { c, n: now.state.n };
     let Some(stepped) = turn(w, state, l, &mut page) else {
-        return Piece {
-            len: page.at,
-            next: Progress::Over,
-        };
+        now.stage = Stage::Over { read: true };
+        return page.at;
     };
-    let next = after_step(w, round, l, stepped);
-    Piece { len: page.at, next }
+    now.stage = after_step(w, round, l);
+    now.state = stepped;
+    page.at
 }
 
-// The network, or the refusal to write it.
-fn network_piece(w: &Script, state: State, buf: &mut [u8]) -> Piece
-    requires { ProgressOk w.now (Progress.Network state) × (length buf.old ≡ 65536) }
-    ensures { PieceIs w.now (Progress.Network state) buf.old buf.new result }
+// The network, or the refusal to write it: its length.
+fn put_network(w: &Script, now: &mut Progress, buf: &mut [u8]) -> usize
+    requires { StageOk w.now Stage.Network now.old.state × (length buf.old ≡ 65536) }
+    ensures { PieceAt w.now Stage.Network now.old.state buf.old buf.new (record { len = result; next = now.new }) }
 {
-    let r = text_write::write(w, &state.c, state.n, buf);
+    let r = text_write::write(w, &now.state.c, now.state.n, buf);
     if r.code != 0 {
         let mut page = Page::new(buf);
         put_refused(r.code, &mut page);
-        return Piece {
-            len: page.at,
-            next: Progress::Over,
-        };
+        now.stage = Stage::Over { read: true };
+        return page.at;
     }
-    Piece {
-        len: r.len,
-        next: Progress::Mean(state),
-    }
+    now.stage = Stage::Mean;
+    r.len
 }
 
 // The start of a printout by pieces: reads the text under edition 1 and with all rights into the lent script, as `read_over` does. All its pieces are left.
@@ -105,39 +107,47 @@ pub fn begin(text: &[u8], w: &mut Script) -> Progress
 {
     let r = text_read::read_over(text, all_rights(1), w);
     if r.code != 0 {
-        return Progress::Refused(r.code);
+        return Progress {
+            stage: Stage::Refused(r.code),
+            state: r.state,
+        };
     }
-    Progress::Step {
-        round: 0,
-        l: 0,
+    Progress {
+        stage: Stage::Step { round: 0, l: 0 },
         state: r.state,
     }
 }
 
-// The next piece, in a buffer of 65,536 bytes, or none if the printout is over.
-pub fn next_piece(w: &Script, c: Progress, buf: &mut [u8]) -> Option<Piece>
-    requires { ProgressOk w.now c × (length buf.old ≡ 65536) }
-    ensures { MatchOption result (c ≡ Progress.Over) (λ p. PieceIs w.now c buf.old buf.new p) }
+// The next piece, in a buffer of 65,536 bytes, with the progress moved on in place: its length, or none if the printout is over.
+pub fn put_next(w: &Script, now: &mut Progress, buf: &mut [u8]) -> Option<usize>
+    requires { ProgressOk w.now now.old × (length buf.old ≡ 65536) }
+    ensures { MatchOption result ((now.new ≡ now.old) × ((read : Bool) × (now.old.stage ≡ Stage.Over read))) (λ len. PieceIs w.now now.old buf.old buf.new (record { len = len; next = now.new })) }
 {
-    match c {
-        Progress::Refused(code) => {
+    match now.stage {
+        Stage::Refused(code) => {
             let mut page = Page::new(buf);
             put_refused(code, &mut page);
-            Some(Piece {
-                len: page.at,
-                next: Progress::Over,
-            })
+            now.stage = Stage::Over { read: false };
+            Some(page.at)
         }
-        Progress::Step { round, l, state } => Some(line_piece(w, round, l, state, buf)),
-        Progress::Network(state) => Some(network_piece(w, state, buf)),
-        Progress::Mean(state) => {
+        Stage::Step { round, l } => Some(put_step(w, round, l, now, buf)),
+        Stage::Network => Some(put_network(w, now, buf)),
+        Stage::Mean => {
             let mut page = Page::new(buf);
-            put_mean(&state.c, &mut page);
-            Some(Piece {
-                len: page.at,
-                next: Progress::Over,
-            })
+            put_mean(&now.state.c, &mut page);
+            now.stage = Stage::Over { read: true };
+            Some(page.at)
         }
-        Progress::Over => None,
+        Stage::Over { read: _ } => None,
     }
+}
+
+// The same of a progress by value.
+pub fn next_piece(w: &Script, c: Progress, buf: &mut [u8]) -> Option<Piece>
+    requires { ProgressOk w.now c × (length buf.old ≡ 65536) }
+    ensures { MatchOption result ((read : Bool) × (c.stage ≡ Stage.Over read)) (λ p. PieceIs w.now c buf.old buf.new p) }
+{
+    let mut next = c;
+    let len = put_next(w, &mut next, buf)?;
+    Some(Piece { len, next })
 }

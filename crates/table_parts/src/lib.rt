@@ -310,7 +310,8 @@ fn scopes_named(w: &Script, f: usize) -> bool
     true
 }
 
-// First every part, but for the names in its scope, then these names.
+// First every part, but for the names in its scope, then these names. (Not within question 17, where the words of a part are read from the stack again and again.)
+#[inline(never)]
 pub fn parts_ok(w: &Script) -> bool
     requires { (parts_in w.now ≤ 4096) × (defs_in w.now ≤ 32) × (locs_in w.now ≤ 64) }
     ensures { result ≡ below (parts_in w.now) (part_ok w.now) }

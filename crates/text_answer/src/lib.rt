@@ -15,11 +15,9 @@
 #![tactic(auto)]
 
 ghost use Rattle.std.specs.Prelude.{◌≡◌};
-ghost use Rattle.terms.specs.Refusals.{number_of};
 ghost use Rattle.text_answer.specs.Answer.{refusal};
 
 use state::no_state;
-use terms::refusal::Refusal;
 
 pub mod front;
 pub mod given;
@@ -50,12 +48,12 @@ pub struct Reading {
     pub state: table::State,
 }
 
-// A refusal.
-pub fn refuse(e: Refusal) -> Reading
-    ensures { result ≡ refusal (number_of e) }
+// A refusal, by its number.
+pub fn refuse(n: u32) -> Reading
+    ensures { result ≡ refusal n }
 {
     Reading {
-        code: e.number(),
+        code: n,
         state: no_state(),
     }
 }

@@ -112,7 +112,7 @@ fn put_body(s: &[u8], at: usize, w: &mut Script, k: usize, i: usize) -> Option<P
     let us = list_of(s, x.end, Field::Small)?;
     let e = eat(s, us.end, b'=')?;
     let sc = params_scope(w, k, us.count as usize);
-    let p = put_process(s, e, w, i, sc)?;
+    let p = put_process(s, e, w, i, sc);
     let d = eat(s, p.end, b'.')?;
     Some(Passed {
         end: d,

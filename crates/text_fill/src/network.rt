@@ -37,7 +37,7 @@ fn put_outer(
     requires { (i < 4096) × (n ≤ length out.old) × ProcessAt s.now at }
     ensures { (x : ProcessAt s.now at) → Gives (λ r. OuterPut s.now w.old w.new i l out.old out.new n r x.what x.left) result }
 {
-    let a = put_part(s, at, w, i, Scope { n: 0, at: [0; 8] })?;
+    let a = put_part(s, at, w, i, Scope { n: 0, at: [0; 8] });
     let m = spot(out, n, l, i as u32);
     let Some(b) = eat(s, a.end, b'|') else {
         link(w, i, 0, a.low as u32);

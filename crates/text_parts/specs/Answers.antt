@@ -1,6 +1,6 @@
 -- What the answers of the code stand for, over a text s.
 -- Serves inner contracts only.
-use Rattle.std.specs.Prelude.{ℕ, ◌+◌, min, max, List, Option, Some, None, drop}
+use Rattle.std.specs.Prelude.{ℕ, ◌+◌, min, max, List, Option, Some, None, cond, drop}
 use Rattle.text.specs.Tokens.{lex, closes}
 use Rattle.text.specs.Grammar.{Rest, bind, the}
 use Rattle.text.specs.Grammar.Rest.{ok, bad}
@@ -11,6 +11,7 @@ use Rattle.text_parts.specs.declared.Form.{Form}
 use Rattle.text_parts.specs.declared.Form.TheVariants.{Leaf, One, Two}
 use Rattle.text_parts.specs.declared.Names.{Names}
 use Rattle.text_parts.specs.declared.Size.{Size}
+use Rattle.text_parts.specs.declared.Span.{Span}
 
 abbrev pub opening_of : Form → Opening
 opening_of Leaf = leaf
@@ -32,6 +33,10 @@ count_of r = record { nesting = r.nesting; parts = r.parts; width = r.width }
 abbrev pub sized : List ℕ → Option Size → Rest Count
 sized s None = bad
 sized s (Some r) = ok (count_of r) (lex (drop r.end s))
+
+-- a size in the form in which a level of nesting hands it on
+abbrev pub size_in : Span → Option Size
+size_in r = cond r.found (Some (record { end = r.end; nesting = r.nesting; parts = r.parts; width = r.width })) None
 
 -- numbers that stop, one after the other
 abbrev pub joined_up_to : Count → Count → Count

@@ -25,7 +25,7 @@ ghost use Rattle.text_parts.specs.Openings.{field_form, go_form, pair_form, comm
 ghost use Rattle.text_parts.specs.Counts.{capped};
 ghost use Rattle.text_parts.specs.Counting.{names_form, names_count, list_count, part_counts, process_counts};
 ghost use Rattle.text_parts.specs.declared.Form.TheVariants.{Leaf};
-ghost use Rattle.text_parts.specs.Answers.{began, listed, sized, joined_size, closed_size};
+ghost use Rattle.text_parts.specs.Answers.{began, listed, sized, size_in, joined_size, closed_size};
 
 use text_words::{Field, Sort, eat, field_at, skip_blanks, sort_of, word_end};
 
@@ -121,8 +121,7 @@ pub fn list_of(s: &[u8], at: usize, f: Field) -> Option<Names>
     }
 }
 
-// The end of a call behind its identifier. (Not within the two readers below, whose levels of nesting it would make larger.)
-#[inline(never)]
+// The end of a call behind its identifier.
 fn call_end(s: &[u8], at: usize) -> Option<usize>
     ensures { ended s.now result ≡ skim (list_of a_value) (lex (drop at s.now)) }
 {
@@ -154,6 +153,8 @@ fn begin_by(s: &[u8], at: usize, k: Sort) -> Option<Begun>
     }
 }
 
+// Where a part begins. (Not within the two readers below, whose levels of nesting it would make larger.)
+#[inline(never)]
 fn begin(s: &[u8], at: usize) -> Option<Begun>
     ensures { began s.now result ≡ an_opening (lex (drop at s.now)) }
 {
@@ -187,6 +188,53 @@ fn joined(a: Size, b: Size) -> Size
     }
 }
 
+// A size with whether it was read beside it, as one level of nesting hands it to the next: 16 bytes, where an `Option` of a size has 24, of which a level holds
+// two on its stack. No other function has it.
+#[derive(Clone, Copy)]
+struct Span {
+    end: usize,
+    nesting: u16,
+    parts: u16,
+    width: u16,
+    found: bool,
+}
+
+impl Span {
+    fn new(x: Option<Size>) -> Span
+        ensures { size_in result ≡ x }
+    {
+        let found = x.is_some();
+        let r = x.unwrap_or(Size {
+            end: 0,
+            nesting: 0,
+            parts: 0,
+            width: 0,
+        });
+        Span {
+            end: r.end,
+            nesting: r.nesting,
+            parts: r.parts,
+            width: r.width,
+            found,
+        }
+    }
+
+    fn size(self) -> Option<Size>
+        ensures { result ≡ size_in self }
+    {
+        if self.found {
+            Some(Size {
+                end: self.end,
+                nesting: self.nesting,
+                parts: self.parts,
+                width: self.width,
+            })
+        } else {
+            None
+        }
+    }
+}
+
 // A part that holds the processes of r, at its `)`.
 fn closed(s: &[u8], r: Size) -> Option<Size>
     ensures { sized s.now result ≡ closed_size (sized s.now (Some r)) }
@@ -200,9 +248,9 @@ fn closed(s: &[u8], r: Size) -> Option<Size>
     })
 }
 
-#[cycle(read_part_read_process)]
-pub fn read_process(s: &[u8], at: usize) -> Option<Size>
-    ensures { sized s.now result ≡ mapped capped (process_counts (lex (drop at s.now))) }
+#[cycle(read_part_process_span)]
+fn process_span(s: &[u8], at: usize) -> Span
+    ensures { sized s.now (size_in result) ≡ mapped capped (process_counts (lex (drop at s.now))) }
 {
     let mut here = at;
     let mut size = Size {
@@ -212,15 +260,18 @@ pub fn read_process(s: &[u8], at: usize) -> Option<Size>
         width: 0,
     };
     loop {
-        size = joined(size, read_part(s, here)?);
+        let Some(part) = read_part(s, here) else {
+            return Span::new(None);
+        };
+        size = joined(size, part);
         let Some(q) = eat(s, size.end, b'|') else {
-            return Some(size);
+            return Span::new(Some(size));
         };
         here = q;
     }
 }
 
-#[cycle(read_part_read_process)]
+#[cycle(read_part_process_span)]
 pub fn read_part(s: &[u8], at: usize) -> Option<Size>
     ensures { sized s.now result ≡ mapped capped (part_counts (lex (drop at s.now))) }
 {
@@ -233,10 +284,17 @@ pub fn read_part(s: &[u8], at: usize) -> Option<Size>
             width: 1,
         });
     }
-    let p = read_process(s, b.end)?;
+    let p = process_span(s, b.end).size()?;
     if b.form == Form::One {
         return closed(s, p);
     }
     let q = eat(s, p.end, b',')?;
-    closed(s, joined(p, read_process(s, q)?))
+    let r = process_span(s, q).size()?;
+    closed(s, joined(p, r))
+}
+
+pub fn read_process(s: &[u8], at: usize) -> Option<Size>
+    ensures { sized s.now result ≡ mapped capped (process_counts (lex (drop at s.now))) }
+{
+    process_span(s, at).size()
 }

@@ -40,11 +40,11 @@ pub fn read(text: &[u8], given: Settings, w: &mut Script) -> Reading
     ensures { ReadsAs text.now given w.old w.new result }
 {
     if !is_edition(given.edition) {
-        return refuse(Refusal::NoEdition);
+        return refuse(Refusal::NoEdition.number());
     }
     let c = text_scan::scan(text);
     if let Err(e) = limits(c) {
-        return refuse(e);
+        return refuse(e.number());
     }
     let mut out = [[0; 2]; 256];
     let mut kept = [0u32; RIGHTS_WORDS];
@@ -56,7 +56,7 @@ pub fn read(text: &[u8], given: Settings, w: &mut Script) -> Reading
         Err(e) => {
             w[RIGHTS..RIGHTS + RIGHTS_WORDS].copy_from_slice(&kept);
             put_edition(w, before);
-            refuse(e)
+            refuse(e.number())
         }
     }
 }
@@ -67,12 +67,12 @@ pub fn read_over(text: &[u8], given: Settings, w: &mut Script) -> Reading
 {
     if !is_edition(given.edition) {
         wipe(w);
-        return refuse(Refusal::NoEdition);
+        return refuse(Refusal::NoEdition.number());
     }
     let c = text_scan::scan(text);
     if let Err(e) = limits(c) {
         wipe(w);
-        return refuse(e);
+        return refuse(e.number());
     }
     let mut out = [[0; 2]; 256];
     put_settings(w, given);
@@ -80,7 +80,7 @@ pub fn read_over(text: &[u8], given: Settings, w: &mut Script) -> Reading
         Ok(n) => accept(w, &out[..n]),
         Err(e) => {
             wipe(w);
-            refuse(e)
+            refuse(e.number())
         }
     }
 }

@@ -1,13 +1,13 @@
 -- Pieces written one after the other, and what was read of a text.
-use Rattle.std.proofs.Common.{ℕ, ◌≡◌, ◌+◌, ◌≤◌, ◌<◌, ◌⊎◌, inl, inr, List, [], ◌∷◌, ◌++◌, None, Some, IfSome, Result, Ok, Err, OnOk, IsErrOf, IsErrAnd, MatchResult, length, take, sym, ap, ◌∙◌, subst, append_assoc, append-nil, take_all, eq-or-lt_of_le, le_of_eq}
+use Rattle.std.proofs.Common.{ℕ, Bool, ◌≡◌, ◌+◌, ◌≤◌, ◌<◌, ◌⊎◌, inl, inr, List, [], ◌∷◌, ◌++◌, None, Some, IfSome, Result, Ok, Err, OnOk, IsErrOf, IsErrAnd, MatchResult, length, take, sym, ap, ◌∙◌, subst, append_assoc, append-nil, take_all, eq-or-lt_of_le, le_of_eq}
 use Rattle.std.proofs.Math.Seq.{take-append-add}
 use Rattle.std.proofs.lemmas.List.{take-append-le}
 use Rattle.std.specs.Io.KnownBytes.{Appends, Consumes, IsAtEnd}
 use Rattle.std.specs.declared.option.Option.{Option}
 use mathlib.Core.List.{flatten}
 use Rattle.run_pieces.specs.declared.Progress.{Progress}
-use Rattle.run_pieces.specs.declared.Progress.TheVariants.{Over}
-use Rattle.run_pieces.specs.Pieces.{pieces_left}
+use Rattle.run_pieces.specs.declared.Stage.TheVariants.{Over}
+use Rattle.run_pieces.specs.Pieces.{left_at, pieces_left}
 
 -- One piece more was written.
 pub piece_more : (all done x : List ℕ) (xs ys : List (List ℕ)) → xs ≡ x ∷ ys → all ≡ done ++ flatten xs → all ≡ (done ++ x) ++ flatten ys
@@ -33,9 +33,9 @@ of_read (Some xs) (Some ys) bs n P moved few end p = subst P (sym (go (eq-or-lt_
     go (inr h) = ap (take n) (moved ∙ ap (λ l. bs ++ l) (end h) ∙ append-nil bs) ∙ take_all n bs few
 
 -- Nothing is left of a printout that is over.
-pub nothing_left : (w : List ℕ) (now : Progress) → now ≡ Over → flatten (pieces_left w now) ≡ []
+pub nothing_left : (w : List ℕ) (now : Progress) → (read : Bool) × (now.stage ≡ Over read) → flatten (pieces_left w now) ≡ []
 unfolding flatten
-nothing_left w now e = ap (λ c. flatten (pieces_left w c)) e
+nothing_left w now (read, e) = ap (λ g. flatten (left_at w g now.state)) e
 
 -- What was written of a text that was read so, whole and up to a failed write; f is what it should come to.
 pub wrote_all : (a b o p : Option (List ℕ)) (bs out : List ℕ) (n : ℕ) (f : List ℕ → List ℕ) → Consumes a b bs → length bs ≤ n → (length bs < n → IsAtEnd b) → out ≡ f bs

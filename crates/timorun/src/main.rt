@@ -42,9 +42,8 @@ fn show<W: Write>(to: &mut W, w: &Script, start: Progress, buf: &mut [u8]) -> io
         (λ _. (k : ℕ) × Appends (W.contents to.old) (W.contents to.new) (take k (flatten (pieces_left w.now start)))) }
 {
     let mut now = start;
-    while let Some(piece) = run_pieces::next_piece(w, now, buf) {
-        run_emit::emit(to, &buf[..piece.len])?;
-        now = piece.next;
+    while let Some(len) = run_pieces::put_next(w, &mut now, buf) {
+        run_emit::emit(to, &buf[..len])?;
     }
     Ok(())
 }

@@ -8,13 +8,13 @@ use Rattle.run_pieces.proofs.Pieces.{next-round, steps-over}
 use Rattle.run_pieces.proofs.after_step.Goals as goal
 
 pub returns-then-round-lt3 : goal.returns-then-round-lt3
-returns-then-round-lt3 c =
+returns-then-round-lt3 c = λ st good.
     let p = c.requires in
     let h : locs_in c.args.w.now ≤ c.args.l + 1 = omega arith in
-    ((p.0, locs-some _ _ p.0, omega arith), ap (λ ls. playing_pieces (context_of c.args.w.now) ls (counted_of c.args.w.now c.args.state)) (sym (next-round c.args.w.now c.args.round (c.args.l + 1) p.2 h)))
+    ((good, locs-some _ _ good, omega arith), ap (λ ls. playing_pieces (context_of c.args.w.now) ls (counted_of c.args.w.now st)) (sym (next-round c.args.w.now c.args.round (c.args.l + 1) p.1 h)))
 
 pub returns-else-round-lt3 : goal.returns-else-round-lt3
-returns-else-round-lt3 c =
+returns-else-round-lt3 c = λ st good.
     let p = c.requires in
     let h : locs_in c.args.w.now ≤ c.args.l + 1 = omega arith in
-    (p.0, steps-over c.args.w.now c.args.round (c.args.l + 1) c.args.state (omega arith) h)
+    (good, steps-over c.args.w.now c.args.round (c.args.l + 1) st (omega arith) h)

@@ -5,9 +5,9 @@ use mathlib.Core.List.{flatten}
 use Rattle.run_pieces.specs.Pieces.{pieces_left, ProgressOk}
 use Rattle.timorun.proofs.show.Given as goal
 
-abbrev pub invariant-loop-piece : goal.invariant-loop-piece
-invariant-loop-piece g l = ProgressOk l.w l.now × (length l.buf ≡ 65_536)
+abbrev pub invariant-loop-len : goal.invariant-loop-len
+invariant-loop-len g l = ProgressOk l.w l.now × (length l.buf ≡ 65_536)
     × ((done : List ℕ) × (flatten (pieces_left l.w l.initial.now) ≡ done ++ flatten (pieces_left l.w l.now)) × Appends (g.W.Write.contents l.initial.to) (g.W.Write.contents l.to) done)
 
-abbrev pub decreases-loop-piece : goal.decreases-loop-piece
-decreases-loop-piece g l = length (pieces_left l.w l.now)
+abbrev pub decreases-loop-len : goal.decreases-loop-len
+decreases-loop-len g l = length (pieces_left l.w l.now)

@@ -19,8 +19,8 @@ params_scope-sc-requires c =
     let f = x.few in
     (c.requires.0, omega arith)
 
-pub put_process-requires : goal.put_process-requires
-put_process-requires c =
+pub put_process-p-requires : goal.put_process-p-requires
+put_process-p-requires c =
     let x = c.requires.2 in
     let n = c.in_ok-x.ensures _ _ (def-word x) in
     let e = param-count x _ n _ c.in_ok-us.ensures in
@@ -28,14 +28,11 @@ put_process-requires c =
     let g = params-few _ _ _ _ _ c.params_scope-sc.ensures in
     (c.requires.1, omega arith, body_at x _ n _ c.in_ok-us.ensures _ c.in_ok-e.ensures)
 
-pub returns-in_err-p : goal.returns-in_err-p
-returns-in_err-p c = λ x. absurd (c.in_err-p.ensures (body_at x _ (c.in_ok-x.ensures _ _ (def-word x)) _ c.in_ok-us.ensures _ c.in_ok-e.ensures))
-
 pub returns-in_err-d : goal.returns-in_err-d
-returns-in_err-d c = λ x. absurd (body-no-dot x _ (c.in_ok-x.ensures _ _ (def-word x)) _ c.in_ok-us.ensures _ c.in_ok-e.ensures _ c.in_ok-p.ensures c.in_err-d.ensures)
+returns-in_err-d c = λ x. absurd (body-no-dot x _ (c.in_ok-x.ensures _ _ (def-word x)) _ c.in_ok-us.ensures _ c.in_ok-e.ensures _ c.put_process-p.ensures c.in_err-d.ensures)
 
 pub returns : goal.returns
 returns c =
     λ x.
     let n = c.in_ok-x.ensures _ _ (def-word x) in
-    body-put x _ n _ c.in_ok-us.ensures _ c.in_ok-e.ensures _ c.in_ok-p.ensures _ c.params_scope-sc.ensures _ c.in_ok-d.ensures _ c.saturating_sub.ensures
+    body-put x _ n _ c.in_ok-us.ensures _ c.in_ok-e.ensures _ c.put_process-p.ensures _ c.params_scope-sc.ensures _ c.in_ok-d.ensures _ c.saturating_sub.ensures

@@ -2,7 +2,7 @@
 use Rattle.std.proofs.Common.{rules, arith}
 use Rattle.text_letters.proofs.Pages.{from_start}
 use Rattle.run_pieces.proofs.Pieces.{piece-unwritten, piece-written}
-use Rattle.run_pieces.proofs.network_piece.Goals as goal
+use Rattle.run_pieces.proofs.put_network.Goals as goal
 
 pub returns-then-r-ne0 : goal.returns-then-r-ne0
 returns-then-r-ne0 c =
